@@ -158,10 +158,17 @@ prove() {
     [ -x "$emulator" ] || emulator=''
 }
 
-# prove_archive [CRATE]: for C and Rust to link, target/staticlib/libuskelzar.a, the printer's functions, and liboffice.a, the others; or another crate's archive.
+# prove_archive [CRATE]: for C and Rust to link, in target/staticlib: libuskelzar.a, the printer's functions, and libuskelzar-office.a, the office's; or one crate's archive.
+# rt writes libCRATE.a. No crate can be called uskelzar-office: that archive is a copy of liboffice.a, made here and nowhere else.
 prove_archive() {
-    for each in ${1-uskelzar office}; do ensure staticlib "$each:target/staticlib/lib$each.a" || exit 2; done
+    for each in ${1-uskelzar office}; do
+        ensure staticlib "$each:target/staticlib/lib$each.a" || exit 2
+        [ "$each" != office ] || put_same "$root/target/staticlib/liboffice.a" "$root/target/staticlib/libuskelzar-office.a" || exit 2
+    done
 }
+
+# put_same FILE COPY: where it is the same already nothing is touched, so that nothing is built again.
+put_same() { cmp -s "$1" "$2" || { cp "$1" "$2.new" && mv "$2.new" "$2"; }; }
 
 # prove_libraries CRATE..: proved, with their folders in target/rlib. rt itself looks whether anything has changed.
 prove_libraries() { (lock; prove_by check "$@") || exit 2; }

@@ -1,9 +1,13 @@
-// Links libuskelzar.a, the printer's functions, and liboffice.a, the others, from ../target/staticlib or the folder that USKELZAR_LIB names. Where one is missing, says so in words and stops: the
-// linker would say it in its own.
+// Links libuskelzar.a, the printer's functions, and with the feature `office` libuskelzar-office.a, the others, from ../target/staticlib or the folder that USKELZAR_LIB names. Where one is missing, says
+// so in words and stops: the linker would say it in its own.
 use std::env;
 use std::path::{Path, PathBuf};
 
-const ARCHIVES: [&str; 2] = ["uskelzar", "office"];
+/// The archives that are asked for, by their names at the linker.
+fn archives() -> impl Iterator<Item = &'static str> {
+    let office = env::var_os("CARGO_FEATURE_OFFICE").map(|_| "uskelzar-office");
+    ["uskelzar"].into_iter().chain(office)
+}
 
 /// Where it is not this, the archives can't be linked: they hold x86-64 code for Linux.
 const TARGET: [(&str, &str); 2] = [("CARGO_CFG_TARGET_ARCH", "x86_64"), ("CARGO_CFG_TARGET_OS", "linux")];
@@ -28,10 +32,10 @@ fn check_target() {
     }
 }
 
-fn check_archive(archive: &Path, name: &str) {
+fn check_archive(archive: &Path) {
     let advice = match env::var_os("USKELZAR_LIB") {
         Some(_) => "USKELZAR_LIB names that folder: name the one that has it".to_string(),
-        None => format!("write it with `rt staticlib {name}` in the repository's root, or name the folder of one that is there, such as a release's lib, in USKELZAR_LIB"),
+        None => "write it with `tools/archives` in the repository, or name the folder of one that is there, such as a release's lib, in USKELZAR_LIB".to_string(),
     };
     if !archive.is_file() {
         stop(&format!("there is no {}: {advice}", archive.display()));
@@ -51,11 +55,11 @@ fn main() {
         check_target();
     }
     println!("cargo:rustc-link-search=native={}", folder.display());
-    for name in ARCHIVES {
+    for name in archives() {
         let archive = folder.join(format!("lib{name}.a"));
         println!("cargo:rerun-if-changed={}", archive.display());
         if asked {
-            check_archive(&archive, name);
+            check_archive(&archive);
         }
         println!("cargo:rustc-link-lib=static={name}");
     }

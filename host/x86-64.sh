@@ -25,13 +25,13 @@ else
     export CARGO_TARGET_X86_64_UNKNOWN_LINUX_GNU_RUSTFLAGS="-L native=$geos -C link-arg=-Wl,-rpath-link,$geos"
 fi
 
-# Proves and writes libuskelzar.a, the printer's functions, and liboffice.a, the others, unless USKELZAR_LIB names a folder that has them.
+# Proves and writes libuskelzar.a, the printer's functions, and libuskelzar-office.a, the others, unless USKELZAR_LIB names a folder that has them.
 build_archive() {
     if [ -z "${USKELZAR_LIB-}" ]; then
         command -v rt >/dev/null || stop "rt is missing: the Rattle kit, or an archive's folder in USKELZAR_LIB"
         prove_archive
     fi
-    archive=${USKELZAR_LIB:-$root/target/staticlib}/libuskelzar.a office=${USKELZAR_LIB:-$root/target/staticlib}/liboffice.a
+    archive=${USKELZAR_LIB:-$root/target/staticlib}/libuskelzar.a office=${USKELZAR_LIB:-$root/target/staticlib}/libuskelzar-office.a
     for each in "$archive" "$office"; do [ -f "$each" ] || stop "no archive $each"; done
 }
 

@@ -1,8 +1,8 @@
-/* uskelzar.h: which zone holds a fix, by a PLB border file; a writer of borders, a builder of files, and one that holds yards which may still change; salvage of a damaged file;
- * local time, by a TZif file; dates; and the slip: from a receiver's sentence, a map and the zones' files to the line that is printed.
+/* uskelzar.h: which zone holds a fix, by a PLB border file; local time, by a TZif file; dates; the slip: from a receiver's sentence, a map and the zones' files to the line that is printed; and a writer
+ * of borders, a builder of files, one that holds yards which may still change, what builds an index and an atlas, salvage of a damaged file.
  *
- * For libuskelzar.a, which has what a printer calls (opening, lookups without an index or an atlas, local and civil time, the slip and what it reads by), and liboffice.a, which has the rest: link the
- * first, or both. What their functions answer, write and touch, and that they end, is proved for every input; of the calls of
+ * Two parts, each for an archive of its own: the printer's twenty functions, in libuskelzar.a (pkg-config's uskelzar), and the office's thirteen, in libuskelzar-office.a (uskelzar-office). Link the first,
+ * or both; neither calls the other. What their functions answer, write and touch, and that they end, is proved for every input; of the calls of
  * a builder what they answer and write is proved for a state, lists and notes as its calls have left them, and for numbers
  * that do not fit the lists, and for all others what they touch, and that they end. What the archives call is seen to by a
  * test of them. What holds for all thirty-three:
@@ -28,7 +28,7 @@
 #include <stddef.h>
 #include <stdint.h>
 
-/* ---- the release of this header, and of the archive that goes with it */
+/* ---- the release of this header, and of the archives that go with it */
 #define USKELZAR_RELEASE "0.7.0"
 #define USKELZAR_RELEASE_NUMBER 700 /* major * 10,000 + minor * 100 + patch */
 
@@ -117,6 +117,13 @@ enum uskelzar_refusal {
 /* reply[0] of a refusal: which of the two causes, for 6, 7 and 15; of a slip whose zone is refused, which match it was; otherwise none */
 enum uskelzar_cause { USKELZAR_CAUSE_NONE = 0, USKELZAR_CAUSE_ENCODING = 1, USKELZAR_CAUSE_UTF8 = 2 };
 
+/* ---- the words of a reply */
+enum { USKELZAR_REPLY_WORDS = 5 };
+enum { USKELZAR_REFUSED_CAUSE = 0, USKELZAR_REFUSED_DETAIL = 1 };
+
+/* ======== The printer's functions: libuskelzar.a
+ * What is asked at a fix and an instant: opening, lookups, through an index or an atlas too, local and civil time, the slip and what it reads by. */
+
 /* ---- how a search ended. Print a zone only where it was whole.
  * A search stops at the table's end, or early, at an entry whose lower latitude is above the fix: in a table that is in order,
  * by rising lower latitude, no later entry can hold the fix. After an early stop the rest of the table is read for the mark:
@@ -139,9 +146,7 @@ enum uskelzar_kind {
     USKELZAR_ON_BORDER_SEGMENT = 4
 };
 
-/* ---- the words of a reply */
-enum { USKELZAR_REPLY_WORDS = 5 };
-enum { USKELZAR_REFUSED_CAUSE = 0, USKELZAR_REFUSED_DETAIL = 1 };
+/* ---- the words of the printer's replies */
 enum {
     USKELZAR_OPEN_TYPE = 0,           /* 'T' time zones, 'C' countries */
     USKELZAR_OPEN_VERSION = 1,        /* 0 or 1 */
@@ -162,20 +167,6 @@ enum {
     USKELZAR_MANY_MATCHES = 1,        /* matches of all of them */
     USKELZAR_MANY_USED = 2,           /* bytes of text used */
     USKELZAR_MANY_INDEX = 2           /* of a refusal: the index of its fix, 0 for 33 and what opening refuses */
-};
-enum { USKELZAR_WRITE_LENGTH = 0, USKELZAR_BUILD_LENGTH = 0, USKELZAR_FINISH_LENGTH = 0 };
-enum {                                /* the totals of a builder that holds yards */
-    USKELZAR_TOTALS_TABLE = 0,        /* bytes of the table */
-    USKELZAR_TOTALS_METADATA = 1,     /* bytes of the metadata */
-    USKELZAR_TOTALS_DATA = 2,         /* bytes of the data, the zero byte included: 1 with no yards */
-    USKELZAR_TOTALS_YARDS = 3,
-    USKELZAR_TOTALS_GREATEST = 4      /* the greatest of the yards' lower latitudes, 0 with no yards: the bits of an int32_t */
-};
-enum { USKELZAR_INDEX_USED = 0 };     /* words of an index */
-enum {
-    USKELZAR_SALVAGE_LENGTH = 0,      /* the new file's bytes */
-    USKELZAR_SALVAGE_LINES = 1,       /* lines of the list */
-    USKELZAR_SALVAGE_KEPT = 2         /* entries in the new file */
 };
 enum {
     USKELZAR_CIVIL_YEAR = 0,
@@ -224,6 +215,386 @@ enum {
 
 /* ---- what a fix of many was answered, in `answers`: three words */
 enum { USKELZAR_ANSWER_MATCHES = 0, USKELZAR_ANSWER_END = 1, USKELZAR_ANSWER_SAFEZONE = 2, USKELZAR_ANSWER_WORDS = 3, USKELZAR_MOST_FIXES = 4096 };
+
+/* What the file's header says.
+ * Answers: type, version, precision, number of fields, bytes of text used.
+ * text: the field names in order, then the notice; each is its length in two bytes, the high one first, and its bytes, which
+ *       are UTF-8.
+ * Refuses: 1 to 14; 18 last, where names and notice don't fit. */
+uint8_t uskelzar_open(const uint8_t *file, size_t file_length, uint8_t *text, size_t text_length,
+                      uint64_t reply[USKELZAR_REPLY_WORDS]);
+
+/* The zones that hold a fix, in degrees; `asked`: with the safezone.
+ * Answers: matches, end mark, safezone bits, bytes of text used. The search was whole where 0 was returned and the end mark, reply[1], is 1: ask both, since a
+ *       refusal has its detail there, and a 6 for the second name leaves a 1. The safezone is the distance in degrees, those of longitude
+ *       counted like those of latitude, to the nearest border among those whose box holds the fix: 0 on a border, very large
+ *       where there is none; at precision 32 it is negative.
+ * hits: the matches, four words each. While it searches the list must hold every hit, and several hits with one metadata id
+ *       become one match: so room for the matches alone may be too little.
+ * text: the fields of the first match in file order, then those of the second, and so on; each is one byte with the field's
+ *       index, its length in two bytes, the high one first, and its bytes, which are UTF-8.
+ * Refuses: what open refuses but for its 18; then 16; then the first fault met, 12, 13 or 17 in the search, 12, 14, 15 or 18
+ *       in the fields. */
+uint8_t uskelzar_lookup(const uint8_t *file, size_t file_length, float lat, float lon, bool asked, uint32_t *hits,
+                        size_t hits_length, uint8_t *text, size_t text_length, uint64_t reply[USKELZAR_REPLY_WORDS]);
+
+/* The same two, but a number that the file's end cuts is refused, with 31: where it is read, behind 12 and before its value is used. What they
+ * take, answer, write and refuse is otherwise that of the plain ones. So each is refused 31 exactly where its plain one would read such a number
+ * before it is refused or ends, and else replies and writes what its plain one does; of a file whose last byte is below 128 it always does.
+ * uskelzar_lookup_strict opens strictly, then 16, then searches; behind an early stop a cut number is end mark 2, as in the plain lookup. A string
+ * or an entry that is not there at all fails as before. */
+uint8_t uskelzar_open_strict(const uint8_t *file, size_t file_length, uint8_t *text, size_t text_length,
+                             uint64_t reply[USKELZAR_REPLY_WORDS]);
+uint8_t uskelzar_lookup_strict(const uint8_t *file, size_t file_length, float lat, float lon, bool asked, uint32_t *hits,
+                               size_t hits_length, uint8_t *text, size_t text_length, uint64_t reply[USKELZAR_REPLY_WORDS]);
+
+/* The zones that hold each of many fixes: fix i is lats[i], lons[i]. The file is opened once; each fix is answered as by lookup,
+ * in the room that the earlier ones left.
+ * Answers: fixes, matches of all of them, bytes of text used. No fix is answered with zeros once the file opens.
+ * hits: the matches of the first fix, then those of the second, and so on. Hits that merge away are free again for the next fix.
+ * text: the fields of all matches, in the same order.
+ * answers: of each fix its match count, end mark and safezone bits (0 if not asked), three words; the counts part `hits` and, with
+ *       the number of fields, `text`.
+ * Refuses: 33 before everything else; then what open refuses but for its 18; then as lookup does, at the first fix that is refused:
+ *       16, 12, 13, 17, 14, 15, 18, those of room against what the earlier ones left. reply[2] is the index of that fix. */
+uint8_t uskelzar_lookup_many(const uint8_t *file, size_t file_length, const float *lats, size_t lats_length, const float *lons,
+                             size_t lons_length, bool asked, uint32_t *hits, size_t hits_length, uint8_t *text,
+                             size_t text_length, uint32_t *answers, size_t answers_length,
+                             uint64_t reply[USKELZAR_REPLY_WORDS]);
+
+/* The zone that holds a fix, as one text: of time zones TimezoneIdPrefix and TimezoneId joined ("Europe/" "Berlin"), of
+ * countries Name; of the first match, and of fields with one name the last.
+ * Answers: matches, end mark, 1 or 0 for described or not, the description's length. There is none where nothing matches or
+ *       the file has no field of a wanted name.
+ * hits: as for lookup.
+ * text: the description, without a zero byte at its end (one stands behind it if there is room).
+ * Refuses: as lookup; the fields of every match are checked, and 18, for the description alone, comes last. */
+uint8_t uskelzar_simple_lookup(const uint8_t *file, size_t file_length, float lat, float lon, uint32_t *hits,
+                               size_t hits_length, uint8_t *text, size_t text_length,
+                               uint64_t reply[USKELZAR_REPLY_WORDS]);
+
+/* An index or an atlas stands beside a file, in words that the office has built (uskelzar_build_index, uskelzar_build_atlas).
+ * Whether words keep this file's length, header and table: length, metadata start, where the lists begin, that they end inside the words, and every byte up to
+ * the metadata are compared. Records, starts and lists are not looked at: they are believed. So for words that uskelzar_build_index gave, 0 says that they are an
+ * index of this file, or of one with the same length, header and table; of other words it does not say that they are an index.
+ * Answers: no value; 0 says that they keep them.
+ * Refuses: what open refuses but for its 18; then 16, 36. */
+uint8_t uskelzar_index_tied(const uint8_t *file, size_t file_length, const uint32_t *index, size_t index_length,
+                            uint64_t reply[USKELZAR_REPLY_WORDS]);
+
+/* uskelzar_lookup through an index: it answers, writes and refuses what uskelzar_lookup does, where uskelzar_build_index gave the words and uskelzar_index_tied
+ * said 0 of them and this file. It asks neither: any words are taken, and their records, starts and lists are believed. Of other words the answer is theirs, and may
+ * miss a zone under end mark 1; nothing outside them is touched.
+ * Refuses: what open refuses but for its 18; then 16; then 36 where length and metadata start are not the file's or the tile's list is not inside the words;
+ *       then as lookup, and 36 at a number in the list that has no entry. */
+uint8_t uskelzar_lookup_through(const uint8_t *file, size_t file_length, const uint32_t *index, size_t index_length, float lat,
+                                float lon, bool asked, uint32_t *hits, size_t hits_length, uint8_t *text, size_t text_length,
+                                uint64_t reply[USKELZAR_REPLY_WORDS]);
+
+/* The same after a comparison: uskelzar_index_tied, then uskelzar_lookup_through. For words that uskelzar_build_index gave, it is uskelzar_lookup wherever it does
+ * not refuse with 36. Records, starts and lists are believed here too: of words that uskelzar_build_index did not give the answer is theirs. */
+uint8_t uskelzar_lookup_indexed(const uint8_t *file, size_t file_length, const uint32_t *index, size_t index_length, float lat,
+                                float lon, bool asked, uint32_t *hits, size_t hits_length, uint8_t *text, size_t text_length,
+                                uint64_t reply[USKELZAR_REPLY_WORDS]);
+
+/* uskelzar_lookup through an atlas: it answers, writes and refuses what uskelzar_lookup does, where uskelzar_is_atlas said 0 of the words and this file. It does not
+ * ask that: any words are taken, and of other words the answer is theirs, and may miss a zone under end mark 1; nothing outside them is touched.
+ * Refuses: what open refuses but for its 18; then 16; then 36 where the words do not go with the file or are cut; then as lookup, and 36 at a number or a place in
+ *       the words that leads out of them. */
+uint8_t uskelzar_lookup_atlas(const uint8_t *file, size_t file_length, const uint32_t *atlas, size_t atlas_length, float lat,
+                              float lon, bool asked, uint32_t *hits, size_t hits_length, uint8_t *text, size_t text_length,
+                              uint64_t reply[USKELZAR_REPLY_WORDS]);
+
+/* uskelzar_simple_lookup and uskelzar_lookup_many through an atlas, or without one where `atlas_length` is 0: each answers, writes and refuses what its plain one does, where there are no words or
+ * uskelzar_is_atlas said 0 of them and this file. It does not ask that: of other words what uskelzar_lookup_atlas says of them holds, and 36 is refused where it is there, of many fixes at the first
+ * that meets it. */
+uint8_t uskelzar_simple_atlas(const uint8_t *file, size_t file_length, const uint32_t *atlas, size_t atlas_length, float lat,
+                              float lon, uint32_t *hits, size_t hits_length, uint8_t *text, size_t text_length,
+                              uint64_t reply[USKELZAR_REPLY_WORDS]);
+uint8_t uskelzar_many_atlas(const uint8_t *file, size_t file_length, const uint32_t *atlas, size_t atlas_length,
+                            const float *lats, size_t lats_length, const float *lons, size_t lons_length, bool asked,
+                            uint32_t *hits, size_t hits_length, uint8_t *text, size_t text_length, uint32_t *answers,
+                            size_t answers_length, uint64_t reply[USKELZAR_REPLY_WORDS]);
+
+/* Local time at an instant, by a TZif file (RFC 8536 and 9636, versions 1 to 4) and the TZ string of its footer, all of
+ * which is checked first. The instant is in seconds from 1970-01-01 00:00:00 UT, on the file's own scale: UNIX time, unless
+ * the block that answers (the only one of version 1, else the second) has leap-second records.
+ * Answers: the scale, the offset's bits, the daylight flag, the abbreviation's length, the correction's bits: by the last
+ *       transition that is not after the instant; before the first by type 0. After the last, and throughout where there are
+ *       none, by the TZ string, where the file has one; where it has none, by type 0 if there are no transitions, and else
+ *       unknown: all words are 0. The scale is 1 where that block has no leap-second records: the instant was read as UNIX
+ *       time, and the correction is 0. It is 2 where it has: the instant was read on the file's scale, and the correction is
+ *       that of the last record not after it, 0 before the first.
+ * text: the abbreviation, without a zero byte at its end (one stands behind it if there is room); zeros where it is unknown.
+ * Refuses: 1; 40 to 60, the first fault in file order; 61 where the string would answer; 18 last. */
+uint8_t uskelzar_local_time(const uint8_t *file, size_t file_length, int64_t instant, uint8_t *text, size_t text_length,
+                            uint64_t reply[USKELZAR_REPLY_WORDS]);
+
+/* The date and the time of day that a clock shows at an instant, so many seconds east of UT: with local time's offset, local
+ * time. `reply` has seven words of its own.
+ * Answers: year (1 to 9999), month, day, hour, minute, second, weekday (0 is Sunday, 6 Saturday).
+ * Refuses: 61, with seven zeros, where the clock is outside the years 1 to 9999. */
+uint8_t uskelzar_civil_time(int64_t instant, int32_t offset, uint64_t reply[USKELZAR_CIVIL_WORDS]);
+
+/* What a request means. A request is one line of at most 255 bytes; one line end (LF, CR LF or CR) at its end is no part of it. It is a sentence of a receiver, which begins with `$`, or a
+ * plain line:
+ *       $GNRMC,115959.00,A,5231.200000,N,01324.000000,E,0.0,0.0,010726,,,A*41
+ *       52.52 13.40 2026-07-01T11:59:59Z
+ *       52.52 13.40 1782907199
+ * A sentence is RMC of NMEA 0183 of any talker, with a checksum. Asked in this order: checksum; address, two of A to Z and 0 to 9, and RMC; ten fields at least; status A; mode, if there is a
+ *       field 12: none, A, D, F, P or R; time hhmmss, with a point and digits behind it or without, which are dropped; latitude ddmm, with a point and one to nine digits or without, then N or S;
+ *       longitude dddmm likewise, then E or W; date ddmmyy, of 1980 to 2079. Hours are below 24, minutes and seconds below 60, degrees at most 90 and 180. Other fields are not looked at.
+ * A plain line has three words, blanks or tabs between them: latitude and longitude, each a sign or none, one to three digits, and a point and one to nine digits or none, at most 90 and 180; the
+ *       instant as seconds from 1970, a sign or none and one to nineteen digits, or as a date and time in UTC of the years 1 to 9999.
+ * Answers: the bits of the floats nearest to the latitude and the longitude that it spells, each rounded once, and +0 for every zero; the bits of the instant, on a scale without leap seconds.
+ * Refuses: 80 where it is empty or too long (detail 0, 255). A sentence: 82 (detail: where its `*` is looked for, the length less 3 or 0); 83 for another address of two to eight such letters and
+ *       digits, which is no fault in a receiver's stream, and else 80; 80 for too few fields (detail: the `*`); 81 for status V, 80 for any other but A; 81 for another mode; then field by field 80 for
+ *       a field that has not its form and 84 for one out of its range, before the next is looked at. A plain line: the same word by word, and 80 last for what stands behind the third. Their detail is
+ *       the place of the field's or word's first byte, that of the line's end where a word is missing; of 81 and 83 it is 0. */
+uint8_t uskelzar_request(const uint8_t *request, size_t request_length, uint64_t reply[USKELZAR_REPLY_WORDS]);
+
+/* A zone's TZif file in a bundle of them, which has the form of Android's file `tzdata` (docs/FORMAT.md), by the zone's name.
+ * Answers: where the file begins, counted from the bundle's first byte, and its length: by the first entry whose 40 bytes are the name and then zeros. The file itself is not looked at.
+ * Refuses: 89 for the head, in this order (detail): under 24 bytes, or another beginning than "tzdata" (0); byte 11 not 0 (11); the index begins before byte 24 (12); the data before the index, or
+ *       the index is no whole number of entries (16); the data ends before it begins, or behind the bundle (20); a number above 2^31 - 1 in its turn. Then 88 where no entry has the name; 89 where
+ *       the entry that has it does not lie in the data (detail: the entry's first byte). Other entries are not looked at. */
+uint8_t uskelzar_bundle_find(const uint8_t *bundle, size_t bundle_length, const uint8_t *name, size_t name_length,
+                             uint64_t reply[USKELZAR_REPLY_WORDS]);
+
+/* The slip that a request asks for, by a map of time zones and a bundle of their TZif files: the line to print.
+ *       Wed 2026-07-01 13:59:59 +02:00 CEST Europe/Berlin
+ * Weekday, date, time, offset (`-` below zero, else `+`; with seconds where it has some), and of each different zone, in the order of the matches, the abbreviation and the name, ", " between one
+ * zone and the next; all of it ASCII: a byte of abbreviation or name outside 33 to 126 is a `?`. A zone's name is its TimezoneIdPrefix and its TimezoneId, joined; names are compared before that.
+ * request: as for uskelzar_request.
+ * map:     a file of type 'T' to look up in; it is looked up without the safezone. zones: a bundle, as for uskelzar_bundle_find.
+ * Answers: the line's length, how many matches there are, the offset's bits.
+ * hits, text: as uskelzar_lookup leaves them, so that a slip can be traced to its entries.
+ * out:     the line, without a line end or a zero byte (zeros stand behind it if there is room).
+ * Refuses: what uskelzar_request refuses; what uskelzar_lookup refuses, with its cause and detail; 85 where the search was not whole (detail: the end mark); 86 where nothing matches; 87 where the
+ *       map is of another type or has not both names. Then match by match, with its number in reply[0], from 1, and 255 from the 255th on: 89 and 88 as uskelzar_bundle_find; of the zone's file 1 and
+ *       40 to 60, places in that file; 91 where it counts leap seconds, so that its scale is not the instant's; 61 where its rule would answer outside the years 1 to 9999; 90 where local time is not
+ *       known; 61 where the clock is outside those years. Then 92 where the matches have not all one offset, and so one date and time; 18 last, for the line (detail: its length; of the lookup's it is
+ *       0). Not stamped, hits, text and out are zero, whatever the lookup had answered. */
+uint8_t uskelzar_slip(const uint8_t *request, size_t request_length, const uint8_t *map, size_t map_length,
+                      const uint8_t *zones, size_t zones_length, uint32_t *hits, size_t hits_length, uint8_t *text,
+                      size_t text_length, uint8_t *out, size_t out_length, uint64_t reply[USKELZAR_REPLY_WORDS]);
+
+/* The slip at a fix, in degrees, and an instant, in seconds from 1970: what uskelzar_slip answers, writes and refuses for a request that means these.
+ * Refuses: in the place of the request's refusals 84 (detail 0), where the latitude is not from -90 to 90 or the longitude not from -180 to 180; NaN is neither. */
+uint8_t uskelzar_slip_at(float lat, float lon, int64_t instant, const uint8_t *map, size_t map_length, const uint8_t *zones,
+                         size_t zones_length, uint32_t *hits, size_t hits_length, uint8_t *text, size_t text_length,
+                         uint8_t *out, size_t out_length, uint64_t reply[USKELZAR_REPLY_WORDS]);
+
+/* uskelzar_slip and uskelzar_slip_at through an atlas of the map, or without one where `atlas_length` is 0: each answers, writes and refuses what its plain one does, where there are no words or
+ * uskelzar_is_atlas said 0 of them and the map. It does not ask that: of other words what uskelzar_lookup_atlas says of them holds, and its 36 is among the refusals of the lookup. */
+uint8_t uskelzar_slip_atlas(const uint8_t *request, size_t request_length, const uint8_t *map, size_t map_length,
+                            const uint32_t *atlas, size_t atlas_length, const uint8_t *zones, size_t zones_length,
+                            uint32_t *hits, size_t hits_length, uint8_t *text, size_t text_length, uint8_t *out,
+                            size_t out_length, uint64_t reply[USKELZAR_REPLY_WORDS]);
+uint8_t uskelzar_slip_at_atlas(float lat, float lon, int64_t instant, const uint8_t *map, size_t map_length,
+                               const uint32_t *atlas, size_t atlas_length, const uint8_t *zones, size_t zones_length,
+                               uint32_t *hits, size_t hits_length, uint8_t *text, size_t text_length, uint8_t *out,
+                               size_t out_length, uint64_t reply[USKELZAR_REPLY_WORDS]);
+
+/* Whoever tells an hour by uskelzar_lookup, uskelzar_local_time and uskelzar_civil_time without a slip asks by himself what a slip asks: a fix on the globe, USKELZAR_END_WHOLE,
+ * USKELZAR_SCALE_UNIX (a clock shown at an instant of another scale is wrong by the leap seconds between them), and one offset of all matches. */
+
+/* ---- the same with fewer words: for each function of nine parameters or more, in both parts, a form of it that takes structs.
+ * A struct has the lists that belong together: pointers and lengths and nothing else, under the names that the functions give them, so that what is said there of a
+ * list, how long it must be too, is said of the member. It is only read, serves any number of calls, and may be gone after each: none is kept.
+ * Each form hands all of it on, as it is, to the one function that its paragraph names, and decides nothing: it returns, answers, writes and refuses what that one does. The
+ * archives do not have them: they are compiled where they are called, and no proof speaks of them; host/tests/header.rs holds each against its function. */
+
+/* A file to look up in. */
+struct uskelzar_file {
+    const uint8_t *file;
+    size_t file_length;
+};
+
+/* Its index: the words that uskelzar_build_index gave. */
+struct uskelzar_index {
+    const uint32_t *index;
+    size_t index_length;
+};
+
+/* Its atlas: the words that uskelzar_build_atlas gave. */
+struct uskelzar_atlas {
+    const uint32_t *atlas;
+    size_t atlas_length;
+};
+
+/* Many fixes: fix i is lats[i], lons[i]. */
+struct uskelzar_fixes {
+    const float *lats;
+    size_t lats_length;
+    const float *lons;
+    size_t lons_length;
+};
+
+/* What a lookup writes: the matches, and their fields or their description. */
+struct uskelzar_matches {
+    uint32_t *hits;
+    size_t hits_length;
+    uint8_t *text;
+    size_t text_length;
+};
+
+/* uskelzar_lookup: the zones that hold a fix. */
+static inline uint8_t uskelzar_file_lookup(const struct uskelzar_file *map, float lat, float lon, bool asked,
+                                           const struct uskelzar_matches *found, uint64_t reply[USKELZAR_REPLY_WORDS])
+{
+    return uskelzar_lookup(map->file, map->file_length, lat, lon, asked, found->hits, found->hits_length, found->text,
+                           found->text_length, reply);
+}
+
+/* uskelzar_lookup_strict: the same, and a number that the file's end cuts is refused. */
+static inline uint8_t uskelzar_file_lookup_strict(const struct uskelzar_file *map, float lat, float lon, bool asked,
+                                                  const struct uskelzar_matches *found, uint64_t reply[USKELZAR_REPLY_WORDS])
+{
+    return uskelzar_lookup_strict(map->file, map->file_length, lat, lon, asked, found->hits, found->hits_length, found->text,
+                                  found->text_length, reply);
+}
+
+/* uskelzar_lookup_many: the zones that hold each of many fixes. */
+static inline uint8_t uskelzar_file_lookup_many(const struct uskelzar_file *map, const struct uskelzar_fixes *fixes, bool asked,
+                                                const struct uskelzar_matches *found, uint32_t *answers, size_t answers_length,
+                                                uint64_t reply[USKELZAR_REPLY_WORDS])
+{
+    return uskelzar_lookup_many(map->file, map->file_length, fixes->lats, fixes->lats_length, fixes->lons, fixes->lons_length,
+                                asked, found->hits, found->hits_length, found->text, found->text_length, answers,
+                                answers_length, reply);
+}
+
+/* uskelzar_lookup_through: the zones that hold a fix, through an index that is not looked at first. */
+static inline uint8_t uskelzar_file_lookup_through(const struct uskelzar_file *map, const struct uskelzar_index *index,
+                                                   float lat, float lon, bool asked, const struct uskelzar_matches *found,
+                                                   uint64_t reply[USKELZAR_REPLY_WORDS])
+{
+    return uskelzar_lookup_through(map->file, map->file_length, index->index, index->index_length, lat, lon, asked, found->hits,
+                                   found->hits_length, found->text, found->text_length, reply);
+}
+
+/* uskelzar_lookup_indexed: the same, after a comparison. */
+static inline uint8_t uskelzar_file_lookup_indexed(const struct uskelzar_file *map, const struct uskelzar_index *index,
+                                                   float lat, float lon, bool asked, const struct uskelzar_matches *found,
+                                                   uint64_t reply[USKELZAR_REPLY_WORDS])
+{
+    return uskelzar_lookup_indexed(map->file, map->file_length, index->index, index->index_length, lat, lon, asked, found->hits,
+                                   found->hits_length, found->text, found->text_length, reply);
+}
+
+/* uskelzar_lookup_atlas: the zones that hold a fix, through an atlas that is not looked at first. */
+static inline uint8_t uskelzar_file_lookup_atlas(const struct uskelzar_file *map, const struct uskelzar_atlas *atlas, float lat,
+                                                 float lon, bool asked, const struct uskelzar_matches *found,
+                                                 uint64_t reply[USKELZAR_REPLY_WORDS])
+{
+    return uskelzar_lookup_atlas(map->file, map->file_length, atlas->atlas, atlas->atlas_length, lat, lon, asked, found->hits,
+                                 found->hits_length, found->text, found->text_length, reply);
+}
+
+/* uskelzar_simple_lookup: the zone that holds a fix, as one text. */
+static inline uint8_t uskelzar_file_simple_lookup(const struct uskelzar_file *map, float lat, float lon,
+                                                  const struct uskelzar_matches *found, uint64_t reply[USKELZAR_REPLY_WORDS])
+{
+    return uskelzar_simple_lookup(map->file, map->file_length, lat, lon, found->hits, found->hits_length, found->text,
+                                  found->text_length, reply);
+}
+
+/* uskelzar_simple_atlas: the same through an atlas. */
+static inline uint8_t uskelzar_file_simple_atlas(const struct uskelzar_file *map, const struct uskelzar_atlas *atlas, float lat,
+                                                 float lon, const struct uskelzar_matches *found,
+                                                 uint64_t reply[USKELZAR_REPLY_WORDS])
+{
+    return uskelzar_simple_atlas(map->file, map->file_length, atlas->atlas, atlas->atlas_length, lat, lon, found->hits,
+                                 found->hits_length, found->text, found->text_length, reply);
+}
+
+/* uskelzar_many_atlas: the zones that hold each of many fixes, through an atlas. */
+static inline uint8_t uskelzar_file_many_atlas(const struct uskelzar_file *map, const struct uskelzar_atlas *atlas,
+                                               const struct uskelzar_fixes *fixes, bool asked,
+                                               const struct uskelzar_matches *found, uint32_t *answers, size_t answers_length,
+                                               uint64_t reply[USKELZAR_REPLY_WORDS])
+{
+    return uskelzar_many_atlas(map->file, map->file_length, atlas->atlas, atlas->atlas_length, fixes->lats, fixes->lats_length,
+                               fixes->lons, fixes->lons_length, asked, found->hits, found->hits_length, found->text,
+                               found->text_length, answers, answers_length, reply);
+}
+
+/* What a printer goes by: a map of time zones, and the bundle of their TZif files. */
+struct uskelzar_printer {
+    const uint8_t *map;
+    size_t map_length;
+    const uint8_t *zones;
+    size_t zones_length;
+};
+
+/* Where the bytes go that are written: a slip's line, a border, or a file. Of an add and a replacement it is a list to work in. */
+struct uskelzar_output {
+    uint8_t *out;
+    size_t out_length;
+};
+
+/* uskelzar_slip: the line that a request asks for. */
+static inline uint8_t uskelzar_printer_slip(const struct uskelzar_printer *printer, const uint8_t *request, size_t request_length,
+                                            const struct uskelzar_matches *found, const struct uskelzar_output *output,
+                                            uint64_t reply[USKELZAR_REPLY_WORDS])
+{
+    return uskelzar_slip(request, request_length, printer->map, printer->map_length, printer->zones, printer->zones_length,
+                         found->hits, found->hits_length, found->text, found->text_length, output->out, output->out_length,
+                         reply);
+}
+
+/* uskelzar_slip_at: the line at a fix and an instant. */
+static inline uint8_t uskelzar_printer_slip_at(const struct uskelzar_printer *printer, float lat, float lon, int64_t instant,
+                                               const struct uskelzar_matches *found, const struct uskelzar_output *output,
+                                               uint64_t reply[USKELZAR_REPLY_WORDS])
+{
+    return uskelzar_slip_at(lat, lon, instant, printer->map, printer->map_length, printer->zones, printer->zones_length,
+                            found->hits, found->hits_length, found->text, found->text_length, output->out, output->out_length,
+                            reply);
+}
+
+/* uskelzar_slip_atlas: the line that a request asks for, through an atlas of the map. */
+static inline uint8_t uskelzar_printer_slip_atlas(const struct uskelzar_printer *printer, const struct uskelzar_atlas *atlas,
+                                                  const uint8_t *request, size_t request_length,
+                                                  const struct uskelzar_matches *found, const struct uskelzar_output *output,
+                                                  uint64_t reply[USKELZAR_REPLY_WORDS])
+{
+    return uskelzar_slip_atlas(request, request_length, printer->map, printer->map_length, atlas->atlas, atlas->atlas_length,
+                               printer->zones, printer->zones_length, found->hits, found->hits_length, found->text,
+                               found->text_length, output->out, output->out_length, reply);
+}
+
+/* uskelzar_slip_at_atlas: the line at a fix and an instant, through an atlas of the map. */
+static inline uint8_t uskelzar_printer_slip_at_atlas(const struct uskelzar_printer *printer, const struct uskelzar_atlas *atlas,
+                                                     float lat, float lon, int64_t instant,
+                                                     const struct uskelzar_matches *found,
+                                                     const struct uskelzar_output *output,
+                                                     uint64_t reply[USKELZAR_REPLY_WORDS])
+{
+    return uskelzar_slip_at_atlas(lat, lon, instant, printer->map, printer->map_length, atlas->atlas, atlas->atlas_length,
+                                  printer->zones, printer->zones_length, found->hits, found->hits_length, found->text,
+                                  found->text_length, output->out, output->out_length, reply);
+}
+
+/* ======== The office's functions: libuskelzar-office.a
+ * What is done once for a file: borders are written, files built, held and salvaged; an index and an atlas are built, and worked out again. */
+
+/* ---- the words of the office's replies */
+enum { USKELZAR_WRITE_LENGTH = 0, USKELZAR_BUILD_LENGTH = 0, USKELZAR_FINISH_LENGTH = 0 };
+enum {                                /* the totals of a builder that holds yards */
+    USKELZAR_TOTALS_TABLE = 0,        /* bytes of the table */
+    USKELZAR_TOTALS_METADATA = 1,     /* bytes of the metadata */
+    USKELZAR_TOTALS_DATA = 2,         /* bytes of the data, the zero byte included: 1 with no yards */
+    USKELZAR_TOTALS_YARDS = 3,
+    USKELZAR_TOTALS_GREATEST = 4      /* the greatest of the yards' lower latitudes, 0 with no yards: the bits of an int32_t */
+};
+enum { USKELZAR_INDEX_USED = 0 };     /* words of an index */
+enum {
+    USKELZAR_SALVAGE_LENGTH = 0,      /* the new file's bytes */
+    USKELZAR_SALVAGE_LINES = 1,       /* lines of the list */
+    USKELZAR_SALVAGE_KEPT = 2         /* entries in the new file */
+};
 
 /* ---- a piece of the writer: five words; words left over are no piece */
 enum {
@@ -286,52 +657,6 @@ enum uskelzar_reason {
     USKELZAR_REASON_REST = 73         /* no entry: behind one whose numbers can't be read, what follows it is unknown */
 };
 
-/* What the file's header says.
- * Answers: type, version, precision, number of fields, bytes of text used.
- * text: the field names in order, then the notice; each is its length in two bytes, the high one first, and its bytes, which
- *       are UTF-8.
- * Refuses: 1 to 14; 18 last, where names and notice don't fit. */
-uint8_t uskelzar_open(const uint8_t *file, size_t file_length, uint8_t *text, size_t text_length,
-                      uint64_t reply[USKELZAR_REPLY_WORDS]);
-
-/* The zones that hold a fix, in degrees; `asked`: with the safezone.
- * Answers: matches, end mark, safezone bits, bytes of text used. The search was whole where 0 was returned and the end mark, reply[1], is 1: ask both, since a
- *       refusal has its detail there, and a 6 for the second name leaves a 1. The safezone is the distance in degrees, those of longitude
- *       counted like those of latitude, to the nearest border among those whose box holds the fix: 0 on a border, very large
- *       where there is none; at precision 32 it is negative.
- * hits: the matches, four words each. While it searches the list must hold every hit, and several hits with one metadata id
- *       become one match: so room for the matches alone may be too little.
- * text: the fields of the first match in file order, then those of the second, and so on; each is one byte with the field's
- *       index, its length in two bytes, the high one first, and its bytes, which are UTF-8.
- * Refuses: what open refuses but for its 18; then 16; then the first fault met, 12, 13 or 17 in the search, 12, 14, 15 or 18
- *       in the fields. */
-uint8_t uskelzar_lookup(const uint8_t *file, size_t file_length, float lat, float lon, bool asked, uint32_t *hits,
-                        size_t hits_length, uint8_t *text, size_t text_length, uint64_t reply[USKELZAR_REPLY_WORDS]);
-
-/* The same two, but a number that the file's end cuts is refused, with 31: where it is read, behind 12 and before its value is used. What they
- * take, answer, write and refuse is otherwise that of the plain ones. So each is refused 31 exactly where its plain one would read such a number
- * before it is refused or ends, and else replies and writes what its plain one does; of a file whose last byte is below 128 it always does.
- * uskelzar_lookup_strict opens strictly, then 16, then searches; behind an early stop a cut number is end mark 2, as in the plain lookup. A string
- * or an entry that is not there at all fails as before. */
-uint8_t uskelzar_open_strict(const uint8_t *file, size_t file_length, uint8_t *text, size_t text_length,
-                             uint64_t reply[USKELZAR_REPLY_WORDS]);
-uint8_t uskelzar_lookup_strict(const uint8_t *file, size_t file_length, float lat, float lon, bool asked, uint32_t *hits,
-                               size_t hits_length, uint8_t *text, size_t text_length, uint64_t reply[USKELZAR_REPLY_WORDS]);
-
-/* The zones that hold each of many fixes: fix i is lats[i], lons[i]. The file is opened once; each fix is answered as by lookup,
- * in the room that the earlier ones left.
- * Answers: fixes, matches of all of them, bytes of text used. No fix is answered with zeros once the file opens.
- * hits: the matches of the first fix, then those of the second, and so on. Hits that merge away are free again for the next fix.
- * text: the fields of all matches, in the same order.
- * answers: of each fix its match count, end mark and safezone bits (0 if not asked), three words; the counts part `hits` and, with
- *       the number of fields, `text`.
- * Refuses: 33 before everything else; then what open refuses but for its 18; then as lookup does, at the first fix that is refused:
- *       16, 12, 13, 17, 14, 15, 18, those of room against what the earlier ones left. reply[2] is the index of that fix. */
-uint8_t uskelzar_lookup_many(const uint8_t *file, size_t file_length, const float *lats, size_t lats_length, const float *lons,
-                             size_t lons_length, bool asked, uint32_t *hits, size_t hits_length, uint8_t *text,
-                             size_t text_length, uint32_t *answers, size_t answers_length,
-                             uint64_t reply[USKELZAR_REPLY_WORDS]);
-
 /* A tile index beside a file: for each of 32 by 64 tiles the entries whose box meets it, so that a lookup reads only those. It keeps the header and the
  * table of its file, and goes with every file that has the same length, header and table.
  * Answers: the words used.
@@ -340,14 +665,6 @@ uint8_t uskelzar_lookup_many(const uint8_t *file, size_t file_length, const floa
 uint8_t uskelzar_build_index(const uint8_t *file, size_t file_length, uint32_t *index, size_t index_length,
                              uint64_t reply[USKELZAR_REPLY_WORDS]);
 
-/* Whether words keep this file's length, header and table: length, metadata start, where the lists begin, that they end inside the words, and every byte up to
- * the metadata are compared. Records, starts and lists are not looked at: they are believed. So for words that uskelzar_build_index gave, 0 says that they are an
- * index of this file, or of one with the same length, header and table; of other words it does not say that they are an index.
- * Answers: no value; 0 says that they keep them.
- * Refuses: what open refuses but for its 18; then 16, 36. */
-uint8_t uskelzar_index_tied(const uint8_t *file, size_t file_length, const uint32_t *index, size_t index_length,
-                            uint64_t reply[USKELZAR_REPLY_WORDS]);
-
 /* Whether words are the index of this file, whoever wrote them: each word is worked out again and compared, without room for them. Ask it of words from a disk or
  * from another program. The words are those that uskelzar_build_index, lent as many, leaves for this file: the index, and zeros behind it. Through such words
  * uskelzar_lookup_through and uskelzar_lookup_indexed are uskelzar_lookup.
@@ -355,21 +672,6 @@ uint8_t uskelzar_index_tied(const uint8_t *file, size_t file_length, const uint3
  * Refuses: what open refuses but for its 18; then 16, 34 over the whole table, 36 last: for any other words, and for too few. */
 uint8_t uskelzar_is_index(const uint8_t *file, size_t file_length, const uint32_t *index, size_t index_length,
                           uint64_t reply[USKELZAR_REPLY_WORDS]);
-
-/* uskelzar_lookup through an index: it answers, writes and refuses what uskelzar_lookup does, where uskelzar_build_index gave the words and uskelzar_index_tied
- * said 0 of them and this file. It asks neither: any words are taken, and their records, starts and lists are believed. Of other words the answer is theirs, and may
- * miss a zone under end mark 1; nothing outside them is touched.
- * Refuses: what open refuses but for its 18; then 16; then 36 where length and metadata start are not the file's or the tile's list is not inside the words;
- *       then as lookup, and 36 at a number in the list that has no entry. */
-uint8_t uskelzar_lookup_through(const uint8_t *file, size_t file_length, const uint32_t *index, size_t index_length, float lat,
-                                float lon, bool asked, uint32_t *hits, size_t hits_length, uint8_t *text, size_t text_length,
-                                uint64_t reply[USKELZAR_REPLY_WORDS]);
-
-/* The same after a comparison: uskelzar_index_tied, then uskelzar_lookup_through. For words that uskelzar_build_index gave, it is uskelzar_lookup wherever it does
- * not refuse with 36. Records, starts and lists are believed here too: of words that uskelzar_build_index did not give the answer is theirs. */
-uint8_t uskelzar_lookup_indexed(const uint8_t *file, size_t file_length, const uint32_t *index, size_t index_length, float lat,
-                                float lon, bool asked, uint32_t *hits, size_t hits_length, uint8_t *text, size_t text_length,
-                                uint64_t reply[USKELZAR_REPLY_WORDS]);
 
 /* The atlas of a file: its index, and behind it marks along the borders of more than 256 edges, so that a lookup passes over stretches of 128 edges whose box does
  * not hold the fix. As an index it needs a table that is in order. A border that can't be marked has none, and is read whole.
@@ -385,36 +687,6 @@ uint8_t uskelzar_build_atlas(const uint8_t *file, size_t file_length, uint32_t *
  * Refuses: 36, for any other words and any other file. */
 uint8_t uskelzar_is_atlas(const uint8_t *file, size_t file_length, const uint32_t *atlas, size_t atlas_length,
                           uint64_t reply[USKELZAR_REPLY_WORDS]);
-
-/* uskelzar_lookup through an atlas: it answers, writes and refuses what uskelzar_lookup does, where uskelzar_is_atlas said 0 of the words and this file. It does not
- * ask that: any words are taken, and of other words the answer is theirs, and may miss a zone under end mark 1; nothing outside them is touched.
- * Refuses: what open refuses but for its 18; then 16; then 36 where the words do not go with the file or are cut; then as lookup, and 36 at a number or a place in
- *       the words that leads out of them. */
-uint8_t uskelzar_lookup_atlas(const uint8_t *file, size_t file_length, const uint32_t *atlas, size_t atlas_length, float lat,
-                              float lon, bool asked, uint32_t *hits, size_t hits_length, uint8_t *text, size_t text_length,
-                              uint64_t reply[USKELZAR_REPLY_WORDS]);
-
-/* The zone that holds a fix, as one text: of time zones TimezoneIdPrefix and TimezoneId joined ("Europe/" "Berlin"), of
- * countries Name; of the first match, and of fields with one name the last.
- * Answers: matches, end mark, 1 or 0 for described or not, the description's length. There is none where nothing matches or
- *       the file has no field of a wanted name.
- * hits: as for lookup.
- * text: the description, without a zero byte at its end (one stands behind it if there is room).
- * Refuses: as lookup; the fields of every match are checked, and 18, for the description alone, comes last. */
-uint8_t uskelzar_simple_lookup(const uint8_t *file, size_t file_length, float lat, float lon, uint32_t *hits,
-                               size_t hits_length, uint8_t *text, size_t text_length,
-                               uint64_t reply[USKELZAR_REPLY_WORDS]);
-
-/* uskelzar_simple_lookup and uskelzar_lookup_many through an atlas, or without one where `atlas_length` is 0: each answers, writes and refuses what its plain one does, where there are no words or
- * uskelzar_is_atlas said 0 of them and this file. It does not ask that: of other words what uskelzar_lookup_atlas says of them holds, and 36 is refused where it is there, of many fixes at the first
- * that meets it. */
-uint8_t uskelzar_simple_atlas(const uint8_t *file, size_t file_length, const uint32_t *atlas, size_t atlas_length, float lat,
-                              float lon, uint32_t *hits, size_t hits_length, uint8_t *text, size_t text_length,
-                              uint64_t reply[USKELZAR_REPLY_WORDS]);
-uint8_t uskelzar_many_atlas(const uint8_t *file, size_t file_length, const uint32_t *atlas, size_t atlas_length,
-                            const float *lats, size_t lats_length, const float *lons, size_t lons_length, bool asked,
-                            uint32_t *hits, size_t hits_length, uint8_t *text, size_t text_length, uint32_t *answers,
-                            size_t answers_length, uint64_t reply[USKELZAR_REPLY_WORDS]);
 
 /* The bytes of a border, version 0 or 1, from its points on the file's grid: lats[i] and lons[i]; it closes by itself.
  * `earlier` is the data section up to the border's first byte. For version 1, `pieces` says which moves to borrow from it,
@@ -560,266 +832,7 @@ uint8_t uskelzar_finish(const uint64_t state[USKELZAR_STATE_WORDS], const int32_
 uint8_t uskelzar_salvage(const uint8_t *file, size_t file_length, uint32_t *dropped, size_t dropped_length, uint8_t *out,
                          size_t out_length, uint64_t reply[USKELZAR_REPLY_WORDS]);
 
-/* Local time at an instant, by a TZif file (RFC 8536 and 9636, versions 1 to 4) and the TZ string of its footer, all of
- * which is checked first. The instant is in seconds from 1970-01-01 00:00:00 UT, on the file's own scale: UNIX time, unless
- * the block that answers (the only one of version 1, else the second) has leap-second records.
- * Answers: the scale, the offset's bits, the daylight flag, the abbreviation's length, the correction's bits: by the last
- *       transition that is not after the instant; before the first by type 0. After the last, and throughout where there are
- *       none, by the TZ string, where the file has one; where it has none, by type 0 if there are no transitions, and else
- *       unknown: all words are 0. The scale is 1 where that block has no leap-second records: the instant was read as UNIX
- *       time, and the correction is 0. It is 2 where it has: the instant was read on the file's scale, and the correction is
- *       that of the last record not after it, 0 before the first.
- * text: the abbreviation, without a zero byte at its end (one stands behind it if there is room); zeros where it is unknown.
- * Refuses: 1; 40 to 60, the first fault in file order; 61 where the string would answer; 18 last. */
-uint8_t uskelzar_local_time(const uint8_t *file, size_t file_length, int64_t instant, uint8_t *text, size_t text_length,
-                            uint64_t reply[USKELZAR_REPLY_WORDS]);
-
-/* The date and the time of day that a clock shows at an instant, so many seconds east of UT: with local time's offset, local
- * time. `reply` has seven words of its own.
- * Answers: year (1 to 9999), month, day, hour, minute, second, weekday (0 is Sunday, 6 Saturday).
- * Refuses: 61, with seven zeros, where the clock is outside the years 1 to 9999. */
-uint8_t uskelzar_civil_time(int64_t instant, int32_t offset, uint64_t reply[USKELZAR_CIVIL_WORDS]);
-
-/* What a request means. A request is one line of at most 255 bytes; one line end (LF, CR LF or CR) at its end is no part of it. It is a sentence of a receiver, which begins with `$`, or a
- * plain line:
- *       $GNRMC,115959.00,A,5231.200000,N,01324.000000,E,0.0,0.0,010726,,,A*41
- *       52.52 13.40 2026-07-01T11:59:59Z
- *       52.52 13.40 1782907199
- * A sentence is RMC of NMEA 0183 of any talker, with a checksum. Asked in this order: checksum; address, two of A to Z and 0 to 9, and RMC; ten fields at least; status A; mode, if there is a
- *       field 12: none, A, D, F, P or R; time hhmmss, with a point and digits behind it or without, which are dropped; latitude ddmm, with a point and one to nine digits or without, then N or S;
- *       longitude dddmm likewise, then E or W; date ddmmyy, of 1980 to 2079. Hours are below 24, minutes and seconds below 60, degrees at most 90 and 180. Other fields are not looked at.
- * A plain line has three words, blanks or tabs between them: latitude and longitude, each a sign or none, one to three digits, and a point and one to nine digits or none, at most 90 and 180; the
- *       instant as seconds from 1970, a sign or none and one to nineteen digits, or as a date and time in UTC of the years 1 to 9999.
- * Answers: the bits of the floats nearest to the latitude and the longitude that it spells, each rounded once, and +0 for every zero; the bits of the instant, on a scale without leap seconds.
- * Refuses: 80 where it is empty or too long (detail 0, 255). A sentence: 82 (detail: where its `*` is looked for, the length less 3 or 0); 83 for another address of two to eight such letters and
- *       digits, which is no fault in a receiver's stream, and else 80; 80 for too few fields (detail: the `*`); 81 for status V, 80 for any other but A; 81 for another mode; then field by field 80 for
- *       a field that has not its form and 84 for one out of its range, before the next is looked at. A plain line: the same word by word, and 80 last for what stands behind the third. Their detail is
- *       the place of the field's or word's first byte, that of the line's end where a word is missing; of 81 and 83 it is 0. */
-uint8_t uskelzar_request(const uint8_t *request, size_t request_length, uint64_t reply[USKELZAR_REPLY_WORDS]);
-
-/* A zone's TZif file in a bundle of them, which has the form of Android's file `tzdata` (docs/FORMAT.md), by the zone's name.
- * Answers: where the file begins, counted from the bundle's first byte, and its length: by the first entry whose 40 bytes are the name and then zeros. The file itself is not looked at.
- * Refuses: 89 for the head, in this order (detail): under 24 bytes, or another beginning than "tzdata" (0); byte 11 not 0 (11); the index begins before byte 24 (12); the data before the index, or
- *       the index is no whole number of entries (16); the data ends before it begins, or behind the bundle (20); a number above 2^31 - 1 in its turn. Then 88 where no entry has the name; 89 where
- *       the entry that has it does not lie in the data (detail: the entry's first byte). Other entries are not looked at. */
-uint8_t uskelzar_bundle_find(const uint8_t *bundle, size_t bundle_length, const uint8_t *name, size_t name_length,
-                             uint64_t reply[USKELZAR_REPLY_WORDS]);
-
-/* The slip that a request asks for, by a map of time zones and a bundle of their TZif files: the line to print.
- *       Wed 2026-07-01 13:59:59 +02:00 CEST Europe/Berlin
- * Weekday, date, time, offset (`-` below zero, else `+`; with seconds where it has some), and of each different zone, in the order of the matches, the abbreviation and the name, ", " between one
- * zone and the next; all of it ASCII: a byte of abbreviation or name outside 33 to 126 is a `?`. A zone's name is its TimezoneIdPrefix and its TimezoneId, joined; names are compared before that.
- * request: as for uskelzar_request.
- * map:     a file of type 'T' to look up in; it is looked up without the safezone. zones: a bundle, as for uskelzar_bundle_find.
- * Answers: the line's length, how many matches there are, the offset's bits.
- * hits, text: as uskelzar_lookup leaves them, so that a slip can be traced to its entries.
- * out:     the line, without a line end or a zero byte (zeros stand behind it if there is room).
- * Refuses: what uskelzar_request refuses; what uskelzar_lookup refuses, with its cause and detail; 85 where the search was not whole (detail: the end mark); 86 where nothing matches; 87 where the
- *       map is of another type or has not both names. Then match by match, with its number in reply[0], from 1, and 255 from the 255th on: 89 and 88 as uskelzar_bundle_find; of the zone's file 1 and
- *       40 to 60, places in that file; 91 where it counts leap seconds, so that its scale is not the instant's; 61 where its rule would answer outside the years 1 to 9999; 90 where local time is not
- *       known; 61 where the clock is outside those years. Then 92 where the matches have not all one offset, and so one date and time; 18 last, for the line (detail: its length; of the lookup's it is
- *       0). Not stamped, hits, text and out are zero, whatever the lookup had answered. */
-uint8_t uskelzar_slip(const uint8_t *request, size_t request_length, const uint8_t *map, size_t map_length,
-                      const uint8_t *zones, size_t zones_length, uint32_t *hits, size_t hits_length, uint8_t *text,
-                      size_t text_length, uint8_t *out, size_t out_length, uint64_t reply[USKELZAR_REPLY_WORDS]);
-
-/* The slip at a fix, in degrees, and an instant, in seconds from 1970: what uskelzar_slip answers, writes and refuses for a request that means these.
- * Refuses: in the place of the request's refusals 84 (detail 0), where the latitude is not from -90 to 90 or the longitude not from -180 to 180; NaN is neither. */
-uint8_t uskelzar_slip_at(float lat, float lon, int64_t instant, const uint8_t *map, size_t map_length, const uint8_t *zones,
-                         size_t zones_length, uint32_t *hits, size_t hits_length, uint8_t *text, size_t text_length,
-                         uint8_t *out, size_t out_length, uint64_t reply[USKELZAR_REPLY_WORDS]);
-
-/* uskelzar_slip and uskelzar_slip_at through an atlas of the map, or without one where `atlas_length` is 0: each answers, writes and refuses what its plain one does, where there are no words or
- * uskelzar_is_atlas said 0 of them and the map. It does not ask that: of other words what uskelzar_lookup_atlas says of them holds, and its 36 is among the refusals of the lookup. */
-uint8_t uskelzar_slip_atlas(const uint8_t *request, size_t request_length, const uint8_t *map, size_t map_length,
-                            const uint32_t *atlas, size_t atlas_length, const uint8_t *zones, size_t zones_length,
-                            uint32_t *hits, size_t hits_length, uint8_t *text, size_t text_length, uint8_t *out,
-                            size_t out_length, uint64_t reply[USKELZAR_REPLY_WORDS]);
-uint8_t uskelzar_slip_at_atlas(float lat, float lon, int64_t instant, const uint8_t *map, size_t map_length,
-                               const uint32_t *atlas, size_t atlas_length, const uint8_t *zones, size_t zones_length,
-                               uint32_t *hits, size_t hits_length, uint8_t *text, size_t text_length, uint8_t *out,
-                               size_t out_length, uint64_t reply[USKELZAR_REPLY_WORDS]);
-
-/* Whoever tells an hour by uskelzar_lookup, uskelzar_local_time and uskelzar_civil_time without a slip asks by himself what a slip asks: a fix on the globe, USKELZAR_END_WHOLE,
- * USKELZAR_SCALE_UNIX (a clock shown at an instant of another scale is wrong by the leap seconds between them), and one offset of all matches. */
-
-/* ---- the same with fewer words: for each function above of nine parameters or more, a form of it that takes structs.
- * A struct has the lists that belong together: pointers and lengths and nothing else, under the names that the functions above give them, so that what is said there of a
- * list, how long it must be too, is said of the member. It is only read, serves any number of calls, and may be gone after each: none is kept.
- * Each form hands all of it on, as it is, to the one function that its paragraph names, and decides nothing: it returns, answers, writes and refuses what that one does. The
- * archive does not have them: they are compiled where they are called, and no proof speaks of them; host/tests/header.rs holds each against its function. */
-
-/* A file to look up in. */
-struct uskelzar_file {
-    const uint8_t *file;
-    size_t file_length;
-};
-
-/* Its index: the words that uskelzar_build_index gave. */
-struct uskelzar_index {
-    const uint32_t *index;
-    size_t index_length;
-};
-
-/* Its atlas: the words that uskelzar_build_atlas gave. */
-struct uskelzar_atlas {
-    const uint32_t *atlas;
-    size_t atlas_length;
-};
-
-/* Many fixes: fix i is lats[i], lons[i]. */
-struct uskelzar_fixes {
-    const float *lats;
-    size_t lats_length;
-    const float *lons;
-    size_t lons_length;
-};
-
-/* What a lookup writes: the matches, and their fields or their description. */
-struct uskelzar_matches {
-    uint32_t *hits;
-    size_t hits_length;
-    uint8_t *text;
-    size_t text_length;
-};
-
-/* uskelzar_lookup: the zones that hold a fix. */
-static inline uint8_t uskelzar_file_lookup(const struct uskelzar_file *map, float lat, float lon, bool asked,
-                                           const struct uskelzar_matches *found, uint64_t reply[USKELZAR_REPLY_WORDS])
-{
-    return uskelzar_lookup(map->file, map->file_length, lat, lon, asked, found->hits, found->hits_length, found->text,
-                           found->text_length, reply);
-}
-
-/* uskelzar_lookup_strict: the same, and a number that the file's end cuts is refused. */
-static inline uint8_t uskelzar_file_lookup_strict(const struct uskelzar_file *map, float lat, float lon, bool asked,
-                                                  const struct uskelzar_matches *found, uint64_t reply[USKELZAR_REPLY_WORDS])
-{
-    return uskelzar_lookup_strict(map->file, map->file_length, lat, lon, asked, found->hits, found->hits_length, found->text,
-                                  found->text_length, reply);
-}
-
-/* uskelzar_lookup_many: the zones that hold each of many fixes. */
-static inline uint8_t uskelzar_file_lookup_many(const struct uskelzar_file *map, const struct uskelzar_fixes *fixes, bool asked,
-                                                const struct uskelzar_matches *found, uint32_t *answers, size_t answers_length,
-                                                uint64_t reply[USKELZAR_REPLY_WORDS])
-{
-    return uskelzar_lookup_many(map->file, map->file_length, fixes->lats, fixes->lats_length, fixes->lons, fixes->lons_length,
-                                asked, found->hits, found->hits_length, found->text, found->text_length, answers,
-                                answers_length, reply);
-}
-
-/* uskelzar_lookup_through: the zones that hold a fix, through an index that is not looked at first. */
-static inline uint8_t uskelzar_file_lookup_through(const struct uskelzar_file *map, const struct uskelzar_index *index,
-                                                   float lat, float lon, bool asked, const struct uskelzar_matches *found,
-                                                   uint64_t reply[USKELZAR_REPLY_WORDS])
-{
-    return uskelzar_lookup_through(map->file, map->file_length, index->index, index->index_length, lat, lon, asked, found->hits,
-                                   found->hits_length, found->text, found->text_length, reply);
-}
-
-/* uskelzar_lookup_atlas: the zones that hold a fix, through an atlas that is not looked at first. */
-static inline uint8_t uskelzar_file_lookup_atlas(const struct uskelzar_file *map, const struct uskelzar_atlas *atlas, float lat,
-                                                 float lon, bool asked, const struct uskelzar_matches *found,
-                                                 uint64_t reply[USKELZAR_REPLY_WORDS])
-{
-    return uskelzar_lookup_atlas(map->file, map->file_length, atlas->atlas, atlas->atlas_length, lat, lon, asked, found->hits,
-                                 found->hits_length, found->text, found->text_length, reply);
-}
-
-/* uskelzar_lookup_indexed: the same, after a comparison. */
-static inline uint8_t uskelzar_file_lookup_indexed(const struct uskelzar_file *map, const struct uskelzar_index *index,
-                                                   float lat, float lon, bool asked, const struct uskelzar_matches *found,
-                                                   uint64_t reply[USKELZAR_REPLY_WORDS])
-{
-    return uskelzar_lookup_indexed(map->file, map->file_length, index->index, index->index_length, lat, lon, asked, found->hits,
-                                   found->hits_length, found->text, found->text_length, reply);
-}
-
-/* uskelzar_simple_lookup: the zone that holds a fix, as one text. */
-static inline uint8_t uskelzar_file_simple_lookup(const struct uskelzar_file *map, float lat, float lon,
-                                                  const struct uskelzar_matches *found, uint64_t reply[USKELZAR_REPLY_WORDS])
-{
-    return uskelzar_simple_lookup(map->file, map->file_length, lat, lon, found->hits, found->hits_length, found->text,
-                                  found->text_length, reply);
-}
-
-/* uskelzar_simple_atlas: the same through an atlas. */
-static inline uint8_t uskelzar_file_simple_atlas(const struct uskelzar_file *map, const struct uskelzar_atlas *atlas, float lat,
-                                                 float lon, const struct uskelzar_matches *found,
-                                                 uint64_t reply[USKELZAR_REPLY_WORDS])
-{
-    return uskelzar_simple_atlas(map->file, map->file_length, atlas->atlas, atlas->atlas_length, lat, lon, found->hits,
-                                 found->hits_length, found->text, found->text_length, reply);
-}
-
-/* uskelzar_many_atlas: the zones that hold each of many fixes, through an atlas. */
-static inline uint8_t uskelzar_file_many_atlas(const struct uskelzar_file *map, const struct uskelzar_atlas *atlas,
-                                               const struct uskelzar_fixes *fixes, bool asked,
-                                               const struct uskelzar_matches *found, uint32_t *answers, size_t answers_length,
-                                               uint64_t reply[USKELZAR_REPLY_WORDS])
-{
-    return uskelzar_many_atlas(map->file, map->file_length, atlas->atlas, atlas->atlas_length, fixes->lats, fixes->lats_length,
-                               fixes->lons, fixes->lons_length, asked, found->hits, found->hits_length, found->text,
-                               found->text_length, answers, answers_length, reply);
-}
-
-/* What a printer goes by: a map of time zones, and the bundle of their TZif files. */
-struct uskelzar_printer {
-    const uint8_t *map;
-    size_t map_length;
-    const uint8_t *zones;
-    size_t zones_length;
-};
-
-/* Where the bytes go that are written: a slip's line, a border, or a file. Of an add and a replacement it is a list to work in. */
-struct uskelzar_output {
-    uint8_t *out;
-    size_t out_length;
-};
-
-/* uskelzar_slip: the line that a request asks for. */
-static inline uint8_t uskelzar_printer_slip(const struct uskelzar_printer *printer, const uint8_t *request, size_t request_length,
-                                            const struct uskelzar_matches *found, const struct uskelzar_output *output,
-                                            uint64_t reply[USKELZAR_REPLY_WORDS])
-{
-    return uskelzar_slip(request, request_length, printer->map, printer->map_length, printer->zones, printer->zones_length,
-                         found->hits, found->hits_length, found->text, found->text_length, output->out, output->out_length,
-                         reply);
-}
-
-/* uskelzar_slip_at: the line at a fix and an instant. */
-static inline uint8_t uskelzar_printer_slip_at(const struct uskelzar_printer *printer, float lat, float lon, int64_t instant,
-                                               const struct uskelzar_matches *found, const struct uskelzar_output *output,
-                                               uint64_t reply[USKELZAR_REPLY_WORDS])
-{
-    return uskelzar_slip_at(lat, lon, instant, printer->map, printer->map_length, printer->zones, printer->zones_length,
-                            found->hits, found->hits_length, found->text, found->text_length, output->out, output->out_length,
-                            reply);
-}
-
-/* uskelzar_slip_atlas: the line that a request asks for, through an atlas of the map. */
-static inline uint8_t uskelzar_printer_slip_atlas(const struct uskelzar_printer *printer, const struct uskelzar_atlas *atlas,
-                                                  const uint8_t *request, size_t request_length,
-                                                  const struct uskelzar_matches *found, const struct uskelzar_output *output,
-                                                  uint64_t reply[USKELZAR_REPLY_WORDS])
-{
-    return uskelzar_slip_atlas(request, request_length, printer->map, printer->map_length, atlas->atlas, atlas->atlas_length,
-                               printer->zones, printer->zones_length, found->hits, found->hits_length, found->text,
-                               found->text_length, output->out, output->out_length, reply);
-}
-
-/* uskelzar_slip_at_atlas: the line at a fix and an instant, through an atlas of the map. */
-static inline uint8_t uskelzar_printer_slip_at_atlas(const struct uskelzar_printer *printer, const struct uskelzar_atlas *atlas,
-                                                     float lat, float lon, int64_t instant,
-                                                     const struct uskelzar_matches *found,
-                                                     const struct uskelzar_output *output,
-                                                     uint64_t reply[USKELZAR_REPLY_WORDS])
-{
-    return uskelzar_slip_at_atlas(lat, lon, instant, printer->map, printer->map_length, atlas->atlas, atlas->atlas_length,
-                                  printer->zones, printer->zones_length, found->hits, found->hits_length, found->text,
-                                  found->text_length, output->out, output->out_length, reply);
-}
+/* ---- the same with fewer words, as in the first part */
 
 /* A border: its points on the file's grid, and the words of its pieces. With none of these `pieces_length` is 0, and `pieces` still not null. */
 struct uskelzar_border {

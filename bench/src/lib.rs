@@ -21,8 +21,8 @@ pub enum Question {
 #[derive(Clone, Copy)]
 pub enum Way {
     Plain,
-    /// So many fixes a call.
-    Together(usize),
+    /// So many fixes a call, through an atlas or none.
+    Together { size: usize, atlas: bool },
     /// Through an index, without a comparison and with one.
     Through,
     Indexed,
@@ -30,8 +30,8 @@ pub enum Way {
     Atlas,
 }
 
-/// The words `MAP CITIES QUESTION ROUNDS`. A question may end in `:N`, so many fixes a call, in `:through`, in `:indexed` or in `:atlas`. In 0 rounds each city is
-/// looked up once, with what is read of the map, and of the words beside it, watched.
+/// The words `MAP CITIES QUESTION ROUNDS`. A question may end in `:N`, so many fixes a call, in `:through`, in `:indexed`, in `:atlas` or in `:atlas:N`. In 0 rounds each
+/// city is looked up once, with what a call reads of the map, and of the words beside it, watched.
 pub struct Task {
     pub map: String,
     pub question: Question,
@@ -77,13 +77,17 @@ impl Task {
     pub fn from_args() -> Task {
         let words: Vec<String> = env::args().skip(1).collect();
         let [map, cities, question, rounds] = &words[..] else {
-            panic!("words: MAP CITIES with|without|simple|build|check[:N|:through|:indexed|:atlas] ROUNDS");
+            panic!("words: MAP CITIES with|without|simple|build|check[:N|:through|:indexed|:atlas|:atlas:N] ROUNDS");
         };
         let (question, way) = match question.split_once(':') {
             Some((question, "through")) => (question, Way::Through),
             Some((question, "indexed")) => (question, Way::Indexed),
             Some((question, "atlas")) => (question, Way::Atlas),
-            Some((question, fixes)) => (question, Way::Together(fixes.parse().expect("fixes"))),
+            Some((question, fixes)) => {
+                let through = fixes.strip_prefix("atlas:");
+                let size = through.unwrap_or(fixes).parse().expect("fixes");
+                (question, Way::Together { size, atlas: through.is_some() })
+            }
             None => (&question[..], Way::Plain),
         };
         let question = match question {
@@ -106,17 +110,17 @@ impl Task {
     /// Looks every city up in each round and prints the checksum. Only the first round has the answers folded into it: a count is
     /// taken of the others, so that no program's way of handing out its answer is in it.
     pub fn run(&self, file: &[u8], beside: &[u32], mut ask: impl FnMut(f32, f32, Option<&mut Checksum>)) {
-        if self.rounds == 0 {
-            for &(lat, lon) in &self.cities {
-                watched(file, beside, || ask(lat, lon, None));
-            }
-            return;
-        }
-        self.run_together(1, |fixes, sum| ask(fixes[0].0, fixes[0].1, sum));
+        self.run_together(1, file, beside, |fixes, sum| ask(fixes[0].0, fixes[0].1, sum));
     }
 
     /// The same, so many cities a call.
-    pub fn run_together(&self, size: usize, mut ask: impl FnMut(&[(f32, f32)], Option<&mut Checksum>)) {
+    pub fn run_together(&self, size: usize, file: &[u8], beside: &[u32], mut ask: impl FnMut(&[(f32, f32)], Option<&mut Checksum>)) {
+        if self.rounds == 0 {
+            for fixes in self.cities.chunks(size) {
+                watched(file, beside, || ask(fixes, None));
+            }
+            return;
+        }
         let mut sum = Checksum::new();
         for fixes in self.cities.chunks(size) {
             ask(fixes, Some(&mut sum));

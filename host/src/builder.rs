@@ -1,11 +1,11 @@
 //! Files from yards.
 
 use crate::answer::Table;
+use crate::border::{most_bytes, word, words_of, Piece};
 use crate::desk::Desk;
 use crate::draft::Draft;
 use crate::raw::{self, Lengths, Plan, Start, MOST_NAMES, MOST_YARDS, YARD_WORDS};
 use crate::refusal::{Number, Refusal};
-use crate::{most_bytes, word, words_of, Piece};
 use std::fmt;
 
 /// A file in the making: what [`Builder::new`] is given, and yards behind each other.

@@ -1,9 +1,9 @@
 //! Files in the making that hold their yards.
 
+use crate::border::{most_bytes, word, words_of, Piece};
 use crate::desk::{widen, Desk};
 use crate::raw::{self, Holding, Lengths, NoteLengths, Notes, Offer, Reply, Start, State, STATE_WORDS};
 use crate::refusal::Refusal;
-use crate::{most_bytes, word, words_of, Piece};
 
 /// The sizes of a file's three sections, how many yards it has, and the greatest of their lower latitudes (0 if there are none).
 #[derive(Clone, Copy, Debug, Default, Eq, PartialEq)]

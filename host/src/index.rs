@@ -4,6 +4,7 @@ use crate::answer::{Error, Zones};
 use crate::map::Map;
 use crate::raw;
 use crate::words;
+#[cfg(feature = "office")]
 use std::io;
 use std::path::Path;
 
@@ -18,11 +19,12 @@ const LISTS: std::ops::Range<usize> = 3..3 + 32 * 64 + 1;
 
 impl Index {
     /// Builds the index of a map.
+    #[cfg(feature = "office")]
     pub fn build<B: AsRef<[u8]>>(map: &Map<B>) -> Result<Index, Error> {
         Ok(Index { words: words::built(0, |room| raw::build_index(map.bytes(), room))? })
     }
 
-    /// An index of these words. Any are taken, and their records, starts and lists are believed: ask [`Index::is_of`] of words that another program wrote.
+    /// An index of these words. Any are taken, and their records, starts and lists are believed: `Index::is_of`, of the office, says of words that another program wrote whether they are its index.
     pub fn of_words(words: Vec<u32>) -> Index {
         Index { words }
     }
@@ -45,6 +47,7 @@ impl Index {
 
     /// What `to_bytes` gave for this map. Each word is worked out again: any other words are refused with 36, whoever wrote them; bytes that are not four a word
     /// are no index.
+    #[cfg(feature = "office")]
     pub fn of_bytes<B: AsRef<[u8]>>(bytes: &[u8], map: &Map<B>) -> Result<Index, Error> {
         if bytes.len() % 4 != 0 {
             let said = format!("{} bytes are no whole number of words, so it is no index or a cut one: build it again", bytes.len());
@@ -61,11 +64,13 @@ impl Index {
     }
 
     /// Reads what `write` wrote for this map, and asks as `of_bytes` does.
+    #[cfg(feature = "office")]
     pub fn read<B: AsRef<[u8]>>(path: impl AsRef<Path>, map: &Map<B>) -> Result<Index, Error> {
         Index::of_bytes(&std::fs::read(path)?, map)
     }
 
     /// Whether it is what `build` gives for a map, whoever wrote it; then a lookup through it, with or without a comparison, is the plain lookup.
+    #[cfg(feature = "office")]
     pub fn is_of<B: AsRef<[u8]>>(&self, map: &Map<B>) -> bool {
         raw::is_index(map.bytes(), &self.words).is_ok()
     }
@@ -82,7 +87,7 @@ impl<B: AsRef<[u8]>> Map<B> {
         self.found_by(|hits, text| raw::lookup_indexed(self.bytes(), index.words(), (lat, lon, true), hits, text))
     }
 
-    /// The same without the comparison: for an index that was built, of which [`Index::is_tied`] said yes, or any of which [`Index::is_of`] did.
+    /// The same without the comparison: for an index that was built, of which [`Index::is_tied`] said yes, or any of which `Index::is_of` did.
     pub fn lookup_through(&self, index: &Index, lat: f32, lon: f32) -> Result<Zones, Error> {
         self.found_by(|hits, text| raw::lookup_through(self.bytes(), index.words(), (lat, lon, true), hits, text))
     }

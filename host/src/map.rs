@@ -57,6 +57,7 @@ impl Map<Vec<u8>> {
     }
 
     /// Reads a file and its atlas, which [`Atlas::write`] or `depot atlas` wrote, and opens it with that.
+    #[cfg(feature = "office")]
     pub fn read_with(path: impl AsRef<Path>, atlas: impl AsRef<Path>) -> Result<Map<Vec<u8>>, Error> {
         Map::open_with(std::fs::read(path)?, std::fs::read(atlas)?)
     }
@@ -87,9 +88,29 @@ impl<B: AsRef<[u8]>> Map<B> {
     /// assert!(matches!(Map::open_with(other, &atlas), Err(Error::NotAtlas(NotAtlas::OtherMap))));
     /// # Ok::<(), uskelzar::Error>(())
     /// ```
+    #[cfg(feature = "office")]
     pub fn open_with(bytes: B, atlas: impl AsRef<[u8]>) -> Result<Map<B>, Error> {
         let map = Map::open(bytes)?;
         let atlas = Atlas::of_bytes(atlas.as_ref(), &map)?;
+        Ok(Map { atlas: Some(atlas), ..map })
+    }
+
+    /// Opens a file's bytes with those of its atlas, which is not worked out again: [`Atlas::believed`] says what is asked of it, and whose word it takes.
+    ///
+    /// ```
+    /// # #[cfg(feature = "office")] {
+    /// use uskelzar::{Atlas, Map};
+    ///
+    /// let map = Map::read("../examples/world-9.plb")?;
+    /// let atlas = Atlas::build(&map)?.to_bytes(); // in the office
+    /// let quick = Map::open_believing(map.bytes(), &atlas)?; // in the printer
+    /// assert_eq!(quick.found(52.52, 13.40)?, map.found(52.52, 13.40)?);
+    /// # }
+    /// # Ok::<(), uskelzar::Error>(())
+    /// ```
+    pub fn open_believing(bytes: B, atlas: impl AsRef<[u8]>) -> Result<Map<B>, Error> {
+        let map = Map::open(bytes)?;
+        let atlas = Atlas::believed(atlas.as_ref(), &map)?;
         Ok(Map { atlas: Some(atlas), ..map })
     }
 
@@ -104,6 +125,7 @@ impl<B: AsRef<[u8]>> Map<B> {
     }
 
     /// Builds the map's atlas and holds it, as [`Map::open_with`] holds one that is there. Where none can be built the map stays as it is.
+    #[cfg(feature = "office")]
     pub fn build_atlas(&mut self) -> Result<&Atlas, Error> {
         let atlas = Atlas::build(self)?;
         Ok(self.atlas.insert(atlas))

@@ -75,7 +75,7 @@ impl fmt::Display for Stamped {
 }
 
 impl<B: AsRef<[u8]>> Printer<B> {
-    /// A printer with a map, and the files of its zones. The room that it lends is the map's ([`Map::with_room`]); where the map holds an atlas ([`Map::open_with`]), slips are stamped through it.
+    /// A printer with a map, and the files of its zones. The room that it lends is the map's ([`Map::with_room`]); where the map holds an atlas, slips are stamped through it.
     pub fn new(map: Map<B>, zones: Bundle) -> Printer<B> {
         Printer { map, zones }
     }

@@ -1,13 +1,18 @@
 //! What an index and an atlas have in common: words that are built in a room that grows, and kept as bytes.
 
+#[cfg(feature = "office")]
 use crate::answer::Error;
+#[cfg(feature = "office")]
 use crate::raw::Reply;
+#[cfg(feature = "office")]
 use crate::refusal::{Number, Refusal};
 
 /// The least room that is tried.
+#[cfg(feature = "office")]
 const LEAST_ROOM: usize = 1 << 16;
 
 /// The words that a building gives, which is tried in a room of so many words at first; it grows while they do not fit.
+#[cfg(feature = "office")]
 pub fn built(first: usize, building: impl Fn(&mut [u32]) -> Result<Reply, Refusal>) -> Result<Vec<u32>, Error> {
     let mut room = first.max(LEAST_ROOM);
     loop {

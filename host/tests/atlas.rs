@@ -1,5 +1,6 @@
 //! The atlas: built in rooms around its need, held against files, and looked up through in every room from 0 to 64 words and 0 to 64 bytes, with file, atlas and all
 //! buffers at a page that may not be touched; and on maps, against the plain lookup.
+#![cfg(feature = "office")]
 
 mod common;
 
@@ -193,6 +194,26 @@ fn held_with_its_map() {
         }
         assert_eq!(plain.found(lat, lon).unwrap().safezone, 0.0);
     }
+}
+
+/// A printer compares length, header and table, and believes the rest: the right words answer as those that were worked out again; a cut atlas, and an index, are refused at the fix.
+#[test]
+fn believed_by_a_printer() {
+    let map = Map::read(WORLD).unwrap();
+    let bytes = Atlas::build(&map).unwrap().to_bytes();
+    let quick = Map::open_believing(map.bytes(), &bytes).unwrap();
+    assert_eq!(quick.atlas(), Map::open_with(map.bytes(), &bytes).unwrap().atlas());
+    assert_eq!(quick.lookup(52.52, 13.40).unwrap(), map.lookup(52.52, 13.40).unwrap());
+    for words in [&bytes[..bytes.len() - 4], &Index::build(&map).unwrap().to_bytes()] {
+        let cut = Map::open_believing(map.bytes(), words).unwrap().found(52.52, 13.40);
+        assert!(matches!(&cut, Err(Error::Refused(why)) if why.number == Number::OtherIndex), "{cut:?}");
+    }
+    let not = |file: &[u8], bytes: &[u8]| match Map::open_believing(file, bytes) {
+        Err(Error::NotAtlas(not)) => not,
+        _ => panic!("believed"),
+    };
+    assert_eq!(not(map.bytes(), &bytes[..bytes.len() - 1]), NotAtlas::OtherWords);
+    assert_eq!([not(map.bytes(), b"no atlas"), not(&overlap(1), &bytes), not(map.bytes(), &[])], [NotAtlas::OtherMap; 3]);
 }
 
 /// Bytes that become others behind the map's back.

@@ -1,4 +1,5 @@
 //! Files built from yards: every list at pages that may not be touched, in every room; what a built file answers; and which yard a refusal names.
+#![cfg(feature = "office")]
 
 mod common;
 

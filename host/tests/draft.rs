@@ -1,4 +1,5 @@
 //! Builders that hold yards: totals against those of a file built afresh, every refusal, room that is freed; and every list at pages that may not be touched, in every room.
+#![cfg(feature = "office")]
 
 mod common;
 

@@ -2,7 +2,9 @@
 
 use std::collections::HashMap;
 use std::fs;
-use uskelzar::raw::PROTOTYPES;
+#[cfg(feature = "office")]
+use uskelzar::raw::OFFICE_PROTOTYPES;
+use uskelzar::raw::PRINTER_PROTOTYPES;
 
 /// Functions of so many parameters have a form with structs.
 const MANY: usize = 9;
@@ -11,9 +13,15 @@ fn text() -> String {
     fs::read_to_string(concat!(env!("CARGO_MANIFEST_DIR"), "/../include/uskelzar.h")).unwrap()
 }
 
+/// Where the header's second part begins, the office's.
+const OFFICE: &str = "/* ======== The office's functions: libuskelzar-office.a";
+
 /// The header without its comments, with one blank for each run of blanks and ends of lines.
 fn header() -> String {
-    let text = text();
+    bare(&text())
+}
+
+fn bare(text: &str) -> String {
     let mut parts = text.split("/*");
     let first = parts.next().unwrap().to_string();
     let bare = parts.fold(first, |bare, part| bare + part.split_once("*/").unwrap().1);
@@ -30,8 +38,11 @@ fn in_numbers(header: &str, prototype: &str) -> String {
 
 /// What the header declares and the archive has, in the header's order.
 fn prototypes(header: &str) -> Vec<String> {
-    let exported = header.split("; ").filter(|statement| statement.starts_with("uint8_t uskelzar_"));
-    exported.map(|prototype| in_numbers(header, prototype)).collect()
+    exported(header).map(|prototype| in_numbers(header, prototype)).collect()
+}
+
+fn exported(header: &str) -> impl Iterator<Item = &str> {
+    header.split("; ").filter(|statement| statement.starts_with("uint8_t uskelzar_"))
 }
 
 /// A prototype's or a call's name, and the last name in each of what stands in its brackets: of `const uint8_t *file` and of `map->file` it is `file`.
@@ -50,13 +61,24 @@ fn forms(header: &str) -> Vec<(&str, &str)> {
 
 #[test]
 fn raw_declares_what_the_header_does() {
-    let ours: Vec<String> = PROTOTYPES.iter().map(|prototype| prototype.replace("r#", "")).collect();
-    let theirs = prototypes(&header());
+    let text = text();
+    let parts: Vec<&str> = text.split(OFFICE).collect();
+    assert_same(PRINTER_PROTOTYPES, parts[0], 20);
+    #[cfg(feature = "office")]
+    assert_same(OFFICE_PROTOTYPES, parts[1], 13);
+    assert_eq!((parts.len(), prototypes(&header()).len()), (2, 33));
+}
+
+/// The functions of an archive are those of the header's part for it, in its order.
+fn assert_same(ours: &[&str], part: &str, count: usize) {
+    let header = header();
+    let part = bare(part);
+    let theirs: Vec<String> = exported(&part).map(|prototype| in_numbers(&header, prototype)).collect();
+    let ours: Vec<String> = ours.iter().map(|prototype| prototype.replace("r#", "")).collect();
     for (ours, theirs) in ours.iter().zip(&theirs) {
         assert_eq!(ours, theirs);
     }
-    assert_eq!(ours.len(), theirs.len());
-    assert_eq!(theirs.len(), 33);
+    assert_eq!((ours.len(), theirs.len()), (count, count));
 }
 
 /// The C compiler sees to the types; this, that each list comes to its own place, and that nothing else is in a form.

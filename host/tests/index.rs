@@ -1,5 +1,6 @@
 //! The tile index: built in every room near its need, held against files, and looked up through in every room from 0 to 64 words and 0 to 64 bytes, with file,
 //! index and all buffers at a page that may not be touched; and on maps, against the plain lookup.
+#![cfg(feature = "office")]
 
 mod common;
 

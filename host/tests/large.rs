@@ -1,4 +1,5 @@
 //! The largest file, and one byte more: sparse, and mapped.
+#![cfg(feature = "office")]
 
 mod common;
 

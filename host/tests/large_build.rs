@@ -1,5 +1,6 @@
 //! The largest file that is built, one byte more, and borders that alone are over 1 GiB. Every yard has the same points, and the lists of all of them are one page range, mapped
 //! again and again.
+#![cfg(feature = "office")]
 
 use std::ffi::{c_int, c_void};
 use std::fs::File;

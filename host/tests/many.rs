@@ -1,5 +1,6 @@
 //! Many fixes: the reply and all three lists are those of lookups one by one, each in the room that the earlier ones left; in every room from 0 to 64,
 //! with the file, the fixes and all lists at a page that may not be touched.
+#![cfg(feature = "office")]
 
 mod common;
 

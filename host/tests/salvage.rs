@@ -1,5 +1,6 @@
 //! Salvage: what is kept, why the rest is dropped, and that what is kept answers as before; in every room, with the file and both outputs at a page
 //! that may not be touched.
+#![cfg(feature = "office")]
 
 mod common;
 

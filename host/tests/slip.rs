@@ -1,5 +1,6 @@
 //! The slip and its two readers, with every list at a page that may not be touched: every room from 0 to 64, requests and bundles with every byte changed, bundles cut at every length. Each time
 //! the reply is held against common/model.rs, which is document 03 once more.
+#![cfg(feature = "office")]
 
 mod common;
 

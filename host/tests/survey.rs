@@ -1,4 +1,5 @@
 //! All of a file as it stands: what is read back is what was written, and where nothing is found wrong a lookup meets nothing wrong.
+#![cfg(feature = "office")]
 
 mod common;
 

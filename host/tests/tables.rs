@@ -40,7 +40,9 @@ fn one_release() {
     let header = text("include/uskelzar.h");
     let version = env!("CARGO_PKG_VERSION");
     assert_eq!(behind(&header, "#define USKELZAR_RELEASE "), version);
-    assert_eq!(behind(&text("include/uskelzar.pc"), "Version:"), version);
+    for page in ["uskelzar", "uskelzar-office"] {
+        assert_eq!(behind(&text(&format!("include/{page}.pc")), "Version:"), version);
+    }
     let parts: Vec<u32> = version.split('.').map(|part| part.parse().unwrap()).collect();
     let number = parts[0] * 10_000 + parts[1] * 100 + parts[2];
     assert_eq!(behind(&header, "#define USKELZAR_RELEASE_NUMBER "), number.to_string());
@@ -153,6 +155,7 @@ fn one_width_of_a_hit() {
     assert_eq!(behind(&code, "pub const WIDTH: usize =").trim_end_matches(';'), raw::HIT_WORDS.to_string());
 }
 
+#[cfg(feature = "office")]
 #[test]
 fn one_width_of_a_state() {
     let header = text("include/uskelzar.h");

@@ -1,4 +1,5 @@
 //! The border writer at pages that may not be touched, and borders read back.
+#![cfg(feature = "office")]
 
 mod common;
 

@@ -13,7 +13,7 @@ const BYTES: usize = 1024;
 mod library;
 
 #[link(name = "uskelzar", kind = "static")]
-#[link(name = "office", kind = "static")]
+#[link(name = "uskelzar-office", kind = "static")]
 extern "C" {}
 
 /// What builds words beside a file, and what says that they go with it.
@@ -130,9 +130,10 @@ fn fold_zones(sum: &mut Checksum, hits: &[u32], text: &mut &[u8], fields: u8) {
     }
 }
 
-/// So many fixes a call, with as much room for each as a single lookup has.
+/// So many fixes a call, with as much room for each as a single lookup has; through an atlas where there are words.
 struct Together<'a> {
     file: &'a [u8],
+    atlas: &'a [u32],
     asked: bool,
     hits: Vec<u32>,
     text: Vec<u8>,
@@ -141,8 +142,12 @@ struct Together<'a> {
 
 impl Together<'_> {
     fn ask(&mut self, lats: &[f32], lons: &[f32]) {
+        let Together { file, atlas, asked, hits, text, answers } = self;
         let mut reply = [0; 5];
-        let refusal = library::uskelzar_lookup_many(self.file, lats, lons, self.asked, &mut self.hits, &mut self.text, &mut self.answers, &mut reply);
+        let refusal = match atlas {
+            [] => library::uskelzar_lookup_many(file, lats, lons, *asked, hits, text, answers, &mut reply),
+            words => library::uskelzar_many_atlas(file, words, lats, lons, *asked, hits, text, answers, &mut reply),
+        };
         assert_eq!(refusal, 0, "refused at fix {}", reply[2]);
     }
 
@@ -159,16 +164,17 @@ impl Together<'_> {
     }
 }
 
-fn run_together(task: &Task, file: &[u8], size: usize) {
+fn run_together(task: &Task, file: &[u8], atlas: &[u32], size: usize) {
     let mut together = Together {
         file,
+        atlas,
         asked: matches!(task.question, Question::WithSafezone),
         hits: vec![0; WORDS * size],
         text: vec![0; BYTES * size],
         answers: vec![0; 3 * size],
     };
     let (mut lats, mut lons) = (vec![0.0; size], vec![0.0; size]);
-    task.run_together(size, |fixes, sum| {
+    task.run_together(size, file, atlas, |fixes, sum| {
         for (i, fix) in fixes.iter().enumerate() {
             (lats[i], lons[i]) = *fix;
         }
@@ -184,11 +190,13 @@ fn main() {
     let file = fs::read(&task.map).expect("map");
     let index = match (task.question, task.way) {
         (Question::Build | Question::Check, _) => return run_beside(&task, &file),
-        (_, Way::Together(size)) => return run_together(&task, &file, size),
-        (_, Way::Plain) => vec![],
+        (_, Way::Plain | Way::Together { atlas: false, .. }) => vec![],
         (_, Way::Through | Way::Indexed) => INDEX.of(&file),
-        (_, Way::Atlas) => ATLAS.of(&file),
+        (_, Way::Atlas | Way::Together { atlas: true, .. }) => ATLAS.of(&file),
     };
+    if let Way::Together { size, .. } = task.way {
+        return run_together(&task, &file, &index, size);
+    }
     let mut ours = Ours {
         file: &file,
         index: &index,

@@ -1,23 +1,20 @@
 -- What building puts behind the index: entry by entry, and as a whole. Assumes nothing.
-use Prim.Native.Nat.{ℕ, zero, suc, _+_, _-_, _*_, _/_, _%_, _^_, _<_, _≤_}
-use borrow.Author.Tests.{eq-eqb, ne-eqb, le-leb, lt-leb, lt-ltb, le-ltb, leb-true, ltb-true}
-use lib.{Dec.{ltb, leb, eqb}, ListN.{length, set, take, drop, getD, length-append, length-replicate}, Seq.{sets, length-sets, sets-eq, getD-set-other, take-append-seam, drop-append-add}}
-use mathlib.Core.{Bool.{Bool, true, false, _&&_}, List.{List, [], _∷_, _++_, append-assoc}, Path.{_≡_, refl, sym, ap, subst, _∙_}}
-use native.Mathlib.Omega.{arith}
-use Rattle.border.specs.declared.reader.{Reader.{Reader}, Encoding.{Encoding}}
+use Rattle.numbers.proofs.{Lists.{zeros-drop, sets-append}, Prelude.{ℕ, zero, suc, _+_, _-_, _*_, _/_, _%_, _^_, _≤_, _<_, eq-eqb, ne-eqb, lt-ltb, le-leb, le-ltb, leb-true, ltb-true, lt-leb, eqb}}
+use Rattle.numbers.proofs.Prelude.{ltb, leb, length, getD, set, length-append, length-replicate, sets, length-sets, take-append-seam, sets-eq, getD-set-other, Bool, true, false, List, [], _∷_, _++_}
+use Rattle.numbers.{proofs.{Prelude.{_≡_, refl, sym, ap, subst, _∙_, arith}, Replies.{carried, onward, met, unmet, given-from, given-one, demanded}, Tests.{both}}, specs.Answer.{if_then_else_}}
+use Rattle.numbers.specs.{Lists.{zeros, padded}, Reply.{Reply, given, refused, plain, demand, _>>=_, _>>_}, declared.refusal.Refusal.{Refusal}}
+use lib.Seq.{drop-append-add}
+use Rattle.border.specs.declared.reader.{Encoding.{Encoding}, Reader.{Reader}}
 use Rattle.header.specs.{Header.{headOf}, declared.header.Head.{Head}}
-use Rattle.index.{proofs.{Stores.{set-before, sets-before, read-below}, Sides.{and-first}, Standing.{so-both, and-not}}, specs.Index.{joined, recordsAt, indexOf, hasRoom, indexWith, indexIn, Indexed, indexed, indexedBy, indexedOf, toldBuilt}}
-use Rattle.index.specs.declared.build.Built.{Built}
-use Rattle.index.specs.declared.build.Built.the-variants as T
-use Rattle.index.specs.{Table.{tableOf}, Tied.{wordAt}}
+use Rattle.index.{proofs.{Sides.{and-first}, Standing.{so-both, and-not}, Stores.{set-before, sets-before, read-below, same-word}}, specs.Index.{joined, recordsAt, indexOf, hasRoom, indexWith}}
+use Rattle.index.specs.{Index.{indexIn, Indexed, indexed, indexedBy, indexedOf, toldBuilt}, Table.{tableOf}, Tied.{wordAt}, declared.build.Built.{Built}}
 use Rattle.marks.{proofs.Marked.{marks-length}, specs.Marks.{low, marksAt, marksFrom, stretchEdges, groupEdges, groupsOf, levelsFrom, counted}}
-use Rattle.numbers.{proofs.{Lists.{zeros-drop}, Replies.{carried, onward, met, unmet, given-from, given-one, demanded}, Tests.{both}}, specs.Lists.{zeros, padded}}
-use Rattle.numbers.specs.{Answer.{if_then_else_}, Reply.{Reply, given, refused, plain, demand, _>>=_, _>>_}, declared.refusal.Refusal.{Refusal}}
 use Rattle.table.specs.{Find.{isPrecision}, MarkedRows.{encodingIn}, declared.rows.Row.{Row}}
-use Rattle.writer.{specs.inner.Stored.{Stored}, proofs.Stores.{sets-append}}
-use Rattle.atlas.proofs.{Beside.{entries-length, index-long, rows-there, marks-by-words}, Writing.{same-word}}
-use Rattle.atlas.specs.Atlas.{marksFor, marksIn, entryOf, entriesFrom, besideOf, wholeOf, atlasOf, atlasWith, atlasIn, atlasMade}
-use Rattle.atlas.specs.{inner.{Building.{marksAtRecord, marksBy, behindBy, behindOf, sizeOf, entryFor, PutOne}, Marking.{marksOf}}, declared.course.Course.{Course}}
+use Rattle.atlas.proofs.Beside.{entries-length, index-long, rows-there, marks-by-words}
+use Rattle.atlas.specs.{Atlas.{marksFor, marksIn, entryOf, entriesFrom, besideOf, atlasOf, atlasWith, atlasIn, atlasMade}, declared.course.Course.{Course}}
+use Rattle.atlas.specs.inner.{Building.{marksAtRecord, marksBy, behindBy, behindOf, sizeOf, entryFor, PutOne}, Marking.{marksOf}}
+use Rattle.writer.specs.inner.Stored.{Stored}
+use Rattle.index.specs.declared.build.Built.the-variants as T
 
 -- ---- the word of an entry
 pub entry-is : (at next first : ℕ) (list : List ℕ) → next ≡ at + length list → first ≤ at → entryFor (at - first) (next - first) ≡ entryOf (at - first) list
@@ -27,38 +24,36 @@ entry-is at next first (x ∷ xs) e h = rw (ne-eqb (at - first) (next - first) (
 
 -- how many words the marks have
 pub levels-length : (file : List ℕ) (encoding : Encoding) (count : ℕ) (s : Reader) → length (levelsFrom count file encoding s) ≡ 11 * count + 11 * groupsOf count
-levels-length file encoding count s =
-    let fine = marksFrom stretchEdges count file encoding s in
+levels-length file encoding count s = let fine = marksFrom stretchEdges count file encoding s in
     let coarse = marksFrom groupEdges (groupsOf count) file encoding s in
     omega (arith, length-append fine coarse, marks-length stretchEdges count file encoding s, marks-length groupEdges (groupsOf count) file encoding s)
 
 pub marks-size : (file : List ℕ) (encoding : Encoding) (course : Course) → length (marksOf file encoding course) ≡ sizeOf (course .count)
 unfolding counted
-marks-size file encoding course = go (course .count) (levelsFrom (course .count) file encoding (course .first)) (levels-length file encoding (course .count) (course .first))
-  where
-    go : (count : ℕ) (xs : List ℕ) → length xs ≡ 11 * count + 11 * groupsOf count → length (counted count xs) ≡ sizeOf count
-    go zero xs e = refl
-    go (suc count) xs e = rw (ne-eqb (suc count) 0 (λ z. omega (arith, z))) (omega (arith, e))
+marks-size file encoding course = go (course .count) (levelsFrom (course .count) file encoding (course .first)) (levels-length file encoding (course .count) (course .first)) where
+  go : (count : ℕ) (xs : List ℕ) → length xs ≡ 11 * count + 11 * groupsOf count → length (counted count xs) ≡ sizeOf count
+  go zero xs e = refl
+  go (suc count) xs e = rw (ne-eqb (suc count) 0 (λ z. omega (arith, z))) (omega (arith, e))
 
 pub groups-few : (count : ℕ) → groupsOf count ≤ count / 16 + 1
 unfolding groupsOf
 groups-few count = omega arith
 
 pub size-few : (count : ℕ) → count ≤ 2 ^ 18 → sizeOf count ≤ 2 ^ 22
-size-few count h = choose (eqb count 0)
-  where
-    choose : (b : Bool) → (if b then 0 else (1 + 11 * count + 11 * groupsOf count)) ≤ 2 ^ 22
-    choose true = omega arith
-    choose false = omega (arith, h, groups-few count)
+size-few count h = choose (eqb count 0) where
+  choose : (b : Bool) → (if b then 0 else (1 + 11 * count + 11 * groupsOf count)) ≤ 2 ^ 22
+  choose true = omega arith
+  choose false = omega (arith, h, groups-few count)
 
 -- the border of a record
 pub course-there : (file : List ℕ) (head : Head) (words : List ℕ) (k : ℕ) (course : Course) {encoding : Encoding} {place : ℕ} → encoding ≡ encodingIn head
-    → place ≡ (head .sections .«data» + getD words (recordsAt + 7 * k + 2) 0) % 2 ^ 32 → marksOf file encoding course ≡ marksAt file encoding place → marksOf file (encodingIn head) course ≡ marksAtRecord file head words k
+    → place ≡ (head .sections .«data» + getD words (recordsAt + 7 * k + 2) 0) % 2 ^ 32 → marksOf file encoding course ≡ marksAt file encoding place
+    → marksOf file (encodingIn head) course ≡ marksAtRecord file head words k
 course-there file head words k course {encoding} {place} e p is = (λ i. marksOf file (sym e i) course) ∙ is ∙ (λ i. marksAt file (e i) (p i))
 
 -- one entry's word and marks, stored
-pub put-one : {before middle after list list′ : List ℕ} {place at next end word word′ : ℕ} → list ≡ list′ → Stored before at list middle next → word ≡ word′ → Stored middle place (word ∷ []) after end
-    → PutOne before place at word′ list′ after next
+pub put-one : {before middle after list list′ : List ℕ} {place at next end word word′ : ℕ} → list ≡ list′ → Stored before at list middle next → word ≡ word′
+    → Stored middle place (word ∷ []) after end → PutOne before place at word′ list′ after next
 put-one {before} {middle} {after} {list} {list′} {place} {at} {next} {end} {word} {word′} is s w p = record {
   place-after = s .place-after ∙ ap (λ (l : List ℕ). at + length l) is;
   stored = p .stored ∙ (λ i. set (s .stored i) place (w i)) ∙ ap (λ (l : List ℕ). set (sets before at l) place word′) is;
@@ -98,15 +93,9 @@ module _ (file : List ℕ) (head : Head) (before : List ℕ) (n first : ℕ) whe
     pub records : (i : ℕ) → i < first → getD now i 0 ≡ getD before i 0
 
   pub entering-starts : Entering before (first + n) 0
-  entering-starts =
-      let z : n - 0 ≡ n = omega arith in
-      let f : first + 0 ≡ first = omega arith in
-      let long = by-length file head before n 0 in
-      let b : first + n - first ≡ length all = omega (arith, long) in
-      let entries = entriesFrom (length all) all in
-      let many = entries-length (length all) all in
-      let behind : first + n ≡ first + length entries = omega (arith, many, long) in
-      record {
+  entering-starts = let z : n - 0 ≡ n = omega arith in let f : first + 0 ≡ first = omega arith in let long = by-length file head before n 0 in
+      let b : first + n - first ≡ length all = omega (arith, long) in let entries = entriesFrom (length all) all in
+      let many = entries-length (length all) all in let behind : first + n ≡ first + length entries = omega (arith, many, long) in record {
         within = omega arith;
         above = omega arith;
         few = omega arith;
@@ -136,8 +125,7 @@ module _ (file : List ℕ) (head : Head) (before : List ℕ) (n first : ℕ) whe
     module _ {after : List ℕ} {next : ℕ} (p : PutOne now (first + k) at word list after next) (short : next ≤ at + 2 ^ 22) where
       all-stored : sets after next (joined later) ≡ set (sets now at (list ++ joined later)) (first + k) word
       all-stored =
-          ap (λ (m : List ℕ). sets m next (joined later)) (p .stored)
-          ∙ sym (set-before (joined later) (sets now at list) (first + k) next word (omega (arith, g .above, p .place-after)))
+          ap (λ (m : List ℕ). sets m next (joined later)) (p .stored) ∙ sym (set-before (joined later) (sets now at list) (first + k) next word (omega (arith, g .above, p .place-after)))
           ∙ ap (λ (m : List ℕ). set m (first + k) word) (ap (λ (j : ℕ). sets (sets now at list) j (joined later)) (p .place-after) ∙ sym (sets-append list (joined later) now at))
 
       was : sets (sets now at (list ++ joined later)) (first + k) (word ∷ entriesFrom (at - first + length list) later) ≡ sets before first (besideOf all)
@@ -149,10 +137,8 @@ module _ (file : List ℕ) (head : Head) (before : List ℕ) (n first : ℕ) whe
       place = rw (by-next file head before n k more) at (g .places)
 
       entered : Entering after next (k + 1)
-      entered =
-          let up : first + (k + 1) ≡ suc (first + k) = omega arith in
-          let on : next - first ≡ at - first + length list = omega (arith, g .above, p .place-after) in
-          record {
+      entered = let up : first + (k + 1) ≡ suc (first + k) = omega arith in
+          let on : next - first ≡ at - first + length list = omega (arith, g .above, p .place-after) in record {
             within = omega arith;
             above = omega (arith, g .above, p .place-after);
             few = omega (arith, g .few, short);
@@ -175,30 +161,27 @@ module _ (file : List ℕ) (head : Head) (before : List ℕ) (n first : ℕ) whe
 
   pub entering-ends : {now : List ℕ} {at k : ℕ} → Entering now at k → n ≤ k → Stored before first (besideOf all) now at
   unfolding joined entriesFrom
-  entering-ends {now} {at} {k} g h =
-      let none = by-done file head before n k h in
-      let was = rw none at (g .same) in
-      let place = rw none at (g .places) in
-      record {
+  entering-ends {now} {at} {k} g h = let none = by-done file head before n k h in let was = rw none at (g .same) in
+      let place = rw none at (g .places) in record {
         place-after = omega (arith, place, length-append (entriesFrom (length all) all) (joined all), entries-length (length all) all, by-length file head before n 0);
         stored = was;
       }
 
 -- ---- the length before them
-pub behind-stored : {before middle after beside : List ℕ} {used all end : ℕ} → Stored before (used + 1) beside middle all → Stored middle used (low all ∷ []) after end → Stored before used (behindBy beside used) after all
-behind-stored {before} {middle} {after} {beside} {used} {all} s p =
-    let up : used + 1 ≡ suc used = omega arith in
-    record {
-      place-after = omega (arith, s .place-after);
-      stored =
-          p .stored
-          ∙ ap (λ (m : List ℕ). set m used (low all)) (s .stored)
-          ∙ set-before beside before used (used + 1) (low all) (omega arith)
-          ∙ (λ i. sets (set before used (low (s .place-after i))) (up i) beside);
-    }
+pub behind-stored : {before middle after beside : List ℕ} {used all end : ℕ} → Stored before (used + 1) beside middle all → Stored middle used (low all ∷ []) after end
+    → Stored before used (behindBy beside used) after all
+behind-stored {before} {middle} {after} {beside} {used} {all} s p = let up : used + 1 ≡ suc used = omega arith in record {
+  place-after = omega (arith, s .place-after);
+  stored =
+      p .stored
+      ∙ ap (λ (m : List ℕ). set m used (low all)) (s .stored)
+      ∙ set-before beside before used (used + 1) (low all) (omega arith)
+      ∙ (λ i. sets (set before used (low (s .place-after i))) (up i) beside);
+}
 
-pub behind-put : (file : List ℕ) (head : Head) (before : List ℕ) {middle after : List ℕ} {used all end n word : ℕ} → n ≡ wordAt before 2 → Stored before (used + 1) (besideOf (marksBy file head before n 0)) middle all
-    → word ≡ low all → Stored middle used (word ∷ []) after end → Stored before used (behindOf file head before used) after all
+pub behind-put : (file : List ℕ) (head : Head) (before : List ℕ) {middle after : List ℕ} {used all end n word : ℕ} → n ≡ wordAt before 2
+    → Stored before (used + 1) (besideOf (marksBy file head before n 0)) middle all → word ≡ low all → Stored middle used (word ∷ []) after end
+    → Stored before used (behindOf file head before used) after all
 behind-put file head before {middle} {after} {used} {all} e s w p =
     behind-stored (subst (λ (n : ℕ). Stored before (used + 1) (besideOf (marksBy file head before n 0)) middle all) e s) (same-word w p)
 
@@ -222,14 +205,12 @@ module _ (file : List ℕ) (n : ℕ) where
 
   -- a room that has none for fewer words has none for more
   more-words : (few many : ℕ) → few ≤ many → hasRoom n few ≡ false → hasRoom n many ≡ false
-  more-words few many h e = go (hasRoom n many) refl
-    where
-      go : (b : Bool) → hasRoom n many ≡ b → b ≡ false
-      go false m = refl
-      go true m =
-          let t = both (leb many n) (ltb many (2 ^ 32)) m in
-          let small = so-both (leb few n) (ltb few (2 ^ 32)) (le-leb few n (omega (arith, h, leb-true many n (t .0)))) (lt-ltb few (2 ^ 32) (omega (arith, h, ltb-true many (2 ^ 32) (t .1)))) in
-          sym small ∙ e
+  more-words few many h e = go (hasRoom n many) refl where
+    go : (b : Bool) → hasRoom n many ≡ b → b ≡ false
+    go false m = refl
+    go true m = let t = both (leb many n) (ltb many (2 ^ 32)) m in
+        let small = so-both (leb few n) (ltb few (2 ^ 32)) (le-leb few n (omega (arith, h, leb-true many n (t .0)))) (lt-ltb few (2 ^ 32) (omega (arith, h, ltb-true many (2 ^ 32) (t .1)))) in
+        sym small ∙ e
 
   module _ {head : Head} (opened : given head ≡ headOf file) where
     longer : (rows : List Row) → length (indexOf file head rows) ≤ length (atlasOf file head rows)
@@ -244,33 +225,31 @@ module _ (file : List ℕ) (n : ℕ) where
 
     no-atlas : {why : Refusal} (table : Reply (List Row)) → refused why ≡ indexFrom table → refused why ≡ atlasFrom table
     no-atlas (refused w) e = e
-    no-atlas {why} (given rows) e = choose (hasRoom n (length (indexOf file head rows))) refl e
-      where
-        choose : (b : Bool) → hasRoom n (length (indexOf file head rows)) ≡ b → refused why ≡ (demand b (plain 35) >> given (indexOf file head rows))
-            → refused why ≡ (demand (hasRoom n (length (atlasOf file head rows))) (plain 35) >> given (atlasOf file head rows))
-        choose true r e = let z : _≡_ {A = ℕ} 0 1 = cc in absurd (omega arith)
-        choose false r e = e ∙ unmet (more-words (length (indexOf file head rows)) (length (atlasOf file head rows)) (longer rows) r) (plain 35) _
+    no-atlas {why} (given rows) e = choose (hasRoom n (length (indexOf file head rows))) refl e where
+      choose : (b : Bool) → hasRoom n (length (indexOf file head rows)) ≡ b → refused why ≡ (demand b (plain 35) >> given (indexOf file head rows))
+          → refused why ≡ (demand (hasRoom n (length (atlasOf file head rows))) (plain 35) >> given (atlasOf file head rows))
+      choose true r e = let z : _≡_ {A = ℕ} 0 1 = cc in absurd (omega arith)
+      choose false r e = e ∙ unmet (more-words (length (indexOf file head rows)) (length (atlasOf file head rows)) (longer rows) r) (plain 35) _
 
     -- where there is no index there is no atlas
     pub no-index : {why : Refusal} → refused why ≡ indexIn file n → refused why ≡ atlasIn file n
     unfolding indexIn indexWith atlasIn atlasWith
     no-index {why} e = by-precision (isPrecision (head .preamble .precision)) refl (e ∙ sym (onward opened (λ (h : Head). indexWith file h n))) ∙ onward opened (λ (h : Head). atlasWith file h n)
       where
-        by-precision : (b : Bool) → isPrecision (head .preamble .precision) ≡ b → refused why ≡ (demand b (plain 16) >> indexFrom (tableOf file head)) → refused why ≡ (demand (isPrecision (head .preamble .precision)) (plain 16) >> atlasFrom (tableOf file head))
+        by-precision : (b : Bool) → isPrecision (head .preamble .precision) ≡ b → refused why ≡ (demand b (plain 16) >> indexFrom (tableOf file head))
+            → refused why ≡ (demand (isPrecision (head .preamble .precision)) (plain 16) >> atlasFrom (tableOf file head))
         by-precision true p e = no-atlas (tableOf file head) e ∙ met p (plain 16) _
         by-precision false p e = e ∙ unmet p (plain 16) _
 
     -- what the index was refused with, the atlas is
     pub refused-made : {why : Refusal} {ws : List ℕ} → indexed (refused why) ws ≡ indexedOf file n → indexed (refused why) ws ≡ atlasMade file n
     unfolding indexedOf indexedBy whyOf
-    refused-made {why} {ws} e = go (indexIn file n) refl e
-      where
-        go : (reply : Reply (List ℕ)) → reply ≡ indexIn file n → indexed (refused why) ws ≡ indexedBy n reply → indexed (refused why) ws ≡ atlasMade file n
-        go (given words) w e = impossible (ap (λ (i : Indexed). i .reply) e)
-          where
-            impossible : {A : Type 0} → refused why ≡ given (length words) → A
-            impossible e = let z : _≡_ {A = ℕ} 0 1 = cc in absurd (omega arith)
-        go (refused w) same e = not-made (no-index (ap (λ (r : Refusal). refused r) (ap (λ (i : Indexed). whyOf w (i .reply)) e) ∙ same)) (ap (λ (i : Indexed). i .words) e)
+    refused-made {why} {ws} e = go (indexIn file n) refl e where
+      go : (reply : Reply (List ℕ)) → reply ≡ indexIn file n → indexed (refused why) ws ≡ indexedBy n reply → indexed (refused why) ws ≡ atlasMade file n
+      go (given words) w e = impossible (ap (λ (i : Indexed). i .reply) e) where
+        impossible : {A : Type 0} → refused why ≡ given (length words) → A
+        impossible e = let z : _≡_ {A = ℕ} 0 1 = cc in absurd (omega arith)
+      go (refused w) same e = not-made (no-index (ap (λ (r : Refusal). refused r) (ap (λ (i : Indexed). whyOf w (i .reply)) e) ∙ same)) (ap (λ (i : Indexed). i .words) e)
 
     pub refused-told : {why : Refusal} {ws : List ℕ} {r : Built} → indexed (toldBuilt r) ws ≡ indexedOf file n → r ≡ T.Refused why → indexed (refused why) ws ≡ atlasMade file n
     refused-told {why} {ws} e u = refused-made (ap (λ (b : Built). indexed (toldBuilt b) ws) (sym u) ∙ e)
@@ -296,42 +275,35 @@ pub record IndexMade (file : List ℕ) (n : ℕ) (used : ℕ) (ws : List ℕ) (h
 
 pub index-made : (file : List ℕ) (n : ℕ) {used : ℕ} {ws : List ℕ} {head : Head} → given head ≡ headOf file → indexed (given used) ws ≡ indexedOf file n → IndexMade file n used ws head
 unfolding indexedOf indexedBy indexIn indexWith
-index-made file n {used} {ws} {head} opened e = go (indexIn file n) refl e
-  where
-    go : (reply : Reply (List ℕ)) → reply ≡ indexIn file n → indexed (given used) ws ≡ indexedBy n reply → IndexMade file n used ws head
-    go (given words) w e =
-        let here : given words ≡ indexWith file head n = w ∙ sym (onward opened (λ (h : Head). indexWith file h n)) in
-        let p = demanded (isPrecision (head .preamble .precision)) (plain 16) here in
-        let t = given-from (tableOf file head) _ (p .1) in
-        let r = demanded (hasRoom n (length (indexOf file head (t .it)))) (plain 35) (t .onto) in
-        let is : words ≡ indexOf file head (t .it) = given-one (r .1) in
-        let room = both (leb (length (indexOf file head (t .it))) n) (ltb (length (indexOf file head (t .it))) (2 ^ 32)) (r .0) in
-        let used-is : used ≡ length (indexOf file head (t .it)) = given-one (ap (λ (i : Indexed). i .reply) e) ∙ ap length is in
-        record {
-          precise = p .0;
-          rows = t .it;
-          listed = t .is;
-          said = used-is;
-          fits = omega (arith, used-is, leb-true (length (indexOf file head (t .it))) n (room .0));
-          small = omega (arith, used-is, ltb-true (length (indexOf file head (t .it))) (2 ^ 32) (room .1));
-          whole = ap (λ (i : Indexed). i .words) e ∙ ap (padded n) is;
-        }
-    go (refused why) w e = impossible (ap (λ (i : Indexed). i .reply) e)
-      where
-        impossible : {A : Type 0} → given used ≡ refused why → A
-        impossible e = let z : _≡_ {A = ℕ} 0 1 = cc in absurd (omega arith)
+index-made file n {used} {ws} {head} opened e = go (indexIn file n) refl e where
+  go : (reply : Reply (List ℕ)) → reply ≡ indexIn file n → indexed (given used) ws ≡ indexedBy n reply → IndexMade file n used ws head
+  go (given words) w e = let here : given words ≡ indexWith file head n = w ∙ sym (onward opened (λ (h : Head). indexWith file h n)) in
+      let p = demanded (isPrecision (head .preamble .precision)) (plain 16) here in let t = given-from (tableOf file head) _ (p .1) in
+      let r = demanded (hasRoom n (length (indexOf file head (t .it)))) (plain 35) (t .onto) in let is : words ≡ indexOf file head (t .it) = given-one (r .1) in
+      let room = both (leb (length (indexOf file head (t .it))) n) (ltb (length (indexOf file head (t .it))) (2 ^ 32)) (r .0) in
+      let used-is : used ≡ length (indexOf file head (t .it)) = given-one (ap (λ (i : Indexed). i .reply) e) ∙ ap length is in record {
+        precise = p .0;
+        rows = t .it;
+        listed = t .is;
+        said = used-is;
+        fits = omega (arith, used-is, leb-true (length (indexOf file head (t .it))) n (room .0));
+        small = omega (arith, used-is, ltb-true (length (indexOf file head (t .it))) (2 ^ 32) (room .1));
+        whole = ap (λ (i : Indexed). i .words) e ∙ ap (padded n) is;
+      }
+  go (refused why) w e = impossible (ap (λ (i : Indexed). i .reply) e) where
+    impossible : {A : Type 0} → given used ≡ refused why → A
+    impossible e = let z : _≡_ {A = ℕ} 0 1 = cc in absurd (omega arith)
 
-pub index-told : (file : List ℕ) (n : ℕ) {used : ℕ} {ws : List ℕ} {head : Head} {r : Built} → given head ≡ headOf file → indexed (toldBuilt r) ws ≡ indexedOf file n → r ≡ T.Used used → IndexMade file n used ws head
+pub index-told : (file : List ℕ) (n : ℕ) {used : ℕ} {ws : List ℕ} {head : Head} {r : Built} → given head ≡ headOf file → indexed (toldBuilt r) ws ≡ indexedOf file n
+    → r ≡ T.Used used → IndexMade file n used ws head
 index-told file n {used} {ws} opened e u = index-made file n opened (ap (λ (b : Built). indexed (toldBuilt b) ws) (sym u) ∙ e)
 
 -- words over the zeros behind others
 pub over-zeros : (n : ℕ) (xs ys : List ℕ) → length xs + length ys ≤ n → sets (padded n xs) (length xs) ys ≡ padded n (xs ++ ys)
-over-zeros n xs ys h =
-    let z = zeros (n - length xs) in
+over-zeros n xs ys h = let z = zeros (n - length xs) in
     let long : length (xs ++ z) ≡ n = omega (arith, h, length-append xs z, length-replicate {A = ℕ} (n - length xs) 0) in
     let left : n - length xs - length ys ≡ n - length (xs ++ ys) = omega (arith, length-append xs ys) in
-    sets-eq ys (xs ++ z) (length xs) (omega (arith, long, h))
-    ∙ (λ i. (take-append-seam xs z i ++ ys) ++ (drop-append-add xs z (length ys) ∙ zeros-drop (length ys) (n - length xs) ∙ ap zeros left) i)
+    sets-eq ys (xs ++ z) (length xs) (omega (arith, long, h)) ∙ (λ i. (take-append-seam xs z i ++ ys) ++ (drop-append-add xs z (length ys) ∙ zeros-drop (length ys) (n - length xs) ∙ ap zeros left) i)
 
 module _ (file : List ℕ) (n : ℕ) {used : ℕ} {ws : List ℕ} {head : Head} (opened : given head ≡ headOf file) (m : IndexMade file n used ws head) where
   abbrev index : List ℕ
@@ -341,16 +313,14 @@ module _ (file : List ℕ) (n : ℕ) {used : ℕ} {ws : List ℕ} {head : Head} 
   beside = besideOf (marksIn file head (m .rows))
 
   pub long-enough : (recordsAt + 7 * wordAt ws 2 ≤ used) × (used ≤ length ws) × (used < 2 ^ 32)
-  long-enough =
-      let z = zeros (n - length index) in
+  long-enough = let z = zeros (n - length index) in
       let third : wordAt ws 2 ≡ length (m .rows) = ap (λ (w : List ℕ). getD w 2 0) (m .whole) ∙ rows-there file head (m .rows) z in
       let long : length ws ≡ length index + length z = ap length (m .whole) ∙ length-append index z in
       (omega (arith, third, index-long file head (m .rows) z, m .said), omega (arith, long, m .said), m .small)
 
   -- what is put behind it
   is-behind : behindOf file head ws used ≡ behindBy beside (length index)
-  is-behind =
-      let z = zeros (n - length index) in
+  is-behind = let z = zeros (n - length index) in
       let by : marksBy file head ws (wordAt ws 2) 0 ≡ marksIn file head (m .rows) = ap (λ (w : List ℕ). marksBy file head w (wordAt w 2) 0) (m .whole) ∙ marks-by-words file head (m .rows) z in
       (λ i. behindBy (besideOf (by i)) (m .said i))
 
@@ -360,14 +330,13 @@ module _ (file : List ℕ) (n : ℕ) {used : ℕ} {ws : List ℕ} {head : Head} 
 
   module _ {after : List ℕ} {all : ℕ} (s : Stored ws used (behindOf file head ws used) after all) where
     pub all-is : all ≡ length (atlasOf file head (m .rows))
-    all-is =
-        s .place-after
-        ∙ omega (arith, ap length is-behind, m .said, length-append index (behindBy beside (length index)), ap length whole-is)
+    all-is = s .place-after ∙ omega (arith, ap length is-behind, m .said, length-append index (behindBy beside (length index)), ap length whole-is)
 
     pub has-made : all ≤ n → all < 2 ^ 32 → indexed (given all) after ≡ atlasMade file n
     has-made h k =
         let long = all-is in
-        let room = so-both (leb (length (atlasOf file head (m .rows))) n) (ltb (length (atlasOf file head (m .rows))) (2 ^ 32)) (le-leb (length (atlasOf file head (m .rows))) n (omega (arith, h, long))) (lt-ltb (length (atlasOf file head (m .rows))) (2 ^ 32) (omega (arith, k, long))) in
+        let room = so-both (leb (length (atlasOf file head (m .rows))) n) (ltb (length (atlasOf file head (m .rows))) (2 ^ 32))
+        (le-leb (length (atlasOf file head (m .rows))) n (omega (arith, h, long))) (lt-ltb (length (atlasOf file head (m .rows))) (2 ^ 32) (omega (arith, k, long))) in
         let fits : length index + length (behindBy beside (length index)) ≤ n = omega (arith, h, long, length-append index (behindBy beside (length index)), ap length whole-is) in
         made file n (with-room file n opened (m .precise) (m .listed) room) long
         (s .stored ∙ (λ i. sets (m .whole i) (m .said i) (is-behind i)) ∙ over-zeros n index (behindBy beside (length index)) fits ∙ ap (padded n) whole-is)

@@ -1,15 +1,13 @@
 -- What stands where beside the index: the words of the entries, and the marks. Assumes nothing.
-use Prim.Native.Nat.{ℕ, zero, suc, _+_, _*_, _<_, _≤_}
-use lib.{ListN.{length, take, drop, getD, length-append, List·getD-append}, Seq.{getD-append-add, getD-drop, getD-take}}
-use mathlib.Core.{List.{List, [], _∷_, _++_, append-assoc}, Path.{_≡_, refl, sym, ap, _∙_}}
-use native.Mathlib.Omega.{arith}
+use Rattle.numbers.proofs.Prelude.{ℕ, zero, suc, _+_, _*_, _≤_, _<_, length, take, drop, getD, length-append, List·getD-append, getD-take, getD-drop, getD-append-add, List, [], _∷_, _++_}
+use Rattle.numbers.proofs.Prelude.{append-assoc, _≡_, refl, sym, ap, _∙_, arith}
 use Rattle.header.specs.declared.header.Head.{Head}
 use Rattle.index.{proofs.{LaidOut.{joined-split, records-there}, Whole.{holds-rest}}, specs.{Index.{recordOf, recordsOf, joined, recordsAt, indexOf}, Tied.{wordAt}}}
-use Rattle.index.proofs.BuiltIsTied as B
-use Rattle.index.proofs.Whole as W
 use Rattle.marks.proofs.ReadBack.{At}
 use Rattle.table.specs.{GivenRows.{recordWord}, declared.rows.Row.{Row}}
 use Rattle.atlas.specs.{Atlas.{marksFor, marksIn, entryOf, entriesFrom, besideOf}, inner.Building.{marksBy}}
+use Rattle.index.proofs.BuiltIsTied as B
+use Rattle.index.proofs.Whole as W
 
 pub entries-length : (at : ℕ) (lists : List (List ℕ)) → length (entriesFrom at lists) ≡ length lists
 unfolding entriesFrom
@@ -17,8 +15,7 @@ entries-length at [] = refl
 entries-length at (list ∷ lists) = ap suc (entries-length (at + length list) lists)
 
 -- an entry's word
-pub entry-at : (at : ℕ) (lists : List (List ℕ)) (more : List ℕ) (k : ℕ) → k < length lists
-    → getD (entriesFrom at lists ++ more) k 0 ≡ entryOf (at + length (joined (take k lists))) (getD lists k [])
+pub entry-at : (at : ℕ) (lists : List (List ℕ)) (more : List ℕ) (k : ℕ) → k < length lists → getD (entriesFrom at lists ++ more) k 0 ≡ entryOf (at + length (joined (take k lists))) (getD lists k [])
 unfolding entriesFrom joined
 entry-at at [] more k h = absurd (omega (arith, h))
 entry-at at (list ∷ lists) more zero h = let e : at ≡ at + 0 = omega arith in ap (λ (j : ℕ). entryOf j list) e
@@ -53,8 +50,7 @@ module _ (lists : List (List ℕ)) (tail : List ℕ) (k : ℕ) (h : k < length l
   front-long = omega (arith, length-append (entriesFrom (length lists) lists) (joined (take k lists)), entries-length (length lists) lists)
 
   pub marks-stand : At (besideOf lists ++ tail) placeOf list
-  marks-stand i l =
-      (λ j. getD (shape j) (sym front-long j + i) 0) ∙ getD-append-add front (list ++ behind) i 0 ∙ List·getD-append list behind 0 i l
+  marks-stand i l = (λ j. getD (shape j) (sym front-long j + i) 0) ∙ getD-append-add front (list ++ behind) i 0 ∙ List·getD-append list behind 0 i l
 
   pub marks-inside : placeOf + length list ≤ length (besideOf lists ++ tail)
   marks-inside = omega (arith, ap length shape, length-append front (list ++ behind), length-append list behind, front-long)
@@ -73,11 +69,9 @@ module _ (file : List ℕ) (head : Head) where
   unfolding marksIn recordsOf
   marks-of [] k h = absurd (omega (arith, h))
   marks-of (r ∷ rows) zero h = refl
-  marks-of (r ∷ rows) (suc k) h =
-      let e : 7 * suc k + 2 ≡ 7 + (7 * k + 2) = omega arith in
-      let same : getD (recordOf r ++ recordsOf rows) (7 * suc k + 2) 0 ≡ getD (recordsOf rows) (7 * k + 2) 0 =
-      ap (λ (j : ℕ). getD (recordOf r ++ recordsOf rows) j 0) e ∙ getD-append-add (recordOf r) (recordsOf rows) (7 * k + 2) 0 in
-      marks-of rows k (omega (arith, h)) ∙ ap (marksFor file head) (sym same)
+  marks-of (r ∷ rows) (suc k) h = let e : 7 * suc k + 2 ≡ 7 + (7 * k + 2) = omega arith in
+      let same : getD (recordOf r ++ recordsOf rows) (7 * suc k + 2) 0 ≡ getD (recordsOf rows) (7 * k + 2) 0 = ap (λ (j : ℕ). getD (recordOf r ++ recordsOf rows) j 0) e
+      ∙ getD-append-add (recordOf r) (recordsOf rows) (7 * k + 2) 0 in marks-of rows k (omega (arith, h)) ∙ ap (marksFor file head) (sym same)
 
   -- by records that stand in the words
   marks-by : (words : List ℕ) (rows : List Row) (k : ℕ) → W.Holds words rows k → marksBy file head words (length rows) k ≡ marksIn file head rows
@@ -101,11 +95,8 @@ module _ (file : List ℕ) (head : Head) where
     rows-there = B.third file head rows rest
 
     records-stand : W.Holds words rows 0
-    records-stand i l =
-        let e : recordsAt + 7 * 0 + i ≡ recordsAt + i = omega arith in
-        ap (λ (k : ℕ). getD words k 0) e
-        ∙ sym (getD-drop recordsAt words i 0)
-        ∙ sym (getD-take (7 * wordAt words 2) (drop recordsAt words) i 0 (omega (arith, l, rows-there)))
+    records-stand i l = let e : recordsAt + 7 * 0 + i ≡ recordsAt + i = omega arith in
+        ap (λ (k : ℕ). getD words k 0) e ∙ sym (getD-drop recordsAt words i 0) ∙ sym (getD-take (7 * wordAt words 2) (drop recordsAt words) i 0 (omega (arith, l, rows-there)))
         ∙ ap (λ (xs : List ℕ). getD xs i 0) (records-there file head rows rest)
 
     pub marks-by-words : marksBy file head words (wordAt words 2) 0 ≡ marksIn file head rows

@@ -1,8 +1,6 @@
 -- Without an atlas, and through words that are the file's atlas, a search is the plain one, and so are the lookups over it. Assumes nothing.
-use Prim.Native.Nat.{ℕ, _/_}
-use mathlib.Core.{Bool.{Bool, false}, List.{List, [], _∷_}, Logic.{_⊎_, inl, inr}, Path.{_≡_, refl, ap}}
+use Rattle.numbers.{proofs.Prelude.{ℕ, _/_, Bool, false, List, [], _∷_, inl, inr, _≡_, refl, ap}, specs.Reply.{given}}
 use Rattle.header.specs.{Header.{headOf}, declared.header.Head.{Head}}
-use Rattle.numbers.specs.Reply.{Reply, given, _>>=_}
 use Rattle.table.specs.{Find.{matchedWith}, Hits.{width}, declared.location.Location.{Location}}
 use Rattle.zones.specs.{Lent.{repliedOf}, Lookup.{zonesFrom, zonesWith}, Simple.{describedFrom, describedWith, describedIn, simplyLooked}}
 use Rattle.atlas.proofs.AtlasIsPlain.{found-is-plain, alike-from}

@@ -1,10 +1,6 @@
 -- The 32 bits of a coordinate. Assumes nothing.
-use Prim.Native.Nat.{ℕ, suc, _-_, _^_, _<_}
-use borrow.Author.Tests.{ltb-true, le-ltb}
-use lib.{Dec.{T}, IntN.{ℤ, pos, negsuc, natAbs, _-ℤ_}, Signed.{mag, ltZ, nonNeg}}
-use mathlib.Core.{Bool.{true, false}, Path.{_≡_, refl, ap, _∙_}}
-use mir.{Syntax.{w32}, Val.{SFits, toZ, ofZ}, ValLaws.{toZ-ofZ}}
-use native.Mathlib.Omega.{arith}
+use Rattle.numbers.proofs.Prelude.{ℕ, suc, _-_, _^_, _<_, le-ltb, ltb-true, T, ℤ, pos, negsuc, _-ℤ_, natAbs, mag, ltZ, true, false, _≡_, refl, ap, _∙_, w32, SFits, ofZ, toZ, toZ-ofZ, arith}
+use lib.Signed.{nonNeg}
 
 -- a negative one: -1 less it is what its bits lack of 2 ^ 32 - 1
 record Below (z : ℤ) : Type 0 where

@@ -1,17 +1,11 @@
 -- Through an atlas or without one, by whether there are words. Assumes nothing.
-use Prim.Native.Nat.{ℕ, _/_}
-use lib.ListN.{length, drop}
-use mathlib.Core.{Bool.{Bool}, List.{List, [], _∷_}, Path.{_≡_, refl, subst, ap, _∙_}}
-use native.Mathlib.Omega.{arith}
+use Rattle.numbers.proofs.Prelude.{ℕ, _/_, length, drop, Bool, List, [], _∷_, _≡_, refl, ap, subst, _∙_, arith}
+use Rattle.numbers.{proofs.Replies.{carried, onward}, specs.{Lists.{zeros}, Reply.{Reply, given, refused}, declared.refusal.Refusal.{Refusal}}}
 use Rattle.header.specs.{Header.{headOf}, declared.header.Head.{Head}}
 use Rattle.index.specs.Index.{recordsAt}
-use Rattle.numbers.proofs.Replies.{carried, onward}
-use Rattle.numbers.specs.{Lists.{zeros}, Reply.{Reply, given, refused}, declared.refusal.Refusal.{Refusal}}
-use Rattle.table.proofs.{Agreeing.{agree-refused}, Matches.{found-agrees, marked-agrees}}
-use Rattle.table.specs.{Find.{Matched, matchedWith, finding, foundWith, Matching}, Hits.{width}, MarkedRows.{matchedMarked, foundMarked}, inner.Agreeing.{Agrees}}
-use Rattle.table.specs.declared.{find.Matches.{Matches}, location.Location.{Location}}
-use Rattle.zones.proofs.GivenHead.{refused-zero}
-use Rattle.zones.specs.{Lent.{replied, repliedOf}, Lookup.{zonesFrom, zonesWith, lookedWith}}
+use Rattle.table.{proofs.{Agreeing.{agree-refused}, Matches.{found-agrees, marked-agrees}}, specs.{Find.{Matched, matchedWith, finding, foundWith, Matching}, Hits.{width}}}
+use Rattle.table.specs.{MarkedRows.{matchedMarked, foundMarked}, declared.{find.Matches.{Matches}, location.Location.{Location}}, inner.Agreeing.{Agrees}}
+use Rattle.zones.{proofs.GivenHead.{refused-zero}, specs.{Lent.{replied, repliedOf}, Lookup.{zonesFrom, zonesWith, lookedWith}}}
 use Rattle.atlas.specs.{Beside.{matchedBeside, zonesBeside, describedBeside, simplyBeside}, Looked.{partsOf, partIn, matchedAtlas, zonesAtlas}, declared.parts.Parts.{Parts}}
 
 -- there are none, or some
@@ -42,8 +36,7 @@ module _ (file : List ℕ) (head : Head) (words : List ℕ) (location : Location
         → (reply : Reply Matches) → finding reply hs ≡ foundMarked file head location asked records numbers marks n → By (matchedAtlas file head words location asked (n / width)) reply
     unfolding matchedAtlas
     find-there e records numbers marks r k m reply f =
-        subst (λ (matched : Reply Matched). By matched reply)
-        ((λ i. matchedMarked file head location asked (r i) (k i) (m i) (n / width))
+        subst (λ (matched : Reply Matched). By matched reply) ((λ i. matchedMarked file head location asked (r i) (k i) (m i) (n / width))
         ∙ onward e (λ (p : Parts). matchedMarked file head location asked (partIn words recordsAt (p .behind)) (partIn words (p .from) (p .end)) (drop (p .beside) words) (n / width)))
         (marked-agrees file head location asked records numbers marks n reply hs f)
 
@@ -52,7 +45,8 @@ module _ (file : List ℕ) (head : Head) (words : List ℕ) (location : Location
     find-none reply none f =
         subst (λ (matched : Reply Matched). By matched reply) (none-found file head words location asked (n / width) none) (found-agrees file head location asked n reply hs f)
 
-    pub find-some : (reply : Reply Matches) → (length words ≡ 0 → ⊥) → By (matchedAtlas file head words location asked (n / width)) reply → By (matchedBeside file head words location asked (n / width)) reply
+    pub find-some : (reply : Reply Matches) → (length words ≡ 0 → ⊥) → By (matchedAtlas file head words location asked (n / width)) reply
+        → By (matchedBeside file head words location asked (n / width)) reply
     find-some reply some a = subst (λ (matched : Reply Matched). By matched reply) (some-found file head words location asked (n / width) some) a
 
   -- ---- the lookup

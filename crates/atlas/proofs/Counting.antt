@@ -1,11 +1,6 @@
 -- The loop over a border's edges, turn by turn. Assumes nothing.
-use Prim.Native.Nat.{ℕ, zero, suc, _+_, _-_, _^_, _≤_, _<_}
-use native.Mathlib.Omega.{arith}
-use mathlib.Core.{Path.{_≡_, refl, sym, ap, _∙_}, Bool.{Bool, true, false}, List.{List, [], _∷_}}
-use types.Run.{OneOf, miss}
-use denote.Enum.Declared.{tagOf}
-use Rattle.numbers.specs.Answer.{Answer, if_then_else_}
-use Rattle.border.specs.{Trace.{Given, reaches, nextPoint}, declared.{place.Point.{Point}, reader.{Reader.{Reader}, Next.{Next}, Encoding.{Encoding}}}}
+use Rattle.numbers.{proofs.Prelude.{ℕ, zero, suc, _+_, _-_, _^_, _≤_, _<_, tagOf, true, false, List, [], _∷_, _≡_, refl, sym, ap, _∙_, arith, OneOf, miss}, specs.Answer.{Answer, if_then_else_}}
+use Rattle.border.specs.{Trace.{reaches, nextPoint}, declared.{place.Point.{Point}, reader.{Encoding.{Encoding}, Next.{Next}, Reader.{Reader}}}}
 use Rattle.marks.specs.Marks.{isMarkable, edgesThen, edgesFrom, mostPoints}
 use Rattle.border.specs.inner.Told as R
 use Rattle.numbers.specs.Answer as A
@@ -65,8 +60,7 @@ module _ (file : List ℕ) (encoding : Encoding) (start : Reader) where
 
       pub counting-ends : (next : Next) → R.told next ≡ nextPoint file encoding reader → OneOf (1 ∷ 2 ∷ 3 ∷ []) (tagOf Next'.the-type next)
           → edgesThen (start .point) reader n (λ t. A.failed) (R.told next) ≡ all
-      counting-ends next e o =
-          no-more (start .point) reader n (λ t. A.failed) onward next o ∙ ap (edgesThen (start .point) reader n onward) e ∙ whole
+      counting-ends next e o = no-more (start .point) reader n (λ t. A.failed) onward next o ∙ ap (edgesThen (start .point) reader n onward) e ∙ whole
 
       module _ (later : Reader) (is : A.found (reaches later) ≡ nextPoint file encoding reader) where
         here : (if isMarkable (start .point) reader then onward later else A.failed) ≡ all

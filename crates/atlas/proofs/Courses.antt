@@ -1,14 +1,9 @@
 -- The marks of a border by its first state. Assumes nothing.
-use Prim.Native.Nat.{ℕ, zero, suc, _+_, _/_, _^_, _≤_}
-use lib.Dec.{ltb}
-use mathlib.Core.{Bool.{Bool, true, false}, Path.{_≡_, refl, sym, ap, _∙_}, List.{List, [], _∷_}}
-use native.Mathlib.Omega.{arith}
-use types.Run.{OneOf}
-use denote.Enum.Declared.{tagOf}
-use Rattle.border.specs.{Trace.{Given, reaches, ended, nextPoint, borderAt}, declared.{place.Point.{Point}, reader.{Reader.{Reader}, Next.{Next}, Encoding.{Encoding}}}}
+use Rattle.numbers.proofs.Prelude.{ℕ, zero, suc, _+_, _/_, _^_, _≤_, tagOf, ltb, Bool, true, false, List, [], _∷_, _≡_, refl, sym, _∙_, arith, OneOf}
+use Rattle.numbers.{proofs.Answers.{found-one}, specs.Answer.{Answer, if_then_else_}}
+use Rattle.border.specs.{Trace.{Given, reaches, ended, nextPoint, borderAt}, declared.{place.Point.{Point}, reader.{Encoding.{Encoding}, Next.{Next}, Reader.{Reader}}}}
 use Rattle.marks.specs.Marks.{nextOr, isMarkable, edgesThen, edgesFrom, mostPoints, fewEdges, stretchesOf, stretchesFrom, stretchesIn, levelsFrom, counted, marksAt}
 use Rattle.atlas.proofs.Nexts.{none-next}
-use Rattle.numbers.{proofs.Answers.{found-one}, specs.Answer.{Answer, if_then_else_}}
 use Rattle.verdict.specs.Edge.{samePoint}
 use Rattle.border.specs.inner.Told as R
 use Rattle.numbers.specs.Answer as A
@@ -18,16 +13,14 @@ use Rattle.border.proofs.reader.Next as Next'
 module _ (first : Point) (s : Reader) (n more : ℕ) (go : Reader → Answer ℕ) (few : (t : Reader) (m : ℕ) → go t ≡ A.found m → m ≤ n + 1 + more) where
   few-then : (a : Answer Given) {m : ℕ} → edgesThen first s n go a ≡ A.found m → m ≤ n + suc more
   unfolding edgesThen
-  few-then (A.found (reaches t)) {m} e = choose (isMarkable first s) e
-    where
-      choose : (b : Bool) → (if b then go t else A.failed) ≡ A.found m → m ≤ n + suc more
-      choose true e = omega (arith, few t m e)
-      choose false e = let z : _≡_ {A = ℕ} 0 1 = cc in absurd (omega arith)
-  few-then (A.found ended) {m} e = choose (samePoint (s .point) first) e
-    where
-      choose : (b : Bool) → (if b then A.found n else A.failed) ≡ A.found m → m ≤ n + suc more
-      choose true e = omega (arith, found-one e)
-      choose false e = let z : _≡_ {A = ℕ} 0 1 = cc in absurd (omega arith)
+  few-then (A.found (reaches t)) {m} e = choose (isMarkable first s) e where
+    choose : (b : Bool) → (if b then go t else A.failed) ≡ A.found m → m ≤ n + suc more
+    choose true e = omega (arith, few t m e)
+    choose false e = let z : _≡_ {A = ℕ} 0 1 = cc in absurd (omega arith)
+  few-then (A.found ended) {m} e = choose (samePoint (s .point) first) e where
+    choose : (b : Bool) → (if b then A.found n else A.failed) ≡ A.found m → m ≤ n + suc more
+    choose true e = omega (arith, found-one e)
+    choose false e = let z : _≡_ {A = ℕ} 0 1 = cc in absurd (omega arith)
   few-then A.failed e = let z : _≡_ {A = ℕ} 0 1 = cc in absurd (omega arith)
   few-then (A.refused k) e = let z : _≡_ {A = ℕ} 0 1 = cc in absurd (omega arith)
 
@@ -39,16 +32,14 @@ edges-few (suc more) file encoding first s n e =
 
 pub stretches-few : (file : List ℕ) (encoding : Encoding) (s : Reader) → stretchesIn file encoding s ≤ 2 ^ 18
 unfolding stretchesFrom stretchesOf mostPoints
-stretches-few file encoding s = go (edgesFrom mostPoints file encoding (s .point) s 0) refl
-  where
-    go : (a : Answer ℕ) → edgesFrom mostPoints file encoding (s .point) s 0 ≡ a → stretchesFrom a ≤ 2 ^ 18
-    go (A.found n) e = choose (ltb fewEdges n) (edges-few mostPoints file encoding (s .point) s 0 e)
-      where
-        choose : (b : Bool) → n ≤ 0 + 2 ^ 24 → (if b then (n + 127) / 128 else 0) ≤ 2 ^ 18
-        choose true h = omega (arith, h)
-        choose false h = omega arith
-    go A.failed e = omega arith
-    go (A.refused k) e = omega arith
+stretches-few file encoding s = go (edgesFrom mostPoints file encoding (s .point) s 0) refl where
+  go : (a : Answer ℕ) → edgesFrom mostPoints file encoding (s .point) s 0 ≡ a → stretchesFrom a ≤ 2 ^ 18
+  go (A.found n) e = choose (ltb fewEdges n) (edges-few mostPoints file encoding (s .point) s 0 e) where
+    choose : (b : Bool) → n ≤ 0 + 2 ^ 24 → (if b then (n + 127) / 128 else 0) ≤ 2 ^ 18
+    choose true h = omega (arith, h)
+    choose false h = omega arith
+  go A.failed e = omega arith
+  go (A.refused k) e = omega arith
 
 module _ (file : List ℕ) (encoding : Encoding) (place : ℕ) {start : Reader} (opens : start ≡ borderAt place) where
   abbrev from : Reader → List ℕ

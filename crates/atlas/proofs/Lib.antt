@@ -6,7 +6,6 @@ pub mod Spanning
 pub mod Standing
 pub mod Writing
 pub mod Courses
-pub mod HeldIsPlain
 pub mod Beside
 pub mod AtlasIsPlain
 pub mod BesideIsPlain
@@ -16,4 +15,4 @@ pub mod Behind
 pub mod Owned
 pub mod NumberedAtlas
 pub mod Theorems
-mod WorkedAtlas
+pub mod WorkedAtlas

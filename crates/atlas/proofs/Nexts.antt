@@ -1,8 +1,6 @@
 -- Where a border gives no further point. Assumes nothing.
-use mathlib.Core.{Path.{_≡_, refl}, List.{[], _∷_}}
-use types.Run.{OneOf, miss}
-use denote.Enum.Declared.{tagOf}
-use Rattle.border.specs.declared.reader.{Reader.{Reader}, Next.{Next}}
+use Rattle.numbers.proofs.Prelude.{tagOf, [], _∷_, _≡_, refl, OneOf, miss}
+use Rattle.border.specs.declared.reader.{Next.{Next}, Reader.{Reader}}
 use Rattle.marks.specs.Marks.{nextOr}
 use Rattle.border.specs.inner.Told as R
 use Rattle.border.specs.declared.reader.Next.the-variants as N

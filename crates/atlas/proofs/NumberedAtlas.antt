@@ -1,17 +1,15 @@
 -- Which numbers a lookup through an atlas can be refused with, whatever the words are: those of a lookup through an index. Assumes nothing.
-use Prim.Native.Nat.{ℕ, _/_}
-use lib.{Dec.{eqb}, ListN.{length}}
-use mathlib.Core.{Bool.{Bool, false}, List.{List, []}, Path.{_≡_, refl}}
+use Rattle.numbers.proofs.Prelude.{ℕ, _/_, eqb, length, Bool, false, List, [], _≡_, refl}
+use Rattle.numbers.{proofs.{Refusals.{Listed, either}, Replies.{answers, then-reply, and-then, demands, number-of}}, specs.{Reply.{refused, plain}, declared.refusal.Refusal.{Refusal}}}
 use Rattle.border.specs.declared.place.Point.{Point}
 use Rattle.header.specs.declared.header.Head.{Head}
-use Rattle.index.proofs.NumberedThrough.{throughNumbers, Known, Numbered, place-numbered, seeks, cut, fields, replied-numbered, opened}
+use Rattle.index.proofs.NumberedThrough.{throughNumbers, Known, Numbered, place-numbered, seeks, cut, opened}
 use Rattle.marks.proofs.NumberedMarks.{marked-numbered}
-use Rattle.numbers.proofs.{Refusals.{Listed, either}, Replies.{answers, then-reply, and-then, demands, number-of}}
-use Rattle.numbers.specs.{Reply.{refused, plain}, declared.refusal.Refusal.{Refusal}}
 use Rattle.table.specs.{Find.{fixOf, isPrecision}, Hits.{width}, MarkedRows.{markFor, judgeMarked, judgeNumbered, rowNumbered, searchedMarked, matchedMarked}, Search.{farthest}}
 use Rattle.table.specs.declared.location.Location.{Location}
 use Rattle.verdict.proofs.Numbered.{NumberedJudgement, judged-numbered}
 use Rattle.atlas.specs.Looked.{isWhole, partsOf, matchedAtlas, zonesAtlas, lookedAtlas}
+use Rattle.zones.proofs.NumberedLookup.{fields, replied-numbered}
 
 parts-numbered : (file : List ℕ) (head : Head) (words : List ℕ) (location : Location) → Numbered (partsOf (length file) head words location)
 unfolding partsOf
@@ -27,8 +25,7 @@ module _ (file : List ℕ) (head : Head) (plainly : head .strict ≡ false) wher
 
   matched : (location : Location) (asked : Bool) (records numbers marks : List ℕ) (room : ℕ) → Numbered (matchedMarked file head location asked records numbers marks room)
   unfolding matchedMarked searchedMarked
-  matched location asked records numbers marks room =
-      let fix = fixOf location (head .preamble .precision) in
+  matched location asked records numbers marks room = let fix = fixOf location (head .preamble .precision) in
       and-then (demands (isPrecision (head .preamble .precision)) (plain 16) refl)
       (then-reply (seeks (judgeNumbered file head fix asked records marks) fix (judges fix asked records marks) rowNumbered room records numbers farthest []) (λ found. answers))
 
@@ -36,7 +33,7 @@ module _ (file : List ℕ) (head : Head) (plainly : head .strict ≡ false) wher
   unfolding zonesAtlas matchedAtlas
   zones-numbered words location asked n room =
       then-reply (then-reply (parts-numbered file head words location) (λ parts. matched location asked _ _ _ (n / width)))
-      (λ found. then-reply (fields file head plainly room (found .matches) []) (λ text. answers))
+      (λ found. then-reply (fields refl refl refl refl file head (cut file head plainly) room (found .matches) []) (λ text. answers))
 
 -- A lookup through any words that is not answered is refused with a plain lookup's numbers, or 36.
 pub atlas-refusals : (file words : List ℕ) (location : Location) (asked : Bool) (n room : ℕ) (why : Refusal) → lookedAtlas file words location asked n room .reply ≡ refused why

@@ -1,13 +1,10 @@
 -- Where the parts of an atlas stand, by how far the code came. Assumes nothing.
-use Prim.Native.Nat.{ℕ, _+_, _-_, _*_, _/_, _≤_, _<_}
-use borrow.Author.Tests.{ltb-true, lt-ltb, le-ltb}
-use lib.{Dec.{ltb, leb}, ListN.{length, take, drop, getD, length-drop}, Seq.{take-all}}
-use mathlib.Core.{Bool.{Bool, true, false, _&&_}, List.{List}, Path.{_≡_, sym, ap, _∙_}}
-use native.Mathlib.Omega.{arith}
+use Rattle.numbers.proofs.Prelude.{ℕ, _+_, _-_, _*_, _/_, _≤_, _<_, lt-ltb, le-ltb, ltb-true, ltb, leb, length, take, drop, getD, length-drop, take-all, Bool, true, false, List, _≡_, ap, _∙_, arith}
+use Rattle.numbers.{proofs.{Replies.{carried, onward, met, unmet, given-from, given-one, demanded}, Tests.{both}}, specs.{Lists.{zeros}, Reply.{Reply, given, refused, plain}}}
+use Rattle.numbers.specs.declared.refusal.Refusal.{Refusal}
 use Rattle.header.specs.{Header.{headOf}, declared.header.Head.{Head}}
-use Rattle.index.{proofs.{Sides.{and-first, and-rest}, Through.{place-inside, refused-zeros}}, specs.{Index.{tiles, recordsAt}, Through.{startOf, isInside, placeOf}, Tied.{wordAt, isHeaded}, Tiles.{tileOf}, declared.place.Place.{Place}}}
-use Rattle.numbers.proofs.{Replies.{carried, onward, met, unmet, given-from, given-one, demanded}, Tests.{both}}
-use Rattle.numbers.specs.{Lists.{zeros}, Reply.{Reply, given, refused, plain}, declared.refusal.Refusal.{Refusal}}
+use Rattle.index.{proofs.{Sides.{and-first, and-rest}, Through.{place-inside, refused-zeros}}, specs.{Index.{tiles, recordsAt}, Through.{startOf, isInside, placeOf}, Tied.{wordAt, isHeaded}}}
+use Rattle.index.specs.{Tiles.{tileOf}, declared.place.Place.{Place}}
 use Rattle.table.specs.{Find.{Matched, fixOf, isPrecision}, Hits.{width}, MarkedRows.{matchedMarked}, declared.location.Location.{Location}}
 use Rattle.zones.specs.{Lent.{replied, repliedOf}, Lookup.{zonesFrom}, Marked.{zonesMarked, lookedMarked}}
 use Rattle.atlas.specs.{Looked.{isWhole, partsOf, partIn, matchedAtlas, zonesAtlas, lookedAtlas}, declared.parts.Parts.{Parts}}
@@ -52,16 +49,9 @@ module _ (long : ℕ) (head : Head) (words : List ℕ) (location : Location) whe
 
   pub parts-inside : {parts : Parts} → given parts ≡ partsOf long head words location → Inside parts
   unfolding partsOf
-  parts-inside {parts} e =
-      let p = given-from (placeOf long head words location) _ e in
-      let w = demanded (isWhole words) (plain 36) (p .onto) in
-      let at = place-inside long head words location (p .is) in
-      let form = given-one (w .1) in
-      let behind = ap (λ (x : Parts). x .behind) form in
-      let from = ap (λ (x : Parts). x .from) form in
-      let end = ap (λ (x : Parts). x .end) form in
-      let beside = ap (λ (x : Parts). x .beside) form in
-      record {
+  parts-inside {parts} e = let p = given-from (placeOf long head words location) _ e in let w = demanded (isWhole words) (plain 36) (p .onto) in
+      let at = place-inside long head words location (p .is) in let form = given-one (w .1) in let behind = ap (λ (x : Parts). x .behind) form in
+      let from = ap (λ (x : Parts). x .from) form in let end = ap (λ (x : Parts). x .end) form in let beside = ap (λ (x : Parts). x .beside) form in record {
         records = omega (arith, behind);
         behind = omega (arith, behind, at .1);
         list = omega (arith, from, end, at .2);
@@ -72,13 +62,9 @@ module _ (long : ℕ) (head : Head) (words : List ℕ) (location : Location) whe
 -- the list of a tile ends at a word
 pub list-end : (long : ℕ) (head : Head) (words : List ℕ) (location : Location) {parts : Parts} → given parts ≡ partsOf long head words location → (k : ℕ) × (parts .end ≡ getD words k 0)
 unfolding partsOf placeOf
-list-end long head words location {parts} e =
-    let precision = head .preamble .precision in
-    let tile = tileOf precision (fixOf location precision) in
-    let p = given-from (placeOf long head words location) _ e in
-    let a = demanded (isPrecision precision) (plain 16) (p .is) in
-    let b = demanded (isHeaded words (head .sections .metadata) long) (plain 36) (a .1) in
-    let c = demanded (isInside words tile) (plain 36) (b .1) in
+list-end long head words location {parts} e = let precision = head .preamble .precision in let tile = tileOf precision (fixOf location precision) in
+    let p = given-from (placeOf long head words location) _ e in let a = demanded (isPrecision precision) (plain 16) (p .is) in
+    let b = demanded (isHeaded words (head .sections .metadata) long) (plain 36) (a .1) in let c = demanded (isInside words tile) (plain 36) (b .1) in
     let w = demanded (isWhole words) (plain 36) (p .onto) in
     (3 + (tile + 1), ap (λ (x : Parts). x .end) (given-one (w .1)) ∙ ap (λ (x : Place). x .end) (given-one (c .1)))
 

@@ -1,10 +1,6 @@
 -- The loop over the points of a stretch, turn by turn. Assumes nothing.
-use Prim.Native.Nat.{ℕ, zero, suc, _+_, _-_, _≤_, _<_}
-use native.Mathlib.Omega.{arith}
-use mathlib.Core.{Path.{_≡_, refl, sym, ap, _∙_}, List.{List, [], _∷_}}
-use types.Run.{OneOf}
-use denote.Enum.Declared.{tagOf}
-use Rattle.border.specs.{Box.{Box, grown}, Trace.{reaches, nextPoint}, declared.reader.{Reader.{Reader}, Next.{Next}, Encoding.{Encoding}}}
+use Rattle.numbers.proofs.Prelude.{ℕ, zero, suc, _+_, _-_, _≤_, _<_, tagOf, List, [], _∷_, _≡_, refl, sym, ap, _∙_, arith, OneOf}
+use Rattle.border.specs.{Box.{Box, grown}, Trace.{reaches, nextPoint}, declared.reader.{Encoding.{Encoding}, Next.{Next}, Reader.{Reader}}}
 use Rattle.marks.specs.Marks.{nextOr, Span, spanned, spanOver, spanFrom}
 use Rattle.atlas.proofs.Nexts.{none-next}
 use Rattle.border.specs.inner.Told as R

@@ -1,9 +1,6 @@
 -- Words that stand one after the other. Assumes nothing.
-use Prim.Native.Nat.{ℕ, zero, suc, _+_, _-_, _<_}
-use native.Mathlib.Omega.{arith}
-use mathlib.Core.{Path.{_≡_, refl, sym, ap, _∙_}, Bool.{Bool, true, false, _&&_}, List.{List, [], _∷_, _++_}}
-use lib.ListN.{length}
-use Rattle.border.specs.{Box.{Box}, declared.reader.{Reader.{Reader}, Encoding.{Encoding}}}
+use Rattle.numbers.proofs.Prelude.{ℕ, zero, suc, _+_, _-_, _<_, length, Bool, true, false, List, [], _∷_, _++_, _≡_, refl, sym, ap, _∙_, arith}
+use Rattle.border.specs.declared.reader.{Encoding.{Encoding}, Reader.{Reader}}
 use Rattle.marks.specs.Marks.{Span, spanFrom, markOf, marksFrom, counted}
 use Rattle.index.{proofs.Standing.{at-append, and-end}, specs.inner.Own.{isWord, isAt}}
 
@@ -27,8 +24,7 @@ marks-more : (edges : ℕ) (file : List ℕ) (encoding : Encoding) (reader : Rea
     → marksFrom edges left file encoding reader ≡ markOf reader (span .box) ++ marksFrom edges (left - 1) file encoding (span .last)
 unfolding marksFrom
 marks-more edges file encoding reader is zero h = absurd (omega (arith, h))
-marks-more edges file encoding reader is (suc k) h =
-    let e : suc k - 1 ≡ k = omega arith in
+marks-more edges file encoding reader is (suc k) h = let e : suc k - 1 ≡ k = omega arith in
     rw e (λ i. markOf reader (sym is i .box) ++ marksFrom edges k file encoding (sym is i .last))
 
 module _ (edges : ℕ) (file : List ℕ) (encoding : Encoding) (words : List ℕ) (reader : Reader) {span : Span} (is : span ≡ spanFrom edges file encoding reader) (left at : ℕ) (more : 0 < left) where

@@ -1,25 +1,19 @@
 -- What document 04's A-3 asks, over what the functions write; `atlas-is-plain` and `atlas-refusals` stand in their own files. Assumes nothing.
-use Prim.Native.Nat.{ℕ, _-_}
-use borrow.Author.Tests.{leb-true}
-use lib.{Dec.{ltb, leb}, ListN.{length, length-append, length-replicate}}
-use mathlib.Core.{Bool.{Bool, true, false}, List.{List, [], _∷_, _++_}, Path.{_≡_, refl, sym, ap, _∙_}}
-use native.Mathlib.Omega.{arith}
+use Rattle.numbers.proofs.Prelude.{ℕ, _-_, leb-true, ltb, leb, length, length-append, length-replicate, Bool, true, false, List, [], _∷_, _≡_, refl, sym, ap, _∙_, arith}
+use Rattle.numbers.{proofs.{Refusals.{Listed, still-listed}, Replies.{NumberedReply, answers, then-reply, and-then, demands, number-of}, Tests.{both, differ}}, specs.Lists.{zeros}}
+use Rattle.numbers.specs.{Reply.{Reply, given, refused, plain, demand, _>>=_}, declared.refusal.Refusal.{Refusal}}
 use Rattle.header.{proofs.Numbered.{headerNumbers, head-numbered}, specs.{Header.{headOf}, declared.header.Head.{Head}}}
-use Rattle.index.proofs.{Refusing.{buildingNumbers, table-numbered, replied-numbered, no-words}, Same.{same-built, same-tie}}
-use Rattle.index.specs.{Index.{hasRoom, indexed, toldBuilt}, Table.{bottom, tableOf}, Tied.{toldTied}, declared.{build.Built.{Built}, tied.Tied.{Tied}}}
-use Rattle.numbers.proofs.{Refusals.{Listed, still-listed}, Replies.{NumberedReply, answers, then-reply, and-then, demands, number-of}, Tests.{both, differ}}
-use Rattle.numbers.specs.{Lists.{zeros}, Reply.{Reply, given, refused, plain, demand, _>>=_}, declared.refusal.Refusal.{Refusal}}
+use Rattle.index.{proofs.{Refusing.{buildingNumbers, table-numbered, replied-numbered, no-words}, Same.{same-built, same-tie}}, specs.{Index.{hasRoom, indexed, toldBuilt}, Table.{bottom, tableOf}}}
+use Rattle.index.specs.{Tied.{toldTied}, declared.{build.Built.{Built}, tied.Tied.{Tied}}}
 use Rattle.table.specs.{Find.{isPrecision}, Rows.{rowsIn}, declared.location.Location.{Location}}
-use Rattle.zones.proofs.{NumberedLookup.{lookupNumbers, lookup-refusals}, RefusalZeroes.{both-zero}, SameLookup.{same-looked}}
-use Rattle.zones.specs.{Lent.{Replied, replied}, Lookup.{lookedUp, toldLooked}, declared.lookup.{Looked.{Looked}, Zones.{Zones}}}
-use Rattle.atlas.proofs.AtlasIsPlain.{MadeFrom, made-from, is-atlas-exactly, atlas-is-plain}
+use Rattle.zones.{proofs.{NumberedLookup.{lookupNumbers, lookup-refusals}, RefusalZeroes.{both-zero}, SameLookup.{same-looked}}, specs.{Lent.{Replied, replied}, Lookup.{toldLooked}}}
+use Rattle.zones.specs.declared.lookup.{Looked.{Looked}, Zones.{Zones}}
+use Rattle.atlas.proofs.AtlasIsPlain.{made-from, is-atlas-exactly, atlas-is-plain}
 use Rattle.atlas.specs.{Atlas.{atlasOf, atlasWith, atlasIn, atlasMade, isMade, isAtlasOf}, Looked.{zonesAtlas, lookedAtlas}}
 
 -- ---- is_atlas is exact
 made-long : (file : List ℕ) (n : ℕ) {used : ℕ} → atlasMade file n .reply ≡ given used → length (atlasMade file n .words) ≡ n
-made-long file n e =
-    let m = made-from file n e in
-    let atlas = atlasOf file (m .head) (m .rows) in
+made-long file n e = let m = made-from file n e in let atlas = atlasOf file (m .head) (m .rows) in
     let fits = leb-true (length atlas) n (both (leb (length atlas) n) (ltb (length atlas) _) (m .room) .0) in
     ap length (m .whole) ∙ omega (arith, fits, length-append atlas (zeros (n - length atlas)), length-replicate {A = ℕ} (n - length atlas) 0)
 
@@ -35,22 +29,20 @@ atlas-is-built file words = is-atlas-exactly file words .0
 -- All other words are 36.
 pub else-36 : (file words : List ℕ) (why : Refusal) → isAtlasOf file words ≡ refused why → why ≡ plain 36
 unfolding isAtlasOf
-else-36 file words why = go (isMade words (atlasMade file (length words) .reply) (atlasMade file (length words) .words))
-  where
-    numberOf : Reply (Unit {0}) → Refusal
-    numberOf (given u) = plain 36
-    numberOf (refused w) = w
+else-36 file words why = go (isMade words (atlasMade file (length words) .reply) (atlasMade file (length words) .words)) where
+  numberOf : Reply (Unit {0}) → Refusal
+  numberOf (given u) = plain 36
+  numberOf (refused w) = w
 
-    go : (b : Bool) → demand b (plain 36) ≡ refused why → why ≡ plain 36
-    go true e = sym (ap numberOf e)
-    go false e = sym (ap numberOf e)
+  go : (b : Bool) → demand b (plain 36) ≡ refused why → why ≡ plain 36
+  go true e = sym (ap numberOf e)
+  go false e = sym (ap numberOf e)
 
 -- ---- which numbers, and zeros
 atlas-numbered : (file : List ℕ) (head : Head) (room : ℕ) → NumberedReply (Listed buildingNumbers) (atlasWith file head room)
 unfolding atlasWith tableOf
 atlas-numbered file head room =
-    and-then (demands (isPrecision (head .preamble .precision)) (plain 16) refl)
-    (then-reply (table-numbered (head .sections .metadata) bottom (rowsIn file head))
+    and-then (demands (isPrecision (head .preamble .precision)) (plain 16) refl) (then-reply (table-numbered (head .sections .metadata) bottom (rowsIn file head))
     (λ rows. and-then (demands (hasRoom room (length (atlasOf file head rows))) (plain 35) refl) answers))
 
 -- A building that is not answered is refused with one of the index's numbers,
@@ -83,8 +75,7 @@ module _ (file words : List ℕ) (location : Location) (asked : Bool) (n room : 
 -- ---- what the promises fix
 -- Two replies that a promise permits are equal, with all lent output: of `lookup_atlas`,
 pub same-atlas : (file words : List ℕ) (location : Location) (asked : Bool) (n room : ℕ) (r r′ : Looked) (hs hs′ ts ts′ : List ℕ)
-    → replied (toldLooked r) hs ts ≡ lookedAtlas file words location asked n room
-    → replied (toldLooked r′) hs′ ts′ ≡ lookedAtlas file words location asked n room → (r ≡ r′) × (hs ≡ hs′) × (ts ≡ ts′)
+    → replied (toldLooked r) hs ts ≡ lookedAtlas file words location asked n room → replied (toldLooked r′) hs′ ts′ ≡ lookedAtlas file words location asked n room → (r ≡ r′) × (hs ≡ hs′) × (ts ≡ ts′)
 same-atlas = atlas-safe
 
 -- of `build_atlas`,

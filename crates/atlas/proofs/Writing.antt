@@ -1,15 +1,9 @@
 -- The loop that writes the marks of a border. Assumes nothing.
-use Prim.Native.Nat.{ℕ, _+_, _*_, _-_, _^_, _<_}
-use native.Mathlib.Omega.{arith}
-use mathlib.Core.{Path.{_≡_, sym, subst}, List.{List, [], _∷_, _++_}}
-use Rattle.border.specs.declared.reader.{Reader.{Reader}, Encoding.{Encoding}}
-use Rattle.writer.{specs.inner.Stored.{Stored}, proofs.Stores.{Left, left-step, left-none, stored-then}}
+use Rattle.numbers.proofs.Prelude.{ℕ, _+_, _-_, _*_, _^_, _<_, List, [], _∷_, _++_, _≡_, subst, arith}
+use Rattle.border.specs.declared.reader.{Encoding.{Encoding}, Reader.{Reader}}
+use Rattle.writer.{proofs.Stores.{Left, left-step, left-none, stored-then}, specs.inner.Stored.{Stored}}
 use Rattle.marks.specs.Marks.{Span, spanFrom, markOf, marksFrom, counted}
 use Rattle.atlas.proofs.Standing.{next-marks, no-marks, counted-some}
-
--- a word by another name
-pub same-word : {before after : List ℕ} {at next v w : ℕ} → v ≡ w → Stored before at (v ∷ []) after next → Stored before at (w ∷ []) after next
-same-word {before} {after} {at} {next} e s = subst (λ (x : ℕ). Stored before at (x ∷ []) after next) e s
 
 module _ (edges : ℕ) (file : List ℕ) (encoding : Encoding) (before : List ℕ) (place : ℕ) (all : List ℕ) where
   -- the marks of so many stretches are left to store of all

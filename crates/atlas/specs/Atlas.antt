@@ -1,12 +1,9 @@
 -- The atlas of a file, as document 04's A-1 has it with one level of groups and without boxes over lists: the words of the index, the length of all words, for each entry where its
 -- border's marks stand, and the marks.
-use Prim.Native.Nat.{ℕ, _+_, _%_, _^_}
-use lib.ListN.{length}
-use mathlib.Core.{Bool.{Bool, false}, List.{List, [], _∷_, _++_}}
+use Rattle.numbers.specs.{Prelude.{ℕ, _+_, _%_, _^_, length, Bool, false, List, [], _∷_, _++_}, Reply.{Reply, given, refused, plain, demand, _>>=_, _>>_}}
 use Rattle.header.specs.{Header.{headOf}, declared.header.Head.{Head}}
 use Rattle.index.specs.{Index.{joined, hasRoom, indexOf, Indexed, indexedBy}, Own.{isSame}, Table.{tableOf}}
 use Rattle.marks.specs.Marks.{low, marksAt}
-use Rattle.numbers.specs.Reply.{Reply, given, refused, plain, demand, _>>=_, _>>_}
 use Rattle.table.specs.{Find.{isPrecision}, MarkedRows.{encodingIn}, declared.rows.Row.{Row}}
 
 -- the marks of the border at a place of the data

@@ -1,8 +1,6 @@
 -- Through an atlas or without one, as document 04 has it for simple lookup, many fixes and the slip: an empty list of words is none.
-use Prim.Native.Nat.{ℕ, _/_}
-use mathlib.Core.{Bool.{Bool, false}, List.{List, [], _∷_}, Logic.{_⊎_}, Path.{_≡_}}
+use Rattle.numbers.specs.{Prelude.{ℕ, _/_, Bool, false, List, [], _∷_, _⊎_, _≡_}, Reply.{Reply, given, _>>=_}}
 use Rattle.header.specs.{Header.{headOf}, declared.header.Head.{Head}}
-use Rattle.numbers.specs.Reply.{Reply, given, _>>=_}
 use Rattle.table.specs.{Find.{Matched, matchedWith}, Hits.{width}, declared.location.Location.{Location}}
 use Rattle.zones.specs.{Lent.{Outcome, Replied, repliedOf}, Lookup.{zonesFrom}, Simple.{describedFrom}, declared.{lookup.Zones.{Zones}, simple.Described.{Described}}}
 use Rattle.atlas.specs.{Atlas.{isAtlasOf}, Looked.{matchedAtlas}}

@@ -1,13 +1,10 @@
 -- Lookup through an atlas, as document 04 has it: among the rows in the list of the fix's tile, by the marks along their borders.
-use Prim.Native.Nat.{ℕ, _+_, _-_, _*_, _/_}
-use lib.{Dec.{ltb, leb}, ListN.{length, take, drop}}
-use mathlib.Core.{Bool.{Bool, _&&_}, List.{List}}
+use Rattle.numbers.specs.{Prelude.{ℕ, _+_, _-_, _*_, _/_, ltb, leb, length, take, drop, Bool, _&&_, List}, Reply.{Reply, given, refused, plain, demand, _>>=_, _>>_}}
 use Rattle.header.specs.{Header.{headOf}, declared.header.Head.{Head}}
-use Rattle.index.specs.{Index.{tiles, recordsAt}, Tied.{wordAt}, Through.{startOf, placeOf}}
-use Rattle.numbers.specs.Reply.{Reply, given, refused, plain, demand, _>>=_, _>>_}
+use Rattle.index.specs.{Index.{tiles, recordsAt}, Through.{startOf, placeOf}, Tied.{wordAt}}
 use Rattle.table.specs.{Find.{Matched}, Hits.{width}, MarkedRows.{matchedMarked}, declared.location.Location.{Location}}
 use Rattle.zones.specs.{Lent.{Outcome, Replied, repliedOf}, Lookup.{zonesFrom}, declared.lookup.Zones.{Zones}}
-use Rattle.atlas.specs.declared.parts.{Parts.{Parts}, Parting.{Parting}}
+use Rattle.atlas.specs.declared.parts.{Parting.{Parting}, Parts.{Parts}}
 use Rattle.atlas.specs.declared.parts.Parting.the-variants as P
 
 -- the length of all words stands behind the lists, and they are as many: a list that was cut is seen

@@ -1,12 +1,9 @@
 -- The call as a whole, by how far it came before the first fix. Assumes nothing.
-use mathlib.Core.{Path.{_≡_, refl, ap, _∙_}, Bool.{Bool, true, false}, List.{List}}
-use Prim.Native.Nat.{ℕ}
-use lib.{Ieee.{Float}, ListN.{length}}
-use Rattle.numbers.specs.{Lists.{zeros}, Reply.{Reply, plain, demand}, declared.refusal.Refusal.{Refusal}}
-use Rattle.numbers.specs.Reply as R
+use Rattle.numbers.{proofs.Prelude.{ℕ, Float, length, Bool, true, false, List, _≡_, refl, ap, _∙_}, specs.{Lists.{zeros}, Reply.{Reply, plain, demand}, declared.refusal.Refusal.{Refusal}}}
 use Rattle.header.specs.{Header.{headOf}, declared.header.Head.{Head}}
 use Rattle.atlas.specs.Beside.{zonesBeside}
 use Rattle.batch.specs.Many.{Batch, refused, _>>=_, _>>_, metAt, isTaken, fixesOf, Stamped, nothing, eachOf, left, leftOf, stampedMany, manyBeside}
+use Rattle.numbers.specs.Reply as R
 
 module _ (file words : List ℕ) (lats lons : List Float) (asked : Bool) (n room third : ℕ) where
   opening : Bool → Reply Head → Batch Stamped
@@ -27,7 +24,8 @@ module _ (file words : List ℕ) (lats lons : List Float) (asked : Bool) (n room
     not-taken e w = stopped (ap (refused 0) w ∙ ap (λ (test : Bool). opening test (headOf file)) e ∙ whole)
 
     -- the file does not open
-    pub not-opened : {why : Refusal} → true ≡ isTaken (length lats) (length lons) third → R.refused why ≡ headOf file → left (refused 0 why) hs ts told ≡ manyBeside file words lats lons asked n room third
+    pub not-opened : {why : Refusal} → true ≡ isTaken (length lats) (length lons) third → R.refused why ≡ headOf file
+        → left (refused 0 why) hs ts told ≡ manyBeside file words lats lons asked n room third
     unfolding opening
     not-opened e r = stopped ((λ i. opening (e i) (r i)) ∙ whole)
 

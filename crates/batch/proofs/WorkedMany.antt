@@ -1,20 +1,18 @@
 -- A call with two fixes in document 01's printed file, by computation: both are answered, one behind the other. Assumes nothing.
-use mathlib.Core.{Bool.{false}, List.{List, [], _∷_}, Path.{_≡_, refl}}
-use Prim.Native.Nat.{ℕ, _*_}
-use lib.{IntN.{negsuc}, Ieee.{fin, ofInt, add, sub, mul, div, toSigned, Float}}
-use Rattle.numbers.specs.{Varint.{readingOf, forwardAt, valueOf, sizeOf, tooLong}, Point.{signedOf, evenBits, pointOf}, Float.{fixedPoint, oneShifted}, Answer.{checked}}
+use Rattle.numbers.proofs.Prelude.{ℕ, _*_, Float, fin, ofInt, toSigned, add, sub, mul, div, negsuc, Bool, false, List, [], _∷_, _≡_, refl}
+use Rattle.numbers.specs.{Answer.{checked}, Float.{fixedPoint, oneShifted}, Point.{signedOf, evenBits, pointOf}, Varint.{readingOf, forwardAt, valueOf, sizeOf, tooLong}}
 use Rattle.border.specs.{Place.{movedBy}, Reader.{advanced, marker, packedTurn, turnOf}, Trace.{roundAgain, nextWithin, nextPoint, traceThen, traceWithin, traceOf}}
-use Rattle.verdict.specs.Edge.{samePoint, between, inBox, quadrantOf, slopeOf, edgeOf, straight, closestOn}
-use Rattle.verdict.specs.{Winding.{turned, quarterBy, halfTurn, turnAt, crossingOf, acrossBy, clearOf, woundBy}, Distance.{measured}}
-use Rattle.verdict.specs.Verdict.{along, passing, closedAt, thenOn, judge, judgedAt}
-use Rattle.verdict.specs.Step as S
-use Rattle.atlas.specs.Beside.{matchedBeside, zonesBeside}
-use Rattle.header.specs.{Field.{fieldAt}, Header.{preambleOf, textsFrom, sectionsFrom, sectionsAt, contentsBy, headBy}}
-use Rattle.header.specs.{Text.{within, remoteAt, stringAt, bytesOf, textAt}, Utf8.{characters, startedBy, begunBy, followed, goesOn, isUtf8}}
+use Rattle.verdict.specs.{Distance.{measured}, Edge.{samePoint, between, inBox, quadrantOf, slopeOf, edgeOf, straight, closestOn}, Verdict.{along, passing, closedAt, thenOn, judge, judgedAt}}
+use Rattle.verdict.specs.Winding.{turned, quarterBy, halfTurn, turnAt, crossingOf, acrossBy, clearOf, woundBy}
+use Rattle.atlas.{proofs.WorkedAtlas.{walked, walked-is-atlas}, specs.{Atlas.{atlasMade}, Beside.{matchedBeside, zonesBeside}}}
+use Rattle.header.specs.{Field.{fieldAt}, Header.{preambleOf, textsFrom, sectionsFrom, sectionsAt, contentsBy, headBy}, Text.{within, remoteAt, stringAt, bytesOf, textAt}}
+use Rattle.header.specs.Utf8.{characters, startedBy, begunBy, followed, goesOn, isUtf8}
 use Rattle.zones.specs.{Fields.{fieldsFrom, fieldsOf}, Lookup.{safezoneBits}}
 use Rattle.table.specs.{Find.{fixOf, matchedWith}, Hits.{words, width}, Merge.{summary, seen, mergedAfter, merged}, Rows.{rowsThen, rowBy, rowsWithin, rowsFrom, rowsIn}}
 use Rattle.table.specs.{Search.{judgedTurn, rowTurn, seek, searched}, Table.{stepsBy, entryBy}}
+use Rattle.batch.proofs.ManyIsPlain.{many-atlas-is-plain}
 use Rattle.batch.specs.Many.{given, fixesOf, Left, eachOf, stampedMany, answerWords, leftOf, manyBeside, lookedUpMany}
+use Rattle.verdict.specs.Step as S
 
 abbrev printed : List ℕ
 printed =
@@ -33,5 +31,15 @@ seen-of l = record { reply = l .reply; hits = []; text = l .text; answers = l .a
 
 pub two-answered : seen-of (lookedUpMany printed lats lons false (2 * width) 9 7)
     ≡ record { reply = given (record { fixes = 2; matches = 2; used = 8 }); hits = []; text = 0 ∷ 0 ∷ 1 ∷ 0x41 ∷ 0 ∷ 0 ∷ 1 ∷ 0x41 ∷ 0 ∷ []; answers = 1 ∷ 1 ∷ 0 ∷ 1 ∷ 1 ∷ 0 ∷ 0 ∷ [] }
-unfolding readingOf forwardAt valueOf sizeOf tooLong signedOf evenBits pointOf fixedPoint oneShifted checked movedBy advanced marker packedTurn turnOf roundAgain nextWithin nextPoint traceThen traceWithin traceOf along passing closedAt thenOn judge judgedAt fieldAt fieldsFrom fieldsOf fixOf matchedWith preambleOf textsFrom sectionsFrom sectionsAt contentsBy headBy words safezoneBits zonesBeside matchedBeside manyBeside fixesOf eachOf stampedMany answerWords leftOf lookedUpMany summary seen mergedAfter merged rowsThen rowBy rowsWithin rowsFrom rowsIn judgedTurn rowTurn seek searched stepsBy entryBy within remoteAt stringAt bytesOf textAt characters startedBy begunBy followed goesOn isUtf8 samePoint between inBox quadrantOf slopeOf edgeOf straight closestOn turned quarterBy halfTurn turnAt crossingOf acrossBy clearOf woundBy measured S.checked ofInt add sub mul div toSigned
+unfolding readingOf forwardAt valueOf sizeOf tooLong signedOf evenBits pointOf fixedPoint oneShifted checked movedBy advanced marker packedTurn turnOf
+    roundAgain nextWithin nextPoint traceThen traceWithin traceOf along passing closedAt thenOn judge judgedAt fieldAt fieldsFrom fieldsOf fixOf matchedWith
+    preambleOf textsFrom sectionsFrom sectionsAt contentsBy headBy words safezoneBits zonesBeside matchedBeside manyBeside fixesOf eachOf stampedMany
+    answerWords leftOf lookedUpMany summary seen mergedAfter merged rowsThen rowBy rowsWithin rowsFrom rowsIn judgedTurn rowTurn seek searched stepsBy entryBy
+    within remoteAt stringAt bytesOf textAt characters startedBy begunBy followed goesOn isUtf8 samePoint between inBox quadrantOf slopeOf edgeOf straight
+    closestOn turned quarterBy halfTurn turnAt crossingOf acrossBy clearOf woundBy measured S.checked ofInt add sub mul div toSigned
 two-answered = refl
+
+-- ---- through the atlas of a file whose border has marks
+pub walked-many : (lats lons : List Float) (asked : Bool) (n room third : ℕ)
+    → manyBeside walked (atlasMade walked 2114 .words) lats lons asked n room third ≡ lookedUpMany walked lats lons asked n room third
+walked-many = many-atlas-is-plain walked (atlasMade walked 2114 .words) walked-is-atlas

@@ -1,14 +1,11 @@
 -- Many fixes, as document 02 has them (request Q-8): all are answered as one by one, each in the room that the earlier ones left, and the first refusal stops the call.
-use mathlib.Core.{Bool.{Bool, _&&_}, List.{List, [], _∷_, _++_}}
-use Prim.Native.Nat.{ℕ, _-_, _*_}
-use lib.{Dec.{leb, eqb}, Ieee.{Float}, ListN.{length}}
-use Rattle.numbers.specs.{Lists.{zeros, padded}, Reply.{Reply, plain, demand}, declared.refusal.Refusal.{Refusal}}
-use Rattle.numbers.specs.Reply as R
+use Rattle.numbers.specs.{Lists.{zeros, padded}, Prelude.{ℕ, _-_, _*_, eqb, leb, Float, length, Bool, _&&_, List, [], _∷_, _++_}, Reply.{Reply, plain, demand}, declared.refusal.Refusal.{Refusal}}
 use Rattle.header.specs.Header.{headOf}
 use Rattle.table.specs.{Hits.{words}, declared.{hits.Hit.{Hit}, location.Location.{Location}}}
 use Rattle.atlas.specs.Beside.{zonesBeside}
 use Rattle.zones.specs.{Lent.{Outcome}, declared.lookup.Zones.{Zones}}
-use Rattle.batch.specs.declared.many.{Totals.{Totals}, Many.{Many}}
+use Rattle.batch.specs.declared.many.{Many.{Many}, Totals.{Totals}}
+use Rattle.numbers.specs.Reply as R
 use Rattle.batch.specs.declared.many.Many.the-variants as M
 
 -- ---- a call that answers, or is refused at the fix with an index

@@ -1,12 +1,9 @@
 -- The same fixes looked up one by one with plain `lookup`, which opens the file each time, by someone who lends each call what the earlier ones left of the lists.
-use mathlib.Core.{Bool.{Bool}, List.{List, [], _∷_, _++_}}
-use Prim.Native.Nat.{ℕ, _+_, _-_, _*_}
-use lib.ListN.{take, drop}
-use Rattle.numbers.specs.{Lists.{zeros, over}, Reply.{Reply}}
-use Rattle.numbers.specs.Reply as R
+use Rattle.numbers.specs.{Lists.{zeros, over}, Prelude.{ℕ, _+_, _-_, _*_, take, drop, Bool, List, [], _∷_, _++_}, Reply.{Reply}}
 use Rattle.table.specs.{Hits.{width}, declared.location.Location.{Location}}
 use Rattle.zones.specs.{Lookup.{lookedUp}, declared.lookup.Zones.{Zones}}
 use Rattle.batch.specs.Many.{given, refused, answerWords, Left, left}
+use Rattle.numbers.specs.Reply as R
 
 -- what stands from a place of a list on is now this
 abbrev pub fromOn : ℕ → List ℕ → List ℕ → List ℕ

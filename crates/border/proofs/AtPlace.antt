@@ -1,8 +1,5 @@
 -- Bytes at a place of a file: behind others, and numbers there, read plainly and strictly. Assumes nothing.
-use Prim.Native.Nat.{ℕ, _+_, _^_, _≤_, _<_}
-use lib.{ListN.{length, take, drop, length-append, length-drop}, Seq.{take-append-seam, drop-append-seam}}
-use mathlib.Core.{Bool.{Bool}, List.{List, _++_}, Path.{_≡_, sym, ap, subst, _∙_}}
-use native.Mathlib.Omega.{arith}
+use Rattle.numbers.proofs.Prelude.{ℕ, _+_, _^_, _≤_, _<_, length, take, drop, length-append, length-drop, take-append-seam, drop-append-seam, Bool, List, _++_, _≡_, sym, ap, subst, _∙_, arith}
 use Rattle.numbers.{proofs.{Readings.{plain-reading, read-both}, Spelling.{varint-whole}}, specs.{Spelling.{varintOf}, Varint.{numeral, readingOf}}}
 use Rattle.border.proofs.OnWay.{At, at-first, at-next, reads, some-bytes}
 

@@ -1,15 +1,10 @@
 -- Which numbers a border can be refused with where it is read: 12 and 13, and 31 where it is read strictly. Assumes nothing.
-use mathlib.Core.{Bool.{Bool, true}, Path.{_≡_}, List.{List}}
-use Prim.Native.Nat.{ℕ, zero, suc, _^_}
-use lib.{Dec.{ltb, eqb}, IntN.{ℤ, pos, negsuc}, Signed.{mag}}
-use Rattle.numbers.proofs.{Refusals.{Numbered, as-found, as-failed, as-refused, either, then-numbered, backward-numbered}, Readings.{reading-numbered}}
-use Rattle.numbers.specs.{Answer.{Answer, found}, Varint.{readingOf}, declared.point.RawPoint.{RawPoint}}
-use Rattle.numbers.specs.Answer as A
-use Rattle.border.specs.Place.{movedBy, negated}
-use Rattle.border.specs.Reader.{Turn, gives, again, ends, advanced, plainMove, plainPair, plainTurn, opened, reference, marker, lent, packedTurn, turnOf}
+use Rattle.numbers.proofs.{Prelude.{ℕ, zero, suc, _^_, eqb, ltb, ℤ, pos, negsuc, mag, Bool, true, List, _≡_}, Readings.{reading-numbered}, Refusals.{Numbered, as-found, as-failed, as-refused}}
+use Rattle.numbers.{proofs.Refusals.{either, then-numbered, backward-numbered}, specs.{Answer.{Answer, found}, Varint.{readingOf}, declared.point.RawPoint.{RawPoint}}}
+use Rattle.border.specs.{Place.{movedBy, negated}, Reader.{Turn, gives, again, ends, advanced, plainMove, plainPair, plainTurn, opened, reference, marker, lent, packedTurn, turnOf}}
 use Rattle.border.specs.{Trace.{Given, reaches, ended, roundAgain, turns, nextWithin, nextPoint, Trace, traceThen, traceWithin, traceOf}, declared.place.Point.{Point}}
-use Rattle.border.specs.declared.reader.{Encoding.{Encoding}, Reader.{Reader}, Run.{Run, the-variants.{Idle, Forward, Backward}}}
-use Rattle.border.specs.declared.reader.Version.{Version, the-variants.{Plain, Packed}}
+use Rattle.border.specs.declared.reader.{Encoding.{Encoding}, Reader.{Reader}, Run.{Run, the-variants.{Idle, Forward, Backward}}, Version.{Version, the-variants.{Plain, Packed}}}
+use Rattle.numbers.specs.Answer as A
 use Rattle.border.specs.Trace as T
 
 -- a number that a trace is refused with has the property
@@ -63,30 +58,24 @@ module _ {P : ℕ → Type 0} (twelve : P 12) (thirteen : P 13) where
     plain-turn : (s : Reader) → Numbered P (plainTurn (readingOf strict f) s)
     unfolding plainTurn
     plain-turn s =
-        either (Numbered P) (s .begun) (plain-pair s)
-        (then-numbered (forward (s .place)) (λ count. either (Numbered P) (eqb (count .value) 0) as-failed (plain-pair _)))
+        either (Numbered P) (s .begun) (plain-pair s) (then-numbered (forward (s .place)) (λ count. either (Numbered P) (eqb (count .value) 0) as-failed (plain-pair _)))
 
     refers : (base : ℕ) (s : Reader) → Numbered P (reference (readingOf strict f) base s)
     unfolding reference
     refers base s =
-        then-numbered (forward (s .place))
-        (λ start. then-numbered (forward (start .place)) (λ length. then-numbered (opens base _ _) (λ run. as-found)))
+        then-numbered (forward (s .place)) (λ start. then-numbered (forward (start .place)) (λ length. then-numbered (opens base _ _) (λ run. as-found)))
 
     marks : (base : ℕ) (s : Reader) → Numbered P (marker (readingOf strict f) base s)
     unfolding marker
     marks base s =
-        then-numbered (forward (s .place))
-        (λ mark. either (Numbered P) (eqb (mark .value) 0) as-found (either (Numbered P) (eqb (mark .value) 1) (refers base _) as-found))
+        then-numbered (forward (s .place)) (λ mark. either (Numbered P) (eqb (mark .value) 0) as-found (either (Numbered P) (eqb (mark .value) 1) (refers base _) as-found))
 
     packed-turn : (run : Run) (base : ℕ) (s : Reader) → Numbered P (packedTurn run (readingOf strict f) f base s)
     unfolding packedTurn
-    packed-turn Idle base s =
-        then-numbered (forward (s .place)) (λ number. either (Numbered P) (eqb (number .value) 0) (marks base _) (advance _ _))
-    packed-turn (Forward next end) base s =
-        then-numbered (forward next) (λ number. then-numbered (lends (number .value)) (λ by. advance _ by))
+    packed-turn Idle base s = then-numbered (forward (s .place)) (λ number. either (Numbered P) (eqb (number .value) 0) (marks base _) (advance _ _))
+    packed-turn (Forward next end) base s = then-numbered (forward next) (λ number. then-numbered (lends (number .value)) (λ by. advance _ by))
     packed-turn (Backward next end) base s =
-        then-numbered (backward-numbered twelve f next)
-        (λ number. then-numbered (lends (number .value)) (λ by. then-numbered (turned-back by) (λ back. advance _ back)))
+        then-numbered (backward-numbered twelve f next) (λ number. then-numbered (lends (number .value)) (λ by. then-numbered (turned-back by) (λ back. advance _ back)))
 
     turn : (version : Version) (base : ℕ) (s : Reader) → Numbered P (turnOf strict f version base s)
     unfolding turnOf

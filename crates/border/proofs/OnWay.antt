@@ -1,12 +1,9 @@
 -- Bytes that stand at a place of a file, and a reader on its way through a border: what one turn delivers, and what the turns after it. Assumes nothing.
-use Prim.Native.Nat.{ℕ, suc, _+_, _-_, _<_}
-use lib.{ListN.{length, getD, drop}, Seq.{drop-drop, drop-append-seam, getD-drop}}
-use mathlib.Core.{Bool.{Bool, true, false}, List.{List, [], _∷_, _++_, append-assoc}, Path.{_≡_, refl, sym, ap, _∙_}}
-use native.Mathlib.Nat.{add-zero}
-use Rattle.numbers.specs.{declared.point.RawPoint.{RawPoint}, Answer.{found, if_then_else_}, Spelling.{Whole}, Varint.{numeral, readingOf, backwardAt}}
-use Rattle.numbers.proofs.{Wholes.{whole-forward, whole-clear, whole-backward, whole-some}, Readings.{plain-reading}}
-use Rattle.border.specs.{declared.{place.Point.{Point}, reader.{Reader.{Reader}, Run.{Run, the-variants.{Idle}}, Version.{Version}}}, Encoding.{encodedIn}}
-use Rattle.border.specs.{Place.{movedBy}, Reader.{gives, again, closing, turnOf}, Trace.{point, closed, traceOf}, Written.{Leads, pointsThen}}
+use Rattle.numbers.proofs.Prelude.{ℕ, suc, _+_, _<_, length, drop, getD, drop-drop, getD-drop, drop-append-seam, Bool, true, false, List, [], _∷_, _++_, append-assoc, _≡_, refl, sym, ap, _∙_}
+use Rattle.numbers.{proofs.{Prelude.{add-zero}, Readings.{plain-reading}, Wholes.{whole-forward, whole-clear, whole-backward, whole-some}}, specs.{Answer.{found, if_then_else_}, Spelling.{Whole}}}
+use Rattle.numbers.specs.{Varint.{numeral, readingOf, backwardAt}, declared.point.RawPoint.{RawPoint}}
+use Rattle.border.specs.{Encoding.{encodedIn}, Place.{movedBy}, Reader.{gives, again, closing, turnOf}, Trace.{point, closed, traceOf}, Written.{Leads, pointsThen}}
+use Rattle.border.specs.declared.{place.Point.{Point}, reader.{Reader.{Reader}, Run.{Run, the-variants.{Idle}}, Version.{Version}}}
 use Rattle.border.proofs.{Trace.{gives-trace, again-trace, ends-trace}, reader.Turns.{closed-ends}}
 use Rattle.border.specs.Written as W
 
@@ -57,7 +54,8 @@ headOr first (q ∷ qs) = q
 -- from a state on the moves lead through the points, and the border closes with its first one
 abbrev pub Reads : List ℕ → Version → ℕ → Bool → ℕ → ℕ → Run → List RawPoint → Type 0
 Reads f version base begun place left run moves =
-    (first p : Point) (qs : List Point) → Leads p moves qs → traceOf f (encodedIn version base) (onWay begun place left run first p) ≡ pointsThen qs (point (if begun then first else headOr first qs) closed)
+    (first p : Point) (qs : List Point) → Leads p moves qs → traceOf f (encodedIn version base) (onWay begun place left run first p) ≡ pointsThen qs
+    (point (if begun then first else headOr first qs) closed)
 
 module _ (f : List ℕ) (version : Version) (base : ℕ) (begun : Bool) (place left : ℕ) (run : Run) where
   abbrev state : Point → Point → Reader
@@ -69,11 +67,11 @@ module _ (f : List ℕ) (version : Version) (base : ℕ) (begun : Bool) (place l
       → Reads f version base true place′ left′ run′ moves → Reads f version base begun place left run (by ∷ moves)
   unfolding pointsThen
   steps place′ left′ run′ by moves turn rest first p (q ∷ qs) (W.step m l) =
-      sym (gives-trace f (encodedIn version base) (state first p) (onWay true place′ left′ run′ (if begun then first else q) q) (sym (turn first p q (sym m)))) ∙ ap (point q) (rest (if begun then first else q) q qs l)
+      sym (gives-trace f (encodedIn version base) (state first p) (onWay true place′ left′ run′ (if begun then first else q) q) (sym (turn first p q (sym m))))
+      ∙ ap (point q) (rest (if begun then first else q) q qs l)
 
   -- a turn that reads on
-  pub reads-on : (place′ left′ : ℕ) (run′ : Run) (moves : List RawPoint)
-      → ((first p : Point) → turnOf false f version base (state first p) ≡ found (again (onWay begun place′ left′ run′ first p)))
+  pub reads-on : (place′ left′ : ℕ) (run′ : Run) (moves : List RawPoint) → ((first p : Point) → turnOf false f version base (state first p) ≡ found (again (onWay begun place′ left′ run′ first p)))
       → Reads f version base begun place′ left′ run′ moves → Reads f version base begun place left run moves
   reads-on place′ left′ run′ moves turn rest first p qs l =
       sym (again-trace f (encodedIn version base) (state first p) (onWay begun place′ left′ run′ first p) (sym (turn first p))) ∙ rest first p qs l
@@ -82,12 +80,9 @@ module _ (f : List ℕ) (version : Version) (base : ℕ) (begun : Bool) (place l
   pub closes-with : (place′ left′ : ℕ) → ((first p : Point) → turnOf false f version base (state first p) ≡ found (gives (closing (onWay begun place′ left′ Idle first p))))
       → Reads f version base begun place left run []
   unfolding pointsThen
-  closes-with place′ left′ turn first p [] W.stays =
-      let end = closing (onWay begun place′ left′ Idle first p) in
-      sym (gives-trace f (encodedIn version base) (state first p) end (sym (turn first p)))
-      ∙ ap (point first) (sym (ends-trace f (encodedIn version base) end (sym (closed-ends false f version base end refl))))
-      ∙ ap (λ (q : Point). point q closed) (same begun)
-    where
-      same : (t : Bool) → first ≡ (if t then first else first)
-      same true = refl
-      same false = refl
+  closes-with place′ left′ turn first p [] W.stays = let end = closing (onWay begun place′ left′ Idle first p) in
+      sym (gives-trace f (encodedIn version base) (state first p) end (sym (turn first p))) ∙ ap (point first) (sym (ends-trace f (encodedIn version base) end
+      (sym (closed-ends false f version base end refl)))) ∙ ap (λ (q : Point). point q closed) (same begun) where
+        same : (t : Bool) → first ≡ (if t then first else first)
+        same true = refl
+        same false = refl

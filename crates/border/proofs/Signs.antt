@@ -1,18 +1,11 @@
 -- Coordinates and windings are i32: read back from their bits, widened, compared. Assumes nothing.
-use Prim.Native.Nat.{ℕ, suc, _^_}
-use native.Mathlib.Omega.{arith}
-use mathlib.Core.{Path.{_≡_, refl, sym, _∙_}, Bool.{Bool, true, false, _&&_}}
-use lib.{Dec.{ltb, leb}, IntN.{ℤ, pos, negsuc, _+ℤ_, _-ℤ_}, Signed.{mag, leZ}}
-use mir.{Syntax.{w32, w64}, Val.{SFits, toZ, ofZ}, Facts.{toZ-ofZ}}
-use borrow.Author.Tests.{ltb-true, leb-true, lt-ltb, le-leb}
-use Rattle.numbers.proofs.write.Gaps.{widened}
+use Rattle.numbers.proofs.Prelude.{ℕ, suc, _^_, lt-ltb, le-leb, leb-true, ltb-true, ltb, leb, ℤ, pos, negsuc, _+ℤ_, _-ℤ_, mag, leZ, Bool, true, false, _&&_, _≡_, refl, sym, _∙_, w32, w64, SFits, ofZ}
+use Rattle.numbers.proofs.{Prelude.{toZ, arith}, write.Gaps.{widened}}
+use mir.Facts.{toZ-ofZ}
 use Rattle.border.proofs.place.Whole.{sum-fits, difference-fits}
+use mathlib.Core.Bool.{and-true}
 
 -- ---- tests
-
-pub and-true : (t : Bool) → (t && true) ≡ t
-and-true true = refl
-and-true false = refl
 
 -- two tests of the same
 pub by-test : (t u : Bool) → (t ≡ true → u ≡ true) → (u ≡ true → t ≡ true) → t ≡ u

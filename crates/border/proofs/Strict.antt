@@ -1,12 +1,10 @@
 -- A border read strictly (request Q-6): refused 31, or the points of the plain reading. Assumes nothing.
-use Prim.Native.Nat.{ℕ, zero, suc}
-use lib.Dec.{eqb}
-use mathlib.Core.{Bool.{true, false}, List.{List}}
+use Rattle.numbers.proofs.Prelude.{ℕ, zero, suc, eqb, true, false, List}
 use Rattle.numbers.{proofs.Readings.{Strictly, cut, same, then-strictly, strictly-either, reading-strictly}, specs.{Answer.{Answer, found}, Varint.{readingOf}}}
-use Rattle.numbers.specs.Answer as A
 use Rattle.border.specs.{Encoding.{encodedBy}, Reader.{Turn, gives, again, ends, onward, plainPair, plainTurn, reference, marker, packedTurn, turnOf}}
-use Rattle.border.specs.{Trace.{Given, reaches, ended, roundAgain, turns, nextWithin, nextPoint, Trace, traceThen, traceWithin, traceOf}, declared.place.Point.{Point}}
-use Rattle.border.specs.declared.reader.{Reader.{Reader}, Run.{Run, the-variants.{Idle, Forward, Backward}}, Version.{Version, the-variants.{Plain, Packed}}}
+use Rattle.border.specs.{Trace.{Given, reaches, ended, roundAgain, turns, nextWithin, nextPoint, Trace, traceThen, traceWithin, traceOf}, declared.{place.Point.{Point}, reader.Reader.{Reader}}}
+use Rattle.border.specs.declared.reader.{Run.{Run, the-variants.{Idle, Forward, Backward}}, Version.{Version, the-variants.{Plain, Packed}}}
+use Rattle.numbers.specs.Answer as A
 use Rattle.border.specs.Trace as T
 
 -- ---- one turn

@@ -1,14 +1,11 @@
 -- The next point and the trace, turn by turn: the turns that their definitions allow are never used up. Assumes nothing.
-use Prim.Native.Nat.{ℕ, zero, suc, _*_, _<_, _≤_}
-use native.Mathlib.Nat.{lt-of-lt-of-le, le-refl, le-of-lt, le-of-suc-le-suc, not-suc-le-zero, lt-trans, lt-suc-self}
-use mathlib.Core.{Path.{_≡_, refl, sym, ap, _∙_, subst}, List.{List}}
-use lib.ListN.{length}
-use Rattle.numbers.specs.Answer as A
-use Rattle.numbers.{specs.Answer.{Answer, found, _>>=_}, proofs.Answers.{All}}
-use Rattle.border.specs.Reader.{Turn, gives, again, ends, turnOf}
-use Rattle.border.specs.Trace.{Given, reaches, ended, roundAgain, turns, nextWithin, nextPoint, Trace, point, closed, failed, refused, traceThen, traceWithin, traceOf}
-use Rattle.border.specs.declared.reader.{Reader.{Reader}, Encoding.{Encoding}}
+use Rattle.numbers.proofs.Prelude.{ℕ, zero, suc, _*_, _≤_, _<_, length, List, _≡_, refl, sym, ap, subst, _∙_, le-refl, le-of-lt, lt-of-lt-of-le}
+use Rattle.numbers.{proofs.Answers.{All}, specs.Answer.{Answer, found, _>>=_}}
+use native.Mathlib.Nat.{le-of-suc-le-suc, not-suc-le-zero, lt-trans, lt-suc-self}
+use Rattle.border.specs.{Reader.{Turn, gives, again, ends, turnOf}, Trace.{Given, reaches, ended, roundAgain, turns, nextWithin, nextPoint, Trace, point, closed, failed, refused, traceThen}}
+use Rattle.border.specs.{Trace.{traceWithin, traceOf}, declared.reader.{Encoding.{Encoding}, Reader.{Reader}}}
 use Rattle.border.proofs.Room.{left, room-most, Less, turn-lowers}
+use Rattle.numbers.specs.Answer as A
 
 -- where there is a next point, there is less room than b
 abbrev LessThere : List ℕ → ℕ → Given → Type 0
@@ -70,8 +67,8 @@ module _ (f : List ℕ) (encoding : Encoding) where
   unfolding nextWithin
   within-less zero b s h = tt
   within-less (suc n) b s h =
-      round-less f b (turnOf (encoding .strict) f (encoding .version) (encoding .«data») s) _ (loosen f b (left f s) (turnOf (encoding .strict) f (encoding .version) (encoding .«data») s) h (turn-lowers (encoding .strict) f (encoding .version) (encoding .«data») s))
-      (λ t l. within-less n b t (le-of-lt l))
+      round-less f b (turnOf (encoding .strict) f (encoding .version) (encoding .«data») s) _ (loosen f b (left f s) (turnOf (encoding .strict) f
+      (encoding .version) (encoding .«data») s) h (turn-lowers (encoding .strict) f (encoding .version) (encoding .«data») s)) (λ t l. within-less n b t (le-of-lt l))
 
   next-lowers : (s : Reader) → All (LessThere f (left f s)) (nextPoint f encoding s)
   unfolding nextPoint
@@ -82,15 +79,13 @@ module _ (f : List ℕ) (encoding : Encoding) where
   trace-agree zero m s h k = absurd (not-suc-le-zero h)
   trace-agree (suc n) zero s h k = absurd (not-suc-le-zero k)
   trace-agree (suc n) (suc m) s h k =
-      then-agree f (left f s) (nextPoint f encoding s) _ _ (next-lowers s)
-      (λ t l. trace-agree n m t (lt-of-lt-of-le l (le-of-suc-le-suc h)) (lt-of-lt-of-le l (le-of-suc-le-suc k)))
+      then-agree f (left f s) (nextPoint f encoding s) _ _ (next-lowers s) (λ t l. trace-agree n m t (lt-of-lt-of-le l (le-of-suc-le-suc h)) (lt-of-lt-of-le l (le-of-suc-le-suc k)))
 
   -- the trace, point by point: reading always ends
   pub trace-step : (s : Reader) → traceOf f encoding s ≡ traceThen (nextPoint f encoding s) (traceOf f encoding)
   unfolding traceOf traceWithin
   trace-step s =
-      then-agree f (left f s) (nextPoint f encoding s) _ _ (next-lowers s)
-      (λ t l. trace-agree _ _ t (enough s t l) (lt-trans (enough s t l) (lt-suc-self _)))
+      then-agree f (left f s) (nextPoint f encoding s) _ _ (next-lowers s) (λ t l. trace-agree _ _ t (enough s t l) (lt-trans (enough s t l) (lt-suc-self _)))
 
   -- ---- what a loop over turns or points needs
 
@@ -110,8 +105,11 @@ module _ (f : List ℕ) (encoding : Encoding) where
 
   -- ---- the trace, turn by turn
 
-  by-turn : (s : Reader) {t : Answer Turn} → t ≡ turnOf (encoding .strict) f (encoding .version) (encoding .«data») s → traceThen (t >>= roundAgain (nextPoint f encoding)) (traceOf f encoding) ≡ traceOf f encoding s
-  by-turn s e = ap (λ (u : Answer Turn). traceThen (u >>= roundAgain (nextPoint f encoding)) (traceOf f encoding)) e ∙ ap (λ (n : Answer Given). traceThen n (traceOf f encoding)) (sym (next-step s)) ∙ sym (trace-step s)
+  by-turn : (s : Reader) {t : Answer Turn} → t ≡ turnOf (encoding .strict) f (encoding .version) (encoding .«data») s
+      → traceThen (t >>= roundAgain (nextPoint f encoding)) (traceOf f encoding) ≡ traceOf f encoding s
+  by-turn s e =
+      ap (λ (u : Answer Turn). traceThen (u >>= roundAgain (nextPoint f encoding)) (traceOf f encoding)) e ∙ ap (λ (n : Answer Given). traceThen n (traceOf f encoding))
+      (sym (next-step s)) ∙ sym (trace-step s)
 
   pub gives-trace : (s t : Reader) → found (gives t) ≡ turnOf (encoding .strict) f (encoding .version) (encoding .«data») s → point (t .point) (traceOf f encoding t) ≡ traceOf f encoding s
   unfolding roundAgain traceThen

@@ -1,11 +1,9 @@
 -- Document 01's border (2,2) (10,2) (10,10) (2,10), in both versions, and with its moves borrowed in both directions: its points, then the first again, closed. Assumes nothing.
-use mathlib.Core.{Path.{_≡_, refl}, List.{[], _∷_}}
-use lib.IntN.{pos}
-use Rattle.numbers.specs.{Varint.{readingOf, forwardAt, valueOf, sizeOf, tooLong, startOf, backwardAt}, Point.{signedOf, evenBits, pointOf}, Answer.{checked}}
-use Rattle.border.specs.Place.{pointAt, isStill, movedBy, negated}
+use Rattle.numbers.proofs.Prelude.{pos, [], _∷_, _≡_, refl}
+use Rattle.numbers.specs.{Answer.{checked}, Point.{signedOf, evenBits, pointOf}, Varint.{readingOf, forwardAt, valueOf, sizeOf, tooLong, startOf, backwardAt}}
+use Rattle.border.specs.{Encoding.{encodedIn}, Place.{pointAt, isStill, movedBy, negated}}
 use Rattle.border.specs.Reader.{advanced, plainMove, plainPair, plainTurn, opened, reference, marker, lent, forwardFrom, backwardFrom, packedTurn, turnOf}
-use Rattle.border.specs.{Trace.{roundAgain, nextWithin, nextPoint, Trace, point, closed, traceThen, traceWithin, traceOf, borderAt}, Encoding.{encodedIn}}
-use Rattle.border.specs.declared.reader.Version.the-variants.{Plain, Packed}
+use Rattle.border.specs.{Trace.{roundAgain, nextWithin, nextPoint, Trace, point, closed, traceThen, traceWithin, traceOf, borderAt}, declared.reader.Version.the-variants.{Plain, Packed}}
 
 abbrev pub square : Trace
 square = point (pointAt (pos 2) (pos 2)) (point (pointAt (pos 10) (pos 2)) (point (pointAt (pos 10) (pos 10)) (point (pointAt (pos 2) (pos 10)) (point (pointAt (pos 2) (pos 2)) closed))))
@@ -19,11 +17,13 @@ unfolding readingOf traceOf traceWithin traceThen nextPoint nextWithin roundAgai
 plain-square = refl
 
 forward-square : traceOf (128 ∷ 2 ∷ 128 ∷ 4 ∷ 48 ∷ 0 ∷ 1 ∷ 0 ∷ 8 ∷ 129 ∷ 2 ∷ 0 ∷ 0 ∷ []) (encodedIn Packed 0) (borderAt 4) ≡ square
-unfolding readingOf traceOf traceWithin traceThen nextPoint nextWithin roundAgain turnOf packedTurn marker reference opened lent forwardFrom advanced movedBy checked forwardAt valueOf sizeOf tooLong signedOf evenBits pointOf
+unfolding readingOf traceOf traceWithin traceThen nextPoint nextWithin roundAgain turnOf packedTurn marker reference opened lent forwardFrom advanced movedBy
+    checked forwardAt valueOf sizeOf tooLong signedOf evenBits pointOf
 forward-square = refl
 
 backward-square : traceOf (127 ∷ 0 ∷ 130 ∷ 4 ∷ 129 ∷ 2 ∷ 48 ∷ 0 ∷ 1 ∷ 5 ∷ 9 ∷ 129 ∷ 2 ∷ 0 ∷ 0 ∷ []) (encodedIn Packed 1) (borderAt 6) ≡ square
-unfolding readingOf traceOf traceWithin traceThen nextPoint nextWithin roundAgain turnOf packedTurn marker reference opened lent backwardFrom negated advanced movedBy checked backwardAt startOf forwardAt valueOf sizeOf tooLong signedOf evenBits pointOf
+unfolding readingOf traceOf traceWithin traceThen nextPoint nextWithin roundAgain turnOf packedTurn marker reference opened lent backwardFrom negated advanced
+    movedBy checked backwardAt startOf forwardAt valueOf sizeOf tooLong signedOf evenBits pointOf
 backward-square = refl
 
 -- point 3 is (0,0) and no marker: a point like any other, and the border goes on

@@ -1,8 +1,5 @@
 -- The encoding of a file's borders: their version, the place that references count from, and whether numbers are read strictly.
-use Prim.Native.Nat.{ℕ}
-use mathlib.Core.Bool.{Bool, false}
-use lib.Dec.{eqb}
-use Rattle.numbers.specs.Answer.{if_then_else_}
+use Rattle.numbers.specs.{Answer.{if_then_else_}, Prelude.{ℕ, eqb, Bool, false}}
 use Rattle.border.specs.declared.reader.{Encoding.{Encoding}, Version.{Version, the-variants.{Plain, Packed}}}
 
 -- a version by its number

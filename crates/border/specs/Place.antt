@@ -1,7 +1,5 @@
 -- Fixed points and the moves between them, as document 01 has them.
-use mathlib.Core.Bool.{Bool, false, _&&_}
-use lib.{Dec.{eqb}, IntN.{ℤ, pos, negsuc, negℤ, _+ℤ_}}
-use Rattle.numbers.specs.{Answer.{Answer, found, checked, _>>=_}, declared.point.RawPoint.{RawPoint}}
+use Rattle.numbers.specs.{Answer.{Answer, found, checked, _>>=_}, Prelude.{eqb, ℤ, pos, negsuc, _+ℤ_, negℤ, Bool, false, _&&_}, declared.point.RawPoint.{RawPoint}}
 use Rattle.border.specs.declared.place.Point.{Point}
 
 -- a point and a move by their numbers

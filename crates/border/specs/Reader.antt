@@ -1,11 +1,8 @@
 -- The points of a border, one turn of the reader's loop at a time: document 01, "Points, verdict, merge".
-use Prim.Native.Nat.{ℕ, zero, suc, _+_, _-_, _%_, _^_}
-use mathlib.Core.{Bool.{Bool, true}, List.{List}}
-use lib.{Dec.{ltb, leb, eqb}, IntN.{ℤ, pos, negsuc, _+ℤ_, _-ℤ_}}
-use Rattle.numbers.specs.{Answer.{Answer, found, failed, checked, if_then_else_, _>>=_}, Varint.{Numeral, readingOf, backwardAt}, Point.{low32, signedOf, pointOf}}
-use Rattle.numbers.specs.declared.point.RawPoint.{RawPoint}
-use Rattle.border.specs.{Place.{moveBy, isStill, movedBy, negated}, declared.place.Point.{Point}}
-use Rattle.border.specs.declared.reader.{Reader.{Reader}, Version.{Version, the-variants.{Plain, Packed}}, Run.{Run, the-variants.{Idle, Forward, Backward}}}
+use Rattle.numbers.specs.Prelude.{ℕ, zero, suc, _+_, _-_, _%_, _^_, eqb, ltb, leb, ℤ, pos, negsuc, _+ℤ_, _-ℤ_, Bool, true, List}
+use Rattle.numbers.specs.{Answer.{Answer, found, failed, checked, if_then_else_, _>>=_}, Point.{low32, signedOf, pointOf}, Varint.{Numeral, readingOf, backwardAt}, declared.point.RawPoint.{RawPoint}}
+use Rattle.border.specs.{Place.{moveBy, isStill, movedBy, negated}, declared.{place.Point.{Point}, reader.{Reader.{Reader}, Run.{Run, the-variants.{Idle, Forward, Backward}}}}}
+use Rattle.border.specs.declared.reader.Version.{Version, the-variants.{Plain, Packed}}
 
 -- what a turn comes to: a point, which is the state's own; another turn; the border's end
 pub data Turn : Type 0 where

@@ -1,11 +1,7 @@
 -- The next point of a border, and the points of a whole border with how it ends.
-use Prim.Native.Nat.{ℕ, zero, suc, _*_}
-use mathlib.Core.{Bool.{false}, List.{List}}
-use lib.{IntN.{pos}, ListN.{length}}
+use Rattle.numbers.specs.{Answer.{Answer, found, _>>=_}, Prelude.{ℕ, zero, suc, _*_, pos, length, false, List}}
+use Rattle.border.specs.{Place.{pointAt}, Reader.{Turn, gives, again, ends, turnOf}, declared.{place.Point.{Point}, reader.{Encoding.{Encoding}, Reader.{Reader}, Run.the-variants.{Idle}}}}
 use Rattle.numbers.specs.Answer as A
-use Rattle.numbers.specs.Answer.{Answer, found, _>>=_}
-use Rattle.border.specs.{Place.{pointAt}, Reader.{Turn, gives, again, ends, turnOf}}
-use Rattle.border.specs.declared.{place.Point.{Point}, reader.{Reader.{Reader}, Encoding.{Encoding}, Run.the-variants.{Idle}}}
 
 -- the state at the next point, which is its own; or the border's end
 pub data Given : Type 0 where

@@ -1,10 +1,8 @@
 -- What stands in a file as a written border: document 01, "The writer". It says what the bytes are, not how they are read.
-use Prim.Native.Nat.{ℕ, _+_, _<_, _≤_}
-use mathlib.Core.{Path.{_≡_}, Bool.{false}, List.{List, [], _∷_, _++_}}
-use lib.{IntN.{pos, negℤ}, ListN.{length}}
-use Rattle.numbers.specs.{Limits.{largestFile}, Answer.{found}, Spelling.{Whole}, Point.{signedOf, pointOf}, declared.point.RawPoint.{RawPoint}}
-use Rattle.border.specs.{Place.{pointAt, moveBy, isStill, movedBy, negated}, Trace.{Trace, point, closed}}
-use Rattle.border.specs.declared.{place.Point.{Point}, reader.Version.{Version, the-variants.{Plain, Packed}}}
+use Rattle.numbers.specs.Prelude.{ℕ, _+_, _≤_, _<_, pos, negℤ, length, false, List, [], _∷_, _++_, _≡_}
+use Rattle.numbers.specs.{Answer.{found}, Limits.{largestFile}, Point.{signedOf, pointOf}, Spelling.{Whole}, declared.point.RawPoint.{RawPoint}}
+use Rattle.border.specs.{Place.{pointAt, moveBy, isStill, movedBy, negated}, Trace.{Trace, point, closed}, declared.{place.Point.{Point}, reader.Version.{Version}}}
+use Rattle.border.specs.declared.reader.Version.the-variants.{Plain, Packed}
 
 -- a run "splits into whole varints, none 0": the moves that they are
 pub data Splits : List ℕ → List RawPoint → Type 0 where
@@ -21,7 +19,8 @@ pub data Turned : List RawPoint → List RawPoint → Type 0 where
 pub data Borrowed (earlier : List ℕ) : ℕ → ℕ → List RawPoint → Type 0 where
   forward : (before run after : List ℕ) {size : ℕ} {moves : List RawPoint} → earlier ≡ before ++ (run ++ after) → signedOf size ≡ pos (length run)
       → Splits run moves → Borrowed earlier (length before) size moves
-  backward : (before : List ℕ) (clear : ℕ) (run after : List ℕ) {size : ℕ} {moves turned : List RawPoint} → earlier ≡ before ++ (clear ∷ (run ++ after)) → clear < 128 → signedOf size ≡ negℤ (pos (length run))
+  backward : (before : List ℕ) (clear : ℕ) (run after : List ℕ) {size : ℕ} {moves turned : List RawPoint}
+      → earlier ≡ before ++ (clear ∷ (run ++ after)) → clear < 128 → signedOf size ≡ negℤ (pos (length run))
       → Splits run moves → Turned moves turned → Borrowed earlier (length before + 1 + length run) size turned
 
 -- version 1, behind the earlier data: "moves, 00 00"; a piece "is written 00 01", then its two numbers

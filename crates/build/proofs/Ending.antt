@@ -1,28 +1,22 @@
 -- The last steps of a build, and what they make of the first. Assumes nothing.
-use Prim.Native.Nat.{ℕ, _+_, _*_, _/_, _^_, _≤_, _<_, min}
-use borrow.Author.Tests.{le-leb, lt-leb, ltb-true}
-use lib.{Dec.{ltb, leb, eqb}, IntN.{ℤ}, ListN.{length, take, drop, length-replicate}}
-use mathlib.Core.{Bool.{Bool, true, false, _&&_}, List.{List, [], _∷_, _++_}, Path.{_≡_, refl, sym, ap, subst, _∙_}}
-use native.Mathlib.Omega.{arith}
-use Rattle.writer.{proofs.Stores.{stored-front}, specs.{inner.Stored.{Stored}, Writer.{borderOf, every}}}
-use Rattle.builder.proofs.Counting.{counted-is, readable-is, values-many, yards-many}
-use Rattle.builder.specs.Borders.{Drawn, drawnFrom, drawnOf, passed, withBorder}
+use Rattle.numbers.proofs.{Lists.{zeros-drop}, Prelude.{ℕ, _+_, _*_, _/_, _^_, _≤_, _<_, min, le-leb, ltb-true, lt-leb, eqb, ltb, leb, ℤ, length, take, drop, length-replicate, Bool, true, false}}
+use Rattle.numbers.{proofs.{Prelude.{_&&_, List, [], _∷_, _++_, _≡_, refl, sym, ap, subst, _∙_, arith}, Replies.{demanded, given-from}, Tests.{both}}, specs.{Lists.{padded, zeros}, Reply.{Reply}}}
+use Rattle.numbers.specs.{Reply.{given, refused, plain, demand, _>>=_, _>>_}, declared.refusal.Refusal.{Refusal}}
+use Rattle.writer.{proofs.Stores.{stored-front}, specs.{Writer.{borderOf, every}, inner.Stored.{Stored}}}
+use Rattle.builder.{proofs.{Counting.{counted-is, readable-is, values-many, yards-many}, drawing.Sections.{appended-fits, drawn-alone}}, specs.Borders.{Drawn, drawnFrom, drawnOf, passed, withBorder}}
 use Rattle.builder.specs.File.{Room, areTexts, bordersGood, builtOf, counted, fileOf, fitted, known, readable, upTo}
-use Rattle.builder.specs.{Yards.{Lent, Plan, Yard, countedLengths, countsGood, cutBy, lengthsGood, planOf, valuesFrom, yardsFrom}, declared.borders.Border.{Border}}
-use Rattle.builder.specs.declared.borders.Border.the-variants as B
-use Rattle.builder.{proofs.drawing.Sections.{appended-fits, drawn-alone}, specs.inner.Drawing.Section.{DrawsAll}}
-use Rattle.builder.specs.inner.Drawing.Section as Section
+use Rattle.builder.specs.{Yards.{Lent, Plan, Yard, countedLengths, countsGood, cutBy, lengthsGood, planOf, valuesFrom, yardsFrom}, declared.borders.Border.{Border}, inner.Drawing.Section.{DrawsAll}}
 use Rattle.build.proofs.entries.Tabled.{drawn-many}
-use Rattle.numbers.proofs.{Lists.{zeros-drop}, Replies.{demanded, given-from}}
-use Rattle.numbers.specs.{Lists.{padded, zeros}, Reply.{Reply, given, refused, plain, demand, _>>=_, _>>_}, declared.refusal.Refusal.{Refusal}}
-use Rattle.numbers.proofs.Tests.{both}
-use Rattle.build.specs.{Checked.{checked, lentAs}, Room.{enoughFor, needOf, roomOf}, Whole.{Builds, toldBuilt}, inner.Whole.{Drew, Fills, Good, Settles, Starts, endsAs, fileFor}}
-use Rattle.build.specs.declared.{file.Built.{Built}, room.Work.{Work}}
+use Rattle.build.specs.{Checked.{checked, lentAs}, Room.{enoughFor, needOf, roomOf}, Whole.{Builds, toldBuilt}, declared.{file.Built.{Built}, room.Work.{Work}}}
+use Rattle.build.specs.inner.Whole.{Drew, Fills, Good, Settles, Starts, endsAs, fileFor}
+use Rattle.builder.specs.declared.borders.Border.the-variants as B
+use Rattle.builder.specs.inner.Drawing.Section
 use Rattle.build.specs.declared.file.Built.the-variants as W
 
 -- ---- the checks come first, then the borders
 built-by : (b : Reply (Unit {0})) (c r k : Bool) (drawn : Reply Drawn) (rest : Drawn → Reply (List ℕ))
-    → (b >> (demand c (plain 25) >> (demand r (plain 26) >> (demand k (plain 27) >> (drawn >>= rest))))) ≡ ((b >> (demand c (plain 25) >> (demand r (plain 26) >> demand k (plain 27)))) >> (drawn >>= rest))
+    → (b >> (demand c (plain 25) >> (demand r (plain 26) >> (demand k (plain 27) >> (drawn >>= rest))))) ≡
+    ((b >> (demand c (plain 25) >> (demand r (plain 26) >> demand k (plain 27)))) >> (drawn >>= rest))
 built-by (refused why) c r k drawn rest = refl
 built-by (given u) false r k drawn rest = refl
 built-by (given u) true false k drawn rest = refl
@@ -66,23 +60,18 @@ drawn-few most version room sofar (yard ∷ yards) d e h k =
     let two = given-from (drawnFrom version room (one .it) yards) (λ rest. given (record { bytes = rest .bytes; places = length sofar ∷ rest .places })) (one .onto) in
     let fits : length (one .it) ≤ room = appended-fits room sofar (yard .cut) (length (yard .pieces)) (borderOf version (yard .lats) (yard .lons) (yard .pieces) sofar) (one .it) (sym (one .is)) in
     let more : length (two .it .bytes) ≤ most = drawn-few most version room (one .it) yards (two .it) (two .is) (omega (arith, fits, k)) k in
-    let same : d .bytes ≡ two .it .bytes = ap bytesOf (two .onto) in
-    omega (arith, ap length same, more)
+    let same : d .bytes ≡ two .it .bytes = ap bytesOf (two .onto) in omega (arith, ap length same, more)
 
 -- ---- what a refusal or a good check says
 never : (why : Refusal) → _≡_ {A = Reply (Unit {0})} (given tt) (refused why) → ⊥
-never why e = let z : _≡_ {A = ℕ} 0 1 = ap flag e in omega (arith, z)
-  where
-    flag : Reply (Unit {0}) → ℕ
-    flag (given u) = 0
-    flag (refused why) = 1
+never why e = let z : _≡_ {A = ℕ} 0 1 = ap flag e in omega (arith, z) where
+  flag : Reply (Unit {0}) → ℕ
+  flag (given u) = 0
+  flag (refused why) = 1
 
 all-met : (b : Reply (Unit {0})) (c r k : Bool) → _≡_ {A = Reply (Unit {0})} (given tt) (b >> (demand c (plain 25) >> (demand r (plain 26) >> demand k (plain 27)))) → (c ≡ true) × (r ≡ true)
 all-met (refused why) c r k e = absurd (never why e)
-all-met (given u) c r k e =
-    let one = demanded c (plain 25) e in
-    let two = demanded r (plain 26) (one .1) in
-    (one .0, two .0)
+all-met (given u) c r k e = let one = demanded c (plain 25) e in (one .0, demanded r (plain 26) (one .1) .0)
 
 module _ (kind version precision names : ℕ) (yards : List ℕ) (lats lons : List ℤ) (pieces lengths texts : List ℕ) where
   abbrev lent : Lent
@@ -90,10 +79,8 @@ module _ (kind version precision names : ℕ) (yards : List ℕ) (lats lons : Li
 
   pub checked-good : checked (planOf lent) ≡ given tt → Good names yards lengths texts
   unfolding checked countedLengths
-  checked-good ok =
-      let met = all-met (bordersGood (planOf lent .yards)) (counted (planOf lent)) (readable (planOf lent)) (known (planOf lent)) (sym ok) in
-      let good : countsGood names yards (length lengths) ≡ true = sym (counted-is lent) ∙ met .0 in
-      record {
+  checked-good ok = let met = all-met (bordersGood (planOf lent .yards)) (counted (planOf lent)) (readable (planOf lent)) (known (planOf lent)) (sym ok) in
+      let good : countsGood names yards (length lengths) ≡ true = sym (counted-is lent) ∙ met .0 in record {
         counts = good;
         fine = ap (λ (n : ℕ). areTexts (take (names + 1 + names * n) lengths) texts) (sym (values-many yards)) ∙ (readable-is lent good ∙ met .1);
       }
@@ -103,11 +90,11 @@ module _ (kind version precision names : ℕ) (yards : List ℕ) (lats lons : Li
   unfolding countsGood lengthsGood
   good-some g =
       let rest : Bool = leb (length yards / 4) 4096 && (leb names 255 && (every (eqb names) (valuesFrom yards) && leb (names + 1 + names * (length yards / 4)) (length lengths))) in
-      let some = ltb-true 0 (length yards / 4) (both (ltb 0 (length yards / 4)) rest (g .counts) .0) in
-      omega (arith, some)
+      let some = ltb-true 0 (length yards / 4) (both (ltb 0 (length yards / 4)) rest (g .counts) .0) in omega (arith, some)
 
   -- ---- `start`
-  pub start-refused : (file room : ℕ) (before places bytes : List ℕ) (r : Border) → passed r ≡ checked (planOf lent) → (why : Refusal) → r ≡ B.Refused why → Starts lent file room before places bytes (B.Refused why)
+  pub start-refused : (file room : ℕ) (before places bytes : List ℕ) (r : Border) → passed r ≡ checked (planOf lent) → (why : Refusal) → r ≡ B.Refused why →
+      Starts lent file room before places bytes (B.Refused why)
   unfolding Starts
   start-refused file room before places bytes r e why is = λ work. built-refused (planOf lent) (record { file = file; bytes = room; work = work }) why (sym e ∙ ap passed is)
 
@@ -117,7 +104,8 @@ module _ (kind version precision names : ℕ) (yards : List ℕ) (lats lons : Li
       drawn-alone version d (0 ∷ []) yards lats lons pieces [] (drop (names + 1) (cutBy lengths texts))
       ∙ ap (λ (n : ℕ). drawnFrom version n (0 ∷ []) (yardsFrom yards lats lons pieces (drop (names + 1) (cutBy lengths texts)))) e
 
-  pub start-drawn : checked (planOf lent) ≡ given tt → (file room : ℕ) (before places bytes : List ℕ) (d : ℕ) → d ≡ upTo (min file room) → (r : Border) → DrawsAll (drawnOf version d (yardsFrom yards lats lons pieces [])) before places bytes r → Starts lent file room before places bytes r
+  pub start-drawn : checked (planOf lent) ≡ given tt → (file room : ℕ) (before places bytes : List ℕ) (d : ℕ) → d ≡ upTo (min file room) → (r : Border) →
+      DrawsAll (drawnOf version d (yardsFrom yards lats lons pieces [])) before places bytes r → Starts lent file room before places bytes r
   unfolding Starts DrawsAll planOf
   start-drawn ok file room before places bytes d e (B.Drawn size) w =
       (ok, subst (λ (reply : Reply Drawn). Section.Whole reply before places bytes size) (same-drawn d (upTo (min file room)) e) w)
@@ -168,14 +156,16 @@ module _ (kind version precision names : ℕ) (yards : List ℕ) (lats lons : Li
       }
 
       pub drawn-fills : (work : Work) (out : List ℕ) (built : Built)
-          → ((pieces′ drawn : List ℕ) → Drew yards drawn places → Fills (endsAs (enoughFor work (needOf names (length yards) lengths)) file (fileFor (lentAs kind version precision names yards lats lons pieces′ lengths texts) drawn (take size bytes))) file out built)
-          → Fills (builtOf (planOf lent) (roomOf lent work file room)) file out built
+          → ((pieces′ drawn : List ℕ) → Drew yards drawn places → Fills (endsAs (enoughFor work (needOf names (length yards) lengths)) file
+          (fileFor (lentAs kind version precision names yards lats lons pieces′ lengths texts) drawn (take size bytes))) file out built) → Fills (builtOf (planOf lent)
+          (roomOf lent work file room)) file out built
       unfolding roomOf
       drawn-fills work out built f =
           let enough′ : Bool = enoughFor work (needOf names (length yards) lengths) in
           let own : builtOf (planOf lent) (record { file = file; bytes = room; work = enough′ }) ≡ endsAs enough′ file (fileOf (planOf lent) (whole .drawn)) =
           built-drawn (planOf lent) (record { file = file; bytes = room; work = enough′ }) ok (whole .drawn) (whole .is) in
-          let same : fileFor lent (whole .drawn .places) (take size bytes) ≡ fileOf (planOf lent) (whole .drawn) = ap (λ (b : List ℕ). fileOf (planOf lent) (record { bytes = b; places = whole .drawn .places })) (sym (whole .front)) in
+          let same : fileFor lent (whole .drawn .places) (take size bytes) ≡ fileOf (planOf lent) (whole .drawn) =
+          ap (λ (b : List ℕ). fileOf (planOf lent) (record { bytes = b; places = whole .drawn .places })) (sym (whole .front)) in
           subst (λ (reply : Reply (List ℕ)). Fills reply file out built) (sym (own ∙ ap (endsAs enough′ file) (sym same)))
           (f pieces (whole .drawn .places) drew)
 
@@ -199,23 +189,22 @@ module _ (work : Bool) (room : ℕ) (file out : List ℕ) where
 
     pub whole-fills : end ≤ upTo room → Fills (endsAs work room file) room out (W.Length end)
     unfolding Fills fitted
-    whole-fills h =
-        let fits : length file ≤ room = omega (arith, size, h) in
+    whole-fills h = let fits : length file ≤ room = omega (arith, size, h) in
         let front : out ≡ file ++ drop (length file) (zeros room) = stored-front (zeros room) file out end s (omega (arith, fits, length-replicate {A = ℕ} room 0)) in
         let all : out ≡ padded room file = front ∙ ap (λ (l : List ℕ). file ++ l) (zeros-drop (length file) room) in
-        ap (λ (n : ℕ). record { reply = given n; out = out }) size
-        ∙ (ap (λ (l : List ℕ). record { reply = given (length file); out = l }) all
+        ap (λ (n : ℕ). record { reply = given n; out = out }) size ∙ (ap (λ (l : List ℕ). record { reply = given (length file); out = l }) all
         ∙ ap (fitted room) (sym (ends true (le-leb (length file) (upTo room) (omega (arith, size, h))))))
 
 -- ---- `build`
-pub settled-fits : (reply : Reply (List ℕ)) (room : ℕ) (before after : List ℕ) (built r : Built) → length before ≡ room → Fills reply room before built → Settles built before after r → record { reply = toldBuilt r; out = after } ≡ fitted room reply
+pub settled-fits : (reply : Reply (List ℕ)) (room : ℕ) (before after : List ℕ) (built r : Built) → length before ≡ room → Fills reply room before built → Settles built before after r →
+    record { reply = toldBuilt r; out = after } ≡ fitted room reply
 unfolding Fills Settles fitted
 settled-fits reply room before after (W.Length n) r size f s =
     ap (λ (b : Built). record { reply = toldBuilt b; out = after }) (s .0) ∙ (ap (λ (l : List ℕ). record { reply = given n; out = l }) (s .1) ∙ f)
 settled-fits reply room before after (W.Refused why) r size f s =
-    ap (λ (b : Built). record { reply = toldBuilt b; out = after }) (s .0)
-    ∙ (ap (λ (l : List ℕ). record { reply = refused why; out = l }) (s .1 ∙ ap zeros size) ∙ ap (fitted room) (sym f))
+    ap (λ (b : Built). record { reply = toldBuilt b; out = after }) (s .0) ∙ (ap (λ (l : List ℕ). record { reply = refused why; out = l }) (s .1 ∙ ap zeros size) ∙ ap (fitted room) (sym f))
 
-pub settled-builds : (lent : Lent) (room : Room) (before after : List ℕ) (built r : Built) → length before ≡ room .file → Fills (builtOf (planOf lent) room) (room .file) before built → Settles built before after r → Builds lent room after r
+pub settled-builds : (lent : Lent) (room : Room) (before after : List ℕ) (built r : Built) → length before ≡ room .file → Fills (builtOf (planOf lent) room) (room .file) before built →
+    Settles built before after r → Builds lent room after r
 unfolding Builds
 settled-builds lent room before after built r size f s = settled-fits (builtOf (planOf lent) room) (room .file) before after built r size f s

@@ -1,27 +1,14 @@
 -- What is written from the lists that stand is the file of the plan. Assumes nothing.
-use Prim.Native.Nat.{ℕ, _+_, _-_, _*_, _/_, _^_, _≤_, _<_}
-use borrow.Author.Tests.{ltb-true, leb-true}
-use lib.{Dec.{ltb, leb}, IntN.{ℤ}, ListN.{length, take, drop, getD, length-append, length-take}, Seq.{take-suc, length-take-le}}
-use mathlib.Core.{Bool.{Bool, true, false, _&&_}, List.{List, [], _∷_, _++_, map, flatMap, zipWith}, Path.{_≡_, refl, sym, ap, subst, _∙_}}
-use native.Mathlib.{Nat.{mul-comm}, Numerals.{add-one}, Omega.{arith}}
-use Rattle.builder.proofs.{Counting.{cut-many, lengths-room, yards-many}, Inlines.{inlined-few}}
-use Rattle.builder.specs.{Entries.{entryOfWord, tableFrom, tableOf}, File.{assembled, entryOf, fileOf, headFrom, headOf}}
-use Rattle.builder.specs.{Metadata.{inlined, isRemote, metadataOf, recordsOf, remotes}, Sharing.{firstsAfter, goodOnes, isIn, sameText, sameTexts, firsts}}
-use Rattle.builder.specs.Yards.{Lent, Text, Yard, cutBy, planOf, sumOf, yardsFrom}
-use Rattle.builder.specs.inner.Drawing.Section.{spread}
-use Rattle.build.proofs.entries.Tabled.{begins-are, table-of}
-use Rattle.build.specs.Entries.Corners.{InOrder}
-use Rattle.builder.specs.Grouping.Keys.{numbersFrom}
-use Rattle.build.specs.Metadata.Kept.{beginOf, fieldsTo, joined, valuesTo}
-use Rattle.numbers.specs.Answer.{if_then_else_}
+use Rattle.numbers.proofs.Prelude.{ℕ, _+_, _-_, _*_, _/_, _^_, _≤_, _<_, leb-true, ltb-true, ltb, leb, ℤ, length, take, drop, getD, length-append, length-take, length-take-le, take-suc, Bool, true}
+use Rattle.numbers.{proofs.{Prelude.{false, _&&_, List, [], _∷_, _++_, map, flatMap, zipWith, _≡_, refl, sym, ap, subst, _∙_, mul-comm, add-one, arith}, Tests.{both}}, specs.Answer.{if_then_else_}}
+use Rattle.builder.{proofs.{Counting.{cut-many, lengths-room, yards-many, cut-take}, Inlines.{inlined-few}}, specs.Entries.{entryOfWord, tableFrom, tableOf}}
+use Rattle.builder.specs.{File.{assembled, entryOf, fileOf, headFrom, headOf}, Grouping.Keys.{numbersFrom}, Metadata.{inlined, isRemote, metadataOf, recordsOf, remotes}}
+use Rattle.builder.specs.{Sharing.{firstsAfter, goodOnes, isIn, sameText, sameTexts, firsts}, Yards.{Lent, Text, Yard, cutBy, planOf, sumOf, yardsFrom}, inner.Drawing.Section.{spread}}
+use Rattle.build.proofs.{Planned.{all-lengths, few-names}, Slices.{texts-few, value-all, value-bound, value-few, value-whole, plan-values, told, sums}, entries.Tabled.{begins-are, table-of}}
 use Rattle.build.proofs.recording.{Fewer.{fields-few, fields-short, layout-few}, Spreading.{spread-size}}
 use Rattle.build.proofs.recording.Written.{recorded-few, recorded-lengths, recorded-section, recorded-size, recorded-texts, recorded-words}
-use Rattle.build.specs.inner.Recording.Recorded.{Laying, Recorded}
-use Rattle.numbers.proofs.Tests.{both}
-use Rattle.build.proofs.{Planned.{all-lengths, few-names}, Slices.{texts-few, value-all, value-bound, value-few, value-whole, plan-values, told, sums}}
-use Rattle.build.proofs.Valued.{cut-take}
-use Rattle.build.specs.{Checked.{lentAs}, inner.{Puts.{Headed, SectionIn, sectionFrom}, Whole.{Drew, Filling, fileFor}}, Room.{enough, enoughFor, needOf}}
-use Rattle.build.specs.declared.room.{Need.{Need}, Work.{Work}}
+use Rattle.build.specs.{Checked.{lentAs}, Entries.Corners.{InOrder}, Metadata.Kept.{beginOf, fieldsTo, joined, valuesTo}, Room.{enough, enoughFor, needOf}, declared.room.Need.{Need}}
+use Rattle.build.specs.{declared.room.Work.{Work}, inner.{Puts.{Headed, SectionIn, sectionFrom}, Recording.Recorded.{Laying, Recorded}, Whole.{Drew, Filling, fileFor}}}
 
 -- ---- long enough
 pub record Reach (work : Work) (count fields bytes : ℕ) : Type 0 where
@@ -38,26 +25,14 @@ pub record Reach (work : Work) (count fields bytes : ℕ) : Type 0 where
 
 pub reaches : (w : Work) (count fields bytes : ℕ) → enough w count fields bytes ≡ true → Reach w count fields bytes
 unfolding enough
-reaches w count fields bytes e =
-    let j : Bool = leb (4 * count) (w .boxes) in
-    let i : Bool = leb (2 * count) (w .places) && j in
-    let h : Bool = leb fields (w .words) && i in
-    let g : Bool = leb bytes (w .held) && h in
-    let f : Bool = leb fields (w .kept) && g in
-    let d : Bool = leb count (w .spare) && f in
-    let k : Bool = leb fields (w .spare) && d in
-    let b : Bool = leb count (w .keys) && k in
-    let a : Bool = leb fields (w .keys) && b in
-    let one = both (ltb fields (w .starts)) a e in
-    let two = both (leb fields (w .keys)) b (one .1) in
-    let three = both (leb count (w .keys)) k (two .1) in
-    let four = both (leb fields (w .spare)) d (three .1) in
-    let five = both (leb count (w .spare)) f (four .1) in
-    let six = both (leb fields (w .kept)) g (five .1) in
-    let seven = both (leb bytes (w .held)) h (six .1) in
-    let eight = both (leb fields (w .words)) i (seven .1) in
-    let nine = both (leb (2 * count) (w .places)) j (eight .1) in
-    record {
+reaches w count fields bytes e = let j : Bool = leb (4 * count) (w .boxes) in let i : Bool = leb (2 * count) (w .places) && j in
+    let h : Bool = leb fields (w .words) && i in let g : Bool = leb bytes (w .held) && h in let f : Bool = leb fields (w .kept) && g in
+    let d : Bool = leb count (w .spare) && f in let k : Bool = leb fields (w .spare) && d in let b : Bool = leb count (w .keys) && k in
+    let a : Bool = leb fields (w .keys) && b in let one = both (ltb fields (w .starts)) a e in let two = both (leb fields (w .keys)) b (one .1) in
+    let three = both (leb count (w .keys)) k (two .1) in let four = both (leb fields (w .spare)) d (three .1) in
+    let five = both (leb count (w .spare)) f (four .1) in let six = both (leb fields (w .kept)) g (five .1) in
+    let seven = both (leb bytes (w .held)) h (six .1) in let eight = both (leb fields (w .words)) i (seven .1) in
+    let nine = both (leb (2 * count) (w .places)) j (eight .1) in record {
       starts = ltb-true fields (w .starts) (one .0);
       keys = leb-true fields (w .keys) (two .0);
       keys-count = leb-true count (w .keys) (three .0);
@@ -74,21 +49,21 @@ reaches w count fields bytes e =
 firsts-few : (seen xs : List Text) → length (flatMap inlined (firstsAfter sameText seen xs)) ≤ length (flatMap inlined xs)
 unfolding firstsAfter flatMap
 firsts-few seen [] = omega arith
-firsts-few seen (x ∷ xs) = go (isIn sameText x seen) (firsts-few seen xs) (firsts-few (x ∷ seen) xs)
-  where
-    go : (t : Bool) → length (flatMap inlined (firstsAfter sameText seen xs)) ≤ length (flatMap inlined xs) → length (flatMap inlined (firstsAfter sameText (x ∷ seen) xs)) ≤ length (flatMap inlined xs)
-        → length (flatMap inlined (if t then firstsAfter sameText seen xs else (x ∷ firstsAfter sameText (x ∷ seen) xs))) ≤ length (inlined x ++ flatMap inlined xs)
-    go true a b = omega (arith, a, length-append (inlined x) (flatMap inlined xs))
-    go false a b = omega (arith, b, length-append (inlined x) (flatMap inlined xs), length-append (inlined x) (flatMap inlined (firstsAfter sameText (x ∷ seen) xs)))
+firsts-few seen (x ∷ xs) = go (isIn sameText x seen) (firsts-few seen xs) (firsts-few (x ∷ seen) xs) where
+  go : (t : Bool) → length (flatMap inlined (firstsAfter sameText seen xs)) ≤ length (flatMap inlined xs) →
+      length (flatMap inlined (firstsAfter sameText (x ∷ seen) xs)) ≤ length (flatMap inlined xs)
+      → length (flatMap inlined (if t then firstsAfter sameText seen xs else (x ∷ firstsAfter sameText (x ∷ seen) xs))) ≤ length (inlined x ++ flatMap inlined xs)
+  go true a b = omega (arith, a, length-append (inlined x) (flatMap inlined xs))
+  go false a b = omega (arith, b, length-append (inlined x) (flatMap inlined xs), length-append (inlined x) (flatMap inlined (firstsAfter sameText (x ∷ seen) xs)))
 
 good-few : (good : Text → Bool) (xs : List Text) → length (flatMap inlined (goodOnes good xs)) ≤ length (flatMap inlined xs)
 unfolding goodOnes flatMap
 good-few good [] = omega arith
-good-few good (x ∷ xs) = go (good x) (good-few good xs)
-  where
-    go : (t : Bool) → length (flatMap inlined (goodOnes good xs)) ≤ length (flatMap inlined xs) → length (flatMap inlined (if t then (x ∷ goodOnes good xs) else goodOnes good xs)) ≤ length (inlined x ++ flatMap inlined xs)
-    go true a = omega (arith, a, length-append (inlined x) (flatMap inlined xs), length-append (inlined x) (flatMap inlined (goodOnes good xs)))
-    go false a = omega (arith, a, length-append (inlined x) (flatMap inlined xs))
+good-few good (x ∷ xs) = go (good x) (good-few good xs) where
+  go : (t : Bool) → length (flatMap inlined (goodOnes good xs)) ≤ length (flatMap inlined xs) →
+      length (flatMap inlined (if t then (x ∷ goodOnes good xs) else goodOnes good xs)) ≤ length (inlined x ++ flatMap inlined xs)
+  go true a = omega (arith, a, length-append (inlined x) (flatMap inlined xs), length-append (inlined x) (flatMap inlined (goodOnes good xs)))
+  go false a = omega (arith, a, length-append (inlined x) (flatMap inlined xs))
 
 inline-few : (xs : List Text) → length (flatMap inlined xs) ≤ length (joined xs) + 10 * length xs
 unfolding flatMap
@@ -119,7 +94,8 @@ module _ (names count : ℕ) (values strings : List ℕ) (many : length values �
         whole = recorded-texts names count values strings before kept held words places records remote sizes bytes own;
         bound = omega (arith, recorded-few names count values strings before kept held words places records remote sizes bytes own many (omega (arith, whole)), bound);
         words-are = recorded-words names count values strings before kept held words places records remote sizes bytes own;
-        size-is = sym (ap length (recorded-section names count values strings before kept held words places records remote sizes bytes own) ∙ recorded-size names count values strings before kept held words places records remote sizes bytes own);
+        size-is = sym (ap length (recorded-section names count values strings before kept held words places records remote sizes bytes own) ∙
+            recorded-size names count values strings before kept held words places records remote sizes bytes own);
         small = omega (arith, own .records-are, own .remote-is, layout-few laidFields, remotes-few laidFields, laid-few);
       };
     }
@@ -161,42 +137,51 @@ module _ (names : ℕ) (yards lengths texts : List ℕ) (need : Need) (work : Wo
   size = omega (arith, sums names yards lengths texts (f .good .counts) (f .good .fine))
 
   laying : Laying names count values strings (work .starts) (work .keys) (work .spare) (work .kept) (work .held) (work .words) (work .places)
-  laying =
-      let fields : length values ≡ names + 1 + names * (length yards / 4) - (names + 1) = omega (arith, many, mul-comm count names) in
-      record {
-        all = many;
-        whole = whole;
-        few = value-few names yards lengths texts (f .good .counts) (f .good .fine);
-        bound = value-bound names yards lengths texts (f .good .counts) (f .good .fine);
-        starts-room = omega (arith, fields, reach .starts);
-        keys-count = reach .keys-count;
-        keys-room = omega (arith, fields, reach .keys);
-        spare-count = reach .spare-count;
-        spare-room = omega (arith, fields, reach .spare);
-        kept-room = omega (arith, fields, reach .kept);
-        held-room = omega (arith, size, reach .held);
-        words-room = omega (arith, fields, reach .words);
-        places-room = reach .places;
-      }
+  laying = let fields : length values ≡ names + 1 + names * (length yards / 4) - (names + 1) = omega (arith, many, mul-comm count names) in record {
+    all = many;
+    whole = whole;
+    few = value-few names yards lengths texts (f .good .counts) (f .good .fine);
+    bound = value-bound names yards lengths texts (f .good .counts) (f .good .fine);
+    starts-room = omega (arith, fields, reach .starts);
+    keys-count = reach .keys-count;
+    keys-room = omega (arith, fields, reach .keys);
+    spare-count = reach .spare-count;
+    spare-room = omega (arith, fields, reach .spare);
+    kept-room = omega (arith, fields, reach .kept);
+    held-room = omega (arith, size, reach .held);
+    words-room = omega (arith, fields, reach .words);
+    places-room = reach .places;
+  }
 
   pub filling-laying : Laying names (need .count) (lentLengths need) (lentTexts need) (work .starts) (work .keys) (work .spare) (work .kept) (work .held) (work .words) (work .places)
   unfolding needOf
-  filling-laying = subst (λ (n : Need). Laying names (n .count) (lentLengths n) (lentTexts n) (work .starts) (work .keys) (work .spare) (work .kept) (work .held) (work .words) (work .places)) (sym (f .is)) laying
+  filling-laying = subst (λ (n : Need). Laying names (n .count) (lentLengths n) (lentTexts n) (work .starts) (work .keys) (work .spare) (work .kept) (work .held) (work .words)
+      (work .places)) (sym (f .is)) laying
 
   -- the names and the notice
   pub filling-headed : Headed (take (need .front) lengths) texts
   unfolding needOf
-  filling-headed =
-      let all = told names yards lengths texts (f .good .counts) (f .good .fine) in
-      let long : length (take (names + 1 + names * (length yards / 4)) lengths) ≡ names + 1 + names * (length yards / 4) = length-take-le (names + 1 + names * (length yards / 4)) lengths (all-lengths names yards (length lengths) (f .good .counts)) in
+  filling-headed = let all = told names yards lengths texts (f .good .counts) (f .good .fine) in
+      let long : length (take (names + 1 + names * (length yards / 4)) lengths) ≡ names + 1 + names * (length yards / 4) = length-take-le
+      (names + 1 + names * (length yards / 4)) lengths (all-lengths names yards (length lengths) (f .good .counts)) in
       let most = texts-few (take (names + 1 + names * (length yards / 4)) lengths) texts (all .0) (all .1) in
-      let room : names * (length yards / 4) ≤ 1044480 = lengths-room names (length yards / 4) (few-names names yards (length lengths) (f .good .counts)) (value-few names yards lengths texts (f .good .counts) (f .good .fine)) in
+      let room : names * (length yards / 4) ≤ 1044480 = lengths-room names (length yards / 4) (few-names names yards (length lengths) (f .good .counts))
+      (value-few names yards lengths texts (f .good .counts) (f .good .fine)) in
       subst (λ (n : Need). Headed (take (n .front) lengths) texts) (sym (f .is)) (record {
         whole = omega (arith, sums names yards lengths texts (f .good .counts) (f .good .fine), all .0);
-        bound = omega (arith, sums names yards lengths texts (f .good .counts) (f .good .fine), most, long, room, few-names names yards (length lengths) (f .good .counts), length-take (names + 1) lengths);
+        bound = omega (
+          arith,
+          sums names yards lengths texts (f .good .counts) (f .good .fine),
+          most,
+          long,
+          room,
+          few-names names yards (length lengths) (f .good .counts),
+          length-take (names + 1) lengths,
+        );
       })
 
-  module _ (before kept held words places : List ℕ) (records remote sizes bytes : ℕ) (r : Recorded names (need .count) (lentLengths need) (lentTexts need) before kept held words places records remote sizes bytes) where
+  module _ (before kept held words places : List ℕ) (records remote sizes bytes : ℕ)
+      (r : Recorded names (need .count) (lentLengths need) (lentTexts need) before kept held words places records remote sizes bytes) where
     own : Recorded names count values strings before kept held words places records remote sizes bytes
     unfolding needOf
     own = subst (λ (n : Need). Recorded names (n .count) (lentLengths n) (lentTexts n) before kept held words places records remote sizes bytes) (f .is) r
@@ -215,38 +200,33 @@ module _ (names : ℕ) (yards lengths texts : List ℕ) (need : Need) (work : Wo
       section-is : sectionFrom records (take sizes words) (take sizes kept) (take bytes held) ≡ metadataOf (recordsOf (planOf lent .yards))
       unfolding sectionFrom
       section-is =
-          recorded-section names count values strings before kept held words places records remote sizes bytes own
-          ∙ ap (λ (vs : List (List Text)). metadataOf (firsts sameTexts vs)) (sym valued)
+          recorded-section names count values strings before kept held words places records remote sizes bytes own ∙ ap (λ (vs : List (List Text)). metadataOf (firsts sameTexts vs)) (sym valued)
 
       head-is : headFrom kind version precision names (cutBy (take (names + 1) lengths) texts) ≡ headOf (planOf lent)
       unfolding headOf planOf
-      head-is =
-          let cut : List Text = cutBy lengths texts in
+      head-is = let cut : List Text = cutBy lengths texts in
           let long : names < length (cutBy lengths texts) = omega (arith, cut-many lengths texts, all-lengths names yards (length lengths) (f .good .counts)) in
           let named : names ≡ length (take names (cutBy lengths texts)) = sym (length-take-le names cut (omega (arith, long))) in
           ap (headFrom kind version precision names) (cut-take (names + 1) lengths texts ∙ (ap (λ (n : ℕ). take n cut) (add-one names) ∙ take-suc cut names [] long))
           ∙ ap (λ (n : ℕ). headFrom kind version precision n (take names cut ++ (getD cut names [] ∷ []))) named
 
-      table-is : (boxes boxes′ : List ℤ) (keys spare spare′ : List ℕ) → InOrder (yardsFrom yards lats lons [] []) boxes boxes′ keys spare spare′
-          → (drawn : List ℕ) → Drew yards drawn before → work .places ≡ length before
-          → tableFrom 0 0 (map (entryOfWord boxes′ places) keys) ≡ tableOf (zipWith (entryOf (planOf lent .yards)) (planOf lent .yards) drawn)
+      table-is : (boxes boxes′ : List ℤ) (keys spare spare′ : List ℕ) → InOrder (yardsFrom yards lats lons [] []) boxes boxes′ keys spare spare′ → (drawn : List ℕ)
+          → Drew yards drawn before → work .places ≡ length before → tableFrom 0 0 (map (entryOfWord boxes′ places) keys) ≡ tableOf (zipWith (entryOf (planOf lent .yards)) (planOf lent .yards) drawn)
       unfolding planOf spread
       table-is boxes boxes′ keys spare spare′ o drawn d e =
           let all : length (planOf lent .yards) ≡ count = yards-many yards lats lons pieces (drop (names + 1) (cutBy lengths texts)) in
           let wide : length before ≡ length (d .before) = ap length (d .stored) ∙ spread-size 1 drawn (d .before) in
-          table-of yards lats lons pieces (drop (names + 1) (cutBy lengths texts)) (planOf lent .yards) refl boxes boxes′ keys spare spare′ o (d .before) drawn []
-          (map (beginOf names values strings count) (numbersFrom 0 count)) places
-          (d .many ∙ sym all) (omega (arith, all, wide, e, reach .places)) (begins-are (planOf lent .yards) names values strings count valued)
-          (own .placed ∙ ap (spread 0 (map (beginOf names values strings count) (numbersFrom 0 count))) (d .stored))
+          table-of yards lats lons pieces (drop (names + 1) (cutBy lengths texts)) (planOf lent .yards) refl boxes boxes′ keys spare spare′ o (d .before) drawn
+          [] (map (beginOf names values strings count) (numbersFrom 0 count)) places (d .many ∙ sym all) (omega (arith, all, wide, e, reach .places))
+          (begins-are (planOf lent .yards) names values strings count valued) (own .placed ∙ ap (spread 0 (map (beginOf names values strings count) (numbersFrom 0 count))) (d .stored))
 
       -- the whole file
       pub filling-file : (boxes boxes′ : List ℤ) (keys spare spare′ : List ℕ) → InOrder (yardsFrom yards lats lons [] []) boxes boxes′ keys spare spare′
           → (drawn : List ℕ) → Drew yards drawn before → work .places ≡ length before → (data′ : List ℕ)
-          → assembled (headFrom kind version precision names (cutBy (take (need .front) lengths) texts)) (tableFrom 0 0 (map (entryOfWord boxes′ places) keys)) (sectionFrom records (take sizes words) (take sizes kept) (take bytes held)) data′
-          ≡ fileFor lent drawn data′
+          → assembled (headFrom kind version precision names (cutBy (take (need .front) lengths) texts)) (tableFrom 0 0 (map (entryOfWord boxes′ places) keys))
+          (sectionFrom records (take sizes words) (take sizes kept) (take bytes held)) data′ ≡ fileFor lent drawn data′
       unfolding fileOf needOf
-      filling-file boxes boxes′ keys spare spare′ o drawn d e data′ =
-          let table : List ℕ = tableFrom 0 0 (map (entryOfWord boxes′ places) keys) in
+      filling-file boxes boxes′ keys spare spare′ o drawn d e data′ = let table : List ℕ = tableFrom 0 0 (map (entryOfWord boxes′ places) keys) in
           let section : List ℕ = sectionFrom records (take sizes words) (take sizes kept) (take bytes held) in
           let front : need .front ≡ names + 1 = ap (λ (n : Need). n .front) (f .is) in
           ap (λ (n : ℕ). assembled (headFrom kind version precision names (cutBy (take n lengths) texts)) table section data′) front

@@ -1,8 +1,5 @@
 -- One item over a whole list, place by place. Assumes nothing.
-use Prim.Native.Nat.{ℕ, zero, suc, _+_, _≤_, _<_}
-use lib.{ListN.{length, drop, replicate, set, length-set, length-replicate}, Seq.{drop-length}}
-use mathlib.Core.{List.{List, [], _∷_, _++_, append-nil}, Path.{_≡_, refl, sym, ap, _∙_}}
-use native.Mathlib.{Numerals.{add-one}, Omega.{arith}}
+use Rattle.numbers.proofs.Prelude.{ℕ, zero, suc, _+_, _≤_, _<_, length, drop, set, replicate, length-set, drop-length, List, [], _∷_, _++_, append-nil, _≡_, refl, ap, _∙_, add-one, arith}
 
 module _ {A : Type 0} (x : A) where
   set-next : (l : List A) (i : ℕ) → i < length l → set (replicate i x ++ drop i l) i x ≡ replicate (suc i) x ++ drop (suc i) l
@@ -28,6 +25,5 @@ module _ {A : Type 0} (x : A) where
       })
 
   pub fill-ends : (before now : List A) (i : ℕ) → Filled before now i → length now ≤ i → now ≡ replicate (length before) x
-  fill-ends before now i f h =
-      let e : i ≡ length before = omega (arith, h, f .size, f .index) in
+  fill-ends before now i f h = let e : i ≡ length before = omega (arith, h, f .size, f .index) in
       f .is ∙ (ap (λ (n : ℕ). replicate n x ++ drop n before) e ∙ (ap (λ (l : List A). replicate (length before) x ++ l) (drop-length before) ∙ append-nil (replicate (length before) x)))

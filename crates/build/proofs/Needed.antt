@@ -1,14 +1,10 @@
 -- What a plan needs lies inside what is lent. Assumes nothing.
-use Prim.Native.Nat.{ℕ, zero, suc, _+_, _-_, _*_, _/_, _^_, _≤_, _<_}
-use borrow.Author.Tests.{not-true, not-false}
-use lib.{ListN.{length, take, getD}, Seq.{length-take-le}}
-use mathlib.Core.{Bool.{Bool, true, false, not}, List.{List}, Path.{_≡_, refl, sym, ap, subst, _∙_}}
-use native.Mathlib.Omega.{arith}
+use Rattle.numbers.proofs.Prelude.{ℕ, zero, suc, _+_, _-_, _*_, _/_, _^_, _≤_, _<_, not-false, not-true, length, take, getD, length-take-le, Bool, true, false, not, List, _≡_, refl, sym, ap, subst}
+use Rattle.numbers.{proofs.Prelude.{_∙_, arith}, specs.{Lists.{zeros}, declared.refusal.Refusal.{Refusal}}}
 use Rattle.writer.specs.inner.Stored.{Stored}
 use Rattle.builder.{proofs.Counting.{lengths-room}, specs.Yards.{sumOf}}
 use Rattle.build.proofs.{Filing.{reaches}, Planned.{few-names, few-yards, all-lengths}, Rooms.{sum-front}, Slices.{told, texts-few}}
-use Rattle.numbers.specs.{Lists.{zeros}, declared.refusal.Refusal.{Refusal}}
-use Rattle.build.specs.{Room.{needOf, enoughFor}, inner.Whole.{Good, Filling, Settles}, declared.{file.Built.{Built}, room.{Need.{Need}, Work.{Work}}}}
+use Rattle.build.specs.{Room.{needOf, enoughFor}, declared.{file.Built.{Built}, room.{Need.{Need}, Work.{Work}}}, inner.Whole.{Good, Filling, Settles}}
 use Rattle.build.specs.declared.file.Built.the-variants as W
 
 pub record Cuts (names : ℕ) (yards lengths texts : List ℕ) (n : Need) : Type 0 where
@@ -50,9 +46,7 @@ module _ (names : ℕ) (yards lengths texts : List ℕ) (g : Good names yards le
   })
 
   small : sumOf (take (names + 1 + names * (length yards / 4)) lengths) < 2 ^ 60
-  small =
-      let ls : List ℕ = take all lengths in
-      let few = texts-few ls texts fine (told names yards lengths texts (g .counts) (g .fine) .1) in
+  small = let ls : List ℕ = take all lengths in let few = texts-few ls texts fine (told names yards lengths texts (g .counts) (g .fine) .1) in
       let size : length ls ≡ all = length-take-le all lengths there in
       let room : names * (length yards / 4) ≤ 1044480 = lengths-room names (length yards / 4) some (few-yards names yards (length lengths) (g .counts)) in
       omega (arith, few, size, room, some)
@@ -90,18 +84,19 @@ unfolding Settles
 settle-refused b why e before after z = subst (λ (x : Built). Settles x before after (W.Refused why)) (sym e) (refl, z)
 
 -- ---- whether there is room
-pub lacks : (work : Work) (names words : ℕ) (lengths : List ℕ) (need : Need) → need ≡ needOf names words lengths → (b : Bool) → b ≡ enoughFor work need → not b ≡ true → enoughFor work (needOf names words lengths) ≡ false
+pub lacks : (work : Work) (names words : ℕ) (lengths : List ℕ) (need : Need) → need ≡ needOf names words lengths → (b : Bool) → b ≡ enoughFor work need → not b ≡ true →
+    enoughFor work (needOf names words lengths) ≡ false
 lacks work names words lengths need is b e n = ap (enoughFor work) (sym is) ∙ (sym e ∙ not-true b n)
 
 pub holds : (work : Work) (need : Need) (b : Bool) → b ≡ enoughFor work need → not b ≡ false → enoughFor work need ≡ true
 holds work need b e n = sym e ∙ not-false b n
 
 pub zero-first : (n : ℕ) (list : List ℕ) → list ≡ zeros n → getD list 0 0 ≡ 0
-zero-first n list e = ap (λ (l : List ℕ). getD l 0 0) e ∙ first n
-  where
-    first : (n : ℕ) → getD (zeros n) 0 0 ≡ 0
-    first zero = refl
-    first (suc n) = refl
+zero-first n list e = ap (λ (l : List ℕ). getD l 0 0) e ∙ first n where
+  first : (n : ℕ) → getD (zeros n) 0 0 ≡ 0
+  first zero = refl
+  first (suc n) = refl
 
-pub enough-is : (work : Work) (names words : ℕ) (lengths : List ℕ) (need : Need) → need ≡ needOf names words lengths → (b : Bool) → b ≡ enoughFor work need → not b ≡ false → enoughFor work (needOf names words lengths) ≡ true
+pub enough-is : (work : Work) (names words : ℕ) (lengths : List ℕ) (need : Need) → need ≡ needOf names words lengths → (b : Bool) → b ≡ enoughFor work need → not b ≡ false →
+    enoughFor work (needOf names words lengths) ≡ true
 enough-is work names words lengths need is b e n = ap (enoughFor work) (sym is) ∙ (sym e ∙ not-false b n)

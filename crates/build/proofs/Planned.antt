@@ -1,21 +1,12 @@
 -- The checks of a plan, by those of what is lent. Assumes nothing.
-use Prim.Native.Nat.{ℕ, _+_, _*_, _/_, _≤_}
-use borrow.Author.Tests.{leb-true, not-true, not-false}
-use lib.{Dec.{ltb, leb, eqb}, IntN.{ℤ}, ListN.{length, take, drop}}
-use mathlib.Core.{Bool.{Bool, true, false, not, _&&_}, List.{List, []}, Path.{_≡_, sym, ap, _∙_}}
-use native.Mathlib.Omega.{arith}
+use Rattle.numbers.proofs.Prelude.{ℕ, _+_, _*_, _/_, _≤_, leb-true, not-false, not-true, eqb, ltb, leb, ℤ, length, take, drop, Bool, true, false, _&&_, not, List, [], _≡_, sym, ap, _∙_}
+use Rattle.numbers.{proofs.Tests.{both}, specs.{Reply.{Reply, given, plain, demand, _>>_}, declared.refusal.Refusal.{Refusal}}}
 use Rattle.writer.specs.Writer.{every}
-use Rattle.builder.proofs.{Checking.{borders-alone}, Counting.{counted-is, readable-is, values-many}}
-use Rattle.builder.specs.{Borders.{passed}, File.{bordersGood, counted, readable, known, areTexts}}
+use Rattle.builder.{proofs.{Checking.{borders-alone}, Counting.{counted-is, readable-is, values-many}}, specs.{Borders.{passed}, File.{bordersGood, counted, readable, known, areTexts}}}
 use Rattle.builder.specs.{Yards.{Plan, Lent, planOf, yardsFrom, cutBy, valuesFrom, countedLengths, countsGood, lengthsGood}, declared.borders.Border.{Border}}
-use Rattle.builder.specs.declared.borders.Border.the-variants as B
-use Rattle.numbers.specs.{Reply.{Reply, given, plain, demand, _>>_}, declared.refusal.Refusal.{Refusal}}
 use Rattle.header.specs.Header.{isKind}
 use Rattle.build.specs.Checked.{checked, lentAs}
-use Rattle.numbers.proofs.Tests.{both}
-
-never : false ≡ true → ⊥
-never e = let z : _≡_ {A = ℕ} 0 1 = cc in omega arith
+use Rattle.builder.specs.declared.borders.Border.the-variants as B
 
 module _ (names : ℕ) (yards : List ℕ) (lengths : ℕ) (good : countsGood names yards lengths ≡ true) where
   abbrev count : ℕ
@@ -24,13 +15,10 @@ module _ (names : ℕ) (yards : List ℕ) (lengths : ℕ) (good : countsGood nam
   -- what good counts say
   said : (leb count 4096 ≡ true) × (leb names 255 ≡ true) × (leb (names + 1 + names * count) lengths ≡ true)
   unfolding countsGood lengthsGood
-  said =
-      let valued : Bool = every (eqb names) (valuesFrom yards) in
-      let reach : Bool = leb (names + 1 + names * (length yards / 4)) lengths in
+  said = let valued : Bool = every (eqb names) (valuesFrom yards) in let reach : Bool = leb (names + 1 + names * (length yards / 4)) lengths in
       let one = both (ltb 0 (length yards / 4)) (leb (length yards / 4) 4096 && (leb names 255 && (valued && reach))) good in
       let two = both (leb (length yards / 4) 4096) (leb names 255 && (valued && reach)) (one .1) in
-      let three = both (leb names 255) (valued && reach) (two .1) in
-      (two .0, three .0, both valued reach (three .1) .1)
+      let three = both (leb names 255) (valued && reach) (two .1) in (two .0, three .0, both valued reach (three .1) .1)
 
   pub few-names : names ≤ 255
   few-names = leb-true names 255 (said .1)
@@ -70,7 +58,8 @@ module _ (kind version precision names : ℕ) (yards : List ℕ) (lats lons : Li
         counted-by = counted-is lent ∙ sym counts
 
         pub counts-bad : not b ≡ true → (s : Border) → s ≡ B.Refused (plain 25) → passed s ≡ checked plan
-        counts-bad n s e = ap passed e ∙ sym (past-borders ∙ ap (λ (x : Bool). demand x (plain 25) >> (demand (readable plan) (plain 26) >> demand (known plan) (plain 27))) (counted-by ∙ not-true b n))
+        counts-bad n s e = ap passed e ∙
+            sym (past-borders ∙ ap (λ (x : Bool). demand x (plain 25) >> (demand (readable plan) (plain 26) >> demand (known plan) (plain 27))) (counted-by ∙ not-true b n))
 
         module _ (good : not b ≡ false) where
           past-counts : checked plan ≡ (demand (readable plan) (plain 26) >> demand (known plan) (plain 27))
@@ -83,8 +72,7 @@ module _ (kind version precision names : ℕ) (yards : List ℕ) (lats lons : Li
             readable-by : readable plan ≡ t
             unfolding countedLengths
             readable-by =
-                sym (readable-is lent counts-good)
-                ∙ (ap (λ (n : ℕ). areTexts (take (names + 1 + names * n) lengths) texts) (values-many yards) ∙ sym tested)
+                sym (readable-is lent counts-good) ∙ (ap (λ (n : ℕ). areTexts (take (names + 1 + names * n) lengths) texts) (values-many yards) ∙ sym tested)
 
             pub texts-bad : not t ≡ true → (s : Border) → s ≡ B.Refused (plain 26) → passed s ≡ checked plan
             texts-bad n s e = ap passed e ∙ sym (past-counts ∙ ap (λ (x : Bool). demand x (plain 26) >> demand (known plan) (plain 27)) (readable-by ∙ not-true t n))
@@ -92,7 +80,8 @@ module _ (kind version precision names : ℕ) (yards : List ℕ) (lats lons : Li
             module _ (fine : not t ≡ false) (k : Bool) (form : k ≡ ((leb 1 precision && leb precision 31) && (ltb version 2 && isKind kind))) where
               past-texts : checked plan ≡ demand k (plain 27)
               unfolding known planOf
-              past-texts = past-counts ∙ (ap (λ (x : Bool). demand x (plain 26) >> demand (known plan) (plain 27)) (readable-by ∙ not-false t fine) ∙ ap (λ (x : Bool). demand x (plain 27)) (sym form))
+              past-texts =
+                  past-counts ∙ (ap (λ (x : Bool). demand x (plain 26) >> demand (known plan) (plain 27)) (readable-by ∙ not-false t fine) ∙ ap (λ (x : Bool). demand x (plain 27)) (sym form))
 
               pub form-bad : not k ≡ true → (s : Border) → s ≡ B.Refused (plain 27) → passed s ≡ checked plan
               form-bad n s e = ap passed e ∙ sym (past-texts ∙ ap (λ (x : Bool). demand x (plain 27)) (not-true k n))

@@ -1,28 +1,19 @@
 -- The sections of a file, one after another. Assumes nothing.
-use Prim.Native.Nat.{ℕ, suc, _+_, _-_, _*_, _%_, _^_, _≤_, _<_}
-use lib.{IntN.{ℤ, pos, _-ℤ_}, ListN.{length, take, drop, getD, length-append, length-take, length-map}, Seq.{length-take-le}}
-use mathlib.Core.{List.{List, [], _∷_, _++_, map, flatMap, append-assoc}, Path.{_≡_, refl, sym, ap, subst, _∙_}}
-use native.Mathlib.Omega.{arith}
+use Rattle.numbers.proofs.Prelude.{ℕ, suc, _+_, _*_, _^_, _≤_, ℤ, length, take, drop, getD, length-append, length-map, length-take, List, [], _∷_, _++_, map, append-assoc, flatMap, _≡_, ap, subst}
+use Rattle.numbers.{proofs.{Prelude.{_∙_, arith}, Spelling.{varint-few}}, specs.Spelling.{varintOf}}
 use Rattle.writer.{proofs.Stores.{stored-then}, specs.inner.Stored.{Stored}}
-use Rattle.builder.proofs.{Inlines.{inlined-few, word-few}, Steps.{box-few, stored-few}}
-use Rattle.builder.specs.{Entries.{Entry, boxBytes, entryBytes, tableFrom, entryOfWord}, File.{headFrom, assembled}, Metadata.{inlined, joinedFrom, fieldBytes}}
-use Rattle.builder.specs.Yards.{Text, cutBy, sumOf}
-use Rattle.numbers.{proofs.Spelling.{varint-few}, specs.Spelling.{varintOf, signedForm}}
+use Rattle.builder.{proofs.{Inlines.{inlined-few, word-few}, Tables.{entry-few}}, specs.{Entries.{Entry, entryBytes, tableFrom, entryOfWord}, File.{headFrom, assembled}}}
+use Rattle.builder.specs.{Metadata.{inlined, joinedFrom, fieldBytes}, Yards.{cutBy, sumOf}}
 use Rattle.build.specs.inner.Puts.{sectionFrom, Sectioned, Headed}
 
 -- ---- how long each part can be
-entry-few : (r b : ℕ) (e : Entry) → length (entryBytes r b e) ≤ 60
-unfolding entryBytes
-entry-few r b e =
-    let step = signedForm (pos (e .record′) -ℤ pos r) in
-    omega (arith, length-append (boxBytes (e .bounds)) (varintOf step ++ varintOf ((e .border + 2 ^ 32 - b) % 2 ^ 32)), length-append (varintOf step) (varintOf ((e .border + 2 ^ 32 - b) % 2 ^ 32)), box-few (e .bounds), varint-few step, varint-few ((e .border + 2 ^ 32 - b) % 2 ^ 32))
-
 pub table-few : (r b : ℕ) (es : List Entry) → length (tableFrom r b es) ≤ 60 * length es
 unfolding tableFrom
 table-few r b [] = omega arith
 table-few r b (e ∷ es) = omega (arith, length-append (entryBytes r b e) (tableFrom (e .record′) (e .border) es), entry-few r b e, table-few (e .record′) (e .border) es)
 
-pub table-next : (boxes : List ℤ) (places keys : List ℕ) → length keys ≤ 4096 → (place next : ℕ) (before after : List ℕ) → Stored before place (tableFrom 0 0 (map (entryOfWord boxes places) keys)) after next → next ≤ place + 245760
+pub table-next : (boxes : List ℤ) (places keys : List ℕ) → length keys ≤ 4096 → (place next : ℕ) (before after : List ℕ)
+    → Stored before place (tableFrom 0 0 (map (entryOfWord boxes places) keys)) after next → next ≤ place + 245760
 table-next boxes places keys few place next before after t = omega (arith, t .place-after, table-few 0 0 (map (entryOfWord boxes places) keys), length-map keys (entryOfWord boxes places), few)
 
 texts-few : (lengths texts : List ℕ) → length (flatMap inlined (cutBy lengths texts)) ≤ sumOf lengths + 10 * length lengths
@@ -31,7 +22,8 @@ texts-few [] texts = omega arith
 texts-few (n ∷ ns) texts =
     omega (arith, length-append (inlined (take n texts)) (flatMap inlined (cutBy ns (drop n texts))), inlined-few (take n texts), length-take n texts, texts-few ns (drop n texts))
 
-pub head-next : (kind version precision names : ℕ) (lengths texts : List ℕ) → Headed lengths texts → (next : ℕ) (before after : List ℕ) → Stored before 0 (headFrom kind version precision names (cutBy lengths texts)) after next → next ≤ 7 + 2 ^ 32
+pub head-next : (kind version precision names : ℕ) (lengths texts : List ℕ) → Headed lengths texts → (next : ℕ) (before after : List ℕ)
+    → Stored before 0 (headFrom kind version precision names (cutBy lengths texts)) after next → next ≤ 7 + 2 ^ 32
 unfolding headFrom
 head-next kind version precision names lengths texts h next before after t = omega (arith, t .place-after, texts-few lengths texts, h .bound)
 
@@ -44,7 +36,14 @@ fields-few : (records : ℕ) (words : List ℕ) (i : ℕ) (lengths texts : List 
 unfolding cutBy sumOf joinedFrom
 fields-few records words i [] texts = omega arith
 fields-few records words i (n ∷ ns) texts =
-    omega (arith, length-append (fieldBytes records words i (take n texts)) (joinedFrom (fieldBytes records words) (suc i) (cutBy ns (drop n texts))), word-few records (getD words i 0) (take n texts), length-take n texts, fields-few records words (suc i) ns (drop n texts))
+    omega (
+      arith,
+      length-append (fieldBytes records words i (take n texts)) (joinedFrom (fieldBytes records words) (suc i) (cutBy ns (drop n texts))),
+      word-few records
+          (getD words i 0) (take n texts),
+      length-take n texts,
+      fields-few records words (suc i) ns (drop n texts),
+    )
 
 module _ (records size : ℕ) (words lengths texts : List ℕ) (s : Sectioned records size words lengths texts) where
   pub behind-few : (place next : ℕ) (before after : List ℕ) → Stored before place (joinedFrom (fieldBytes records words) 0 (cutBy lengths texts)) after next → next ≤ place + 2 ^ 32
@@ -59,12 +58,10 @@ module _ {before zeroed after one two : List ℕ} {at next end : ℕ} (head tabl
       → Stored one at (varintOf tall ++ (varintOf wide ++ varintOf (length bytes))) two next → Stored two next (table ++ (section ++ bytes)) after end
       → Stored zeroed 0 (assembled head table section bytes) after end
   unfolding assembled
-  file-stored ez a et es b c =
-      let v : List ℕ = varintOf (length table) in
-      let w : List ℕ = varintOf (length section) in
-      let x : List ℕ = varintOf (length bytes) in
-      let rest : List ℕ = table ++ (section ++ bytes) in
+  file-stored ez a et es b c = let v : List ℕ = varintOf (length table) in let w : List ℕ = varintOf (length section) in
+      let x : List ℕ = varintOf (length bytes) in let rest : List ℕ = table ++ (section ++ bytes) in
       let e : (v ++ (w ++ x)) ++ rest ≡ v ++ (w ++ (x ++ rest)) = append-assoc v (w ++ x) rest ∙ ap (λ (l : List ℕ). v ++ l) (append-assoc w x rest) in
-      let b′ : Stored one at (v ++ (w ++ x)) two next = subst (λ (n : ℕ). Stored one at (varintOf n ++ (w ++ x)) two next) et (subst (λ (n : ℕ). Stored one at (varintOf tall ++ (varintOf n ++ x)) two next) es b) in
+      let b′ : Stored one at (v ++ (w ++ x)) two next = subst (λ (n : ℕ). Stored one at (varintOf n ++ (w ++ x)) two next) et
+      (subst (λ (n : ℕ). Stored one at (varintOf tall ++ (varintOf n ++ x)) two next) es b) in
       let a′ : Stored zeroed 0 head one at = subst (λ (l : List ℕ). Stored l 0 head one at) ez a in
       stored-then head (v ++ (w ++ (x ++ rest))) a′ (subst (λ (l : List ℕ). Stored one at l after end) e (stored-then (v ++ (w ++ x)) rest b′ c))

@@ -1,9 +1,6 @@
 -- The refusals of a plan before anything is drawn, in their order: the first lines of `builtOf`.
-use Prim.Native.Nat.{ℕ}
-use lib.IntN.{ℤ}
-use mathlib.Core.List.{List}
+use Rattle.numbers.specs.{Prelude.{ℕ, ℤ, List}, Reply.{Reply, plain, demand, _>>_}}
 use Rattle.builder.specs.{File.{bordersGood, counted, readable, known}, Yards.{Plan, Lent}}
-use Rattle.numbers.specs.Reply.{Reply, plain, demand, _>>_}
 
 unfoldable pub checked : Plan → Reply (Unit {0})
 checked plan = bordersGood (plan .yards) >> (demand (counted plan) (plain 25) >> (demand (readable plan) (plain 26) >> demand (known plan) (plain 27)))

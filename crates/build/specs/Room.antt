@@ -1,9 +1,7 @@
 -- How much room a build is lent, and how much a plan needs.
-use Prim.Native.Nat.{ℕ, _+_, _-_, _*_, _/_}
-use lib.{Dec.{ltb, leb}, ListN.{length, take}}
-use mathlib.Core.{Bool.{Bool, _&&_}, List.{List}}
+use Rattle.numbers.specs.Prelude.{ℕ, _+_, _-_, _*_, _/_, ltb, leb, length, take, Bool, _&&_, List}
 use Rattle.builder.specs.{File.{Room}, Yards.{Lent, sumOf}}
-use Rattle.build.specs.declared.room.{Work.{Work}, Need.{Need}}
+use Rattle.build.specs.declared.room.{Need.{Need}, Work.{Work}}
 
 -- for so many yards, fields and bytes of values: a start for each field and one more, two places and four corners a yard
 unfoldable pub enough : Work → ℕ → ℕ → ℕ → Bool

@@ -1,9 +1,6 @@
 -- What `build` replies, and what it leaves in all that was lent.
-use Prim.Native.Nat.{ℕ}
-use lib.{IntN.{ℤ, pos}, ListN.{length, replicate}}
-use mathlib.Core.{List.{List}, Path.{_≡_}}
+use Rattle.numbers.specs.{Lists.{zeros}, Prelude.{ℕ, ℤ, pos, length, replicate, List, _≡_}, Reply.{Reply, given, refused}}
 use Rattle.builder.specs.{File.{Room, builtOf, fitted}, Yards.{Lent, planOf}}
-use Rattle.numbers.specs.{Lists.{zeros}, Reply.{Reply, given, refused}}
 use Rattle.build.specs.declared.{file.Built.{Built}, room.Work.{Work}}
 use Rattle.build.specs.declared.file.Built.the-variants as W
 

@@ -1,9 +1,7 @@
 -- The least and the greatest of a list, item by item. Assumes nothing.
-use Prim.Native.Nat.{ℕ, _+_, _≤_, _<_}
-use lib.{IntN.{ℤ, pos}, ListN.{length, getD, drop}, Seq.{drop-cons, drop-length}, Signed.{ltZ}}
-use mir.{Facts.{toZ-ofZ}, Syntax.{w32}, Val.{SFits, toZ, ofZ}}
-use mathlib.Core.{Bool.{true, false}, List.{List, [], _∷_}, Path.{_≡_, refl, sym, ap, _∙_}}
-use native.Mathlib.{Numerals.{add-one}, Omega.{arith}}
+use Rattle.numbers.proofs.Prelude.{ℕ, _+_, _≤_, _<_, ℤ, pos, length, drop, getD, drop-cons, drop-length, ltZ, true, false, List, [], _∷_, _≡_, refl, sym, ap, _∙_, w32, SFits, ofZ, toZ, add-one}
+use Rattle.numbers.proofs.Prelude.{arith}
+use mir.Facts.{toZ-ofZ}
 use Rattle.builder.specs.Entries.{bestBy, lowestOf, highestOf, lesser, greater}
 
 -- the loop's invariant: the best so far, with the rest, gives that of all
@@ -38,9 +36,7 @@ module _ (best : ℤ → ℤ → ℤ) (whole : ℤ) (list : List ℤ) (so : ℤ)
 
   pub choose-ends : length list ≤ i → so ≡ whole
   unfolding bestBy
-  choose-ends h =
-      let e : i ≡ length list = omega (arith, c .index) in
-      sym (ap (bestBy best so) (ap (λ (n : ℕ). drop n list) e ∙ drop-length list)) ∙ c .same
+  choose-ends h = let e : i ≡ length list = omega (arith, c .index) in sym (ap (bestBy best so) (ap (λ (n : ℕ). drop n list) e ∙ drop-length list)) ∙ c .same
 
 -- an i32 that is read back
 pub read-back : (best : ℤ → ℤ → ℤ) (whole : ℤ) (list : List ℤ) (so : ℤ) (i : ℕ) → SFits w32 so → Choosing best whole list so i → Choosing best whole list (toZ w32 (ofZ w32 so)) i

@@ -1,4 +1,5 @@
 -- Laws on plain values that the functions' proofs cite.
+pub mod Sums
 pub mod Puts
 pub mod Bests
 pub mod Steps

@@ -1,9 +1,6 @@
 -- A text's bytes XOR 0x80, twice. Assumes nothing.
-use Prim.Native.Nat.{ℕ, zero, suc, _/_, _%_, _≤_, _<_}
-use borrow.Author.Tests.{le-leb, lt-leb}
-use lib.{Bits.{bitXor, differ, xor-step, xor-self}, ListN.{length, take, length-map}, Seq.{take-at}}
-use mathlib.Core.{Bool.{Bool, false}, List.{List, [], _∷_, map}, Path.{_≡_, refl, sym, ap, _∙_}}
-use native.Mathlib.{Nat.{le-refl}, Omega.{arith}}
+use Rattle.numbers.proofs.Prelude.{ℕ, zero, suc, _/_, _%_, _≤_, _<_, le-leb, lt-leb, length, take, length-map, take-at, Bool, false, List, [], _∷_, map, _≡_, refl, sym, ap, _∙_, le-refl, arith}
+use lib.Bits.{bitXor, differ, xor-step, xor-self}
 use Rattle.writer.{proofs.Stores.{stored-front}, specs.inner.Stored.{Stored}}
 use Rattle.header.specs.Utf8.{unmasked, isUtf8}
 use Rattle.builder.specs.File.{isText}
@@ -18,13 +15,9 @@ bit (suc zero) (suc (suc y)) h k = absurd (omega arith)
 bit (suc (suc x)) y h k = absurd (omega arith)
 
 halves : (n b : ℕ) → bitXor (bitXor (n / 2) (b / 2)) (b / 2) ≡ n / 2 → bitXor (bitXor n b) b ≡ n
-halves n b e =
-    let d = bit (n % 2) (b % 2) (omega arith) (omega arith) in
-    let s = xor-step n b in
-    let high : bitXor n b / 2 ≡ bitXor (n / 2) (b / 2) = omega (arith, s, d .0) in
-    let low : bitXor n b % 2 ≡ differ (n % 2) (b % 2) = omega (arith, s, d .0) in
-    let one : bitXor (bitXor n b / 2) (b / 2) ≡ n / 2 = rw high e in
-    let two : differ (bitXor n b % 2) (b % 2) ≡ n % 2 = rw low (d .1) in
+halves n b e = let d = bit (n % 2) (b % 2) (omega arith) (omega arith) in let s = xor-step n b in
+    let high : bitXor n b / 2 ≡ bitXor (n / 2) (b / 2) = omega (arith, s, d .0) in let low : bitXor n b % 2 ≡ differ (n % 2) (b % 2) = omega (arith, s, d .0) in
+    let one : bitXor (bitXor n b / 2) (b / 2) ≡ n / 2 = rw high e in let two : differ (bitXor n b % 2) (b % 2) ≡ n % 2 = rw low (d .1) in
     xor-step (bitXor n b) b ∙ omega (arith, one, two)
 
 twice-within : (k n b : ℕ) → n ≤ k → bitXor (bitXor n b) b ≡ n

@@ -1,8 +1,5 @@
 -- Bytes that go into the output one after another. Assumes nothing.
-use Prim.Native.Nat.{ℕ, _+_, _≤_, _<_}
-use lib.{ListN.{length, getD, drop}, Seq.{set-out, drop-cons, drop-length}}
-use mathlib.Core.{List.{List, [], _∷_, map}, Path.{_≡_, refl, sym, ap, subst, _∙_}}
-use native.Mathlib.{Numerals.{add-one}, Omega.{arith}}
+use Rattle.numbers.proofs.Prelude.{ℕ, _+_, _≤_, _<_, length, drop, getD, drop-cons, drop-length, set-out, List, [], _∷_, map, _≡_, refl, sym, ap, subst, _∙_, add-one, arith}
 use Rattle.writer.{proofs.Stores.{Left, left-all, left-step, left-none}, specs.inner.Stored.{Stored}}
 
 -- a byte past the end is only counted
@@ -19,7 +16,8 @@ module _ (f : ℕ → ℕ) where
   pub put-starts : (before : List ℕ) (place : ℕ) (items : List ℕ) → Putting before place items before place 0
   put-starts before place items = record { index = omega arith; left = left-all; next-is = omega arith }
 
-  pub put-goes : (before : List ℕ) (place : ℕ) (items now after : List ℕ) (next i later : ℕ) → Putting before place items now next i → i < length items → Stored now next (f (getD items i 0) ∷ []) after later → Putting before place items after later (i + 1)
+  pub put-goes : (before : List ℕ) (place : ℕ) (items now after : List ℕ) (next i later : ℕ) → Putting before place items now next i → i < length items →
+      Stored now next (f (getD items i 0) ∷ []) after later → Putting before place items after later (i + 1)
   put-goes before place items now after next i later p h s = record {
     index = omega arith;
     left = rw (add-one i) (left-step (f (getD items i 0) ∷ []) (subst (λ (rest : List ℕ). Left before place (map f items) now next rest) (ap (map f) (drop-cons items i 0 h)) (p .left)) s);
@@ -27,8 +25,7 @@ module _ (f : ℕ → ℕ) where
   }
 
   pub put-ends : (before : List ℕ) (place : ℕ) (items now : List ℕ) (next i : ℕ) → Putting before place items now next i → length items ≤ i → Stored before place (map f items) now next
-  put-ends before place items now next i p h =
-      let e : i ≡ length items = omega (arith, p .index) in
+  put-ends before place items now next i p h = let e : i ≡ length items = omega (arith, p .index) in
       left-none (subst (λ (rest : List ℕ). Left before place (map f items) now next rest) (ap (λ (n : ℕ). map f (drop n items)) e ∙ ap (map f) (drop-length items)) (p .left))
 
 abbrev pub itself : ℕ → ℕ

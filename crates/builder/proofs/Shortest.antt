@@ -1,12 +1,8 @@
 -- The layout of the definition is the least that fits; it is that of the plain numbers of crate `layout`, so its section is the shortest. Assumes nothing.
-use Prim.Native.Nat.{ℕ, zero, suc, _+_, _*_, _≤_, _<_}
-use borrow.Author.Tests.{eq-eqb, ne-eqb, eqb-true, eqb-false}
-use lib.{Dec.{eqb}, ListN.{length, getD, length-append}}
-use native.Mathlib.{Nat.{add-zero}, Omega.{arith}}
-use mathlib.Core.{Bool.{Bool, true, false}, List.{List, [], _∷_, map, flatMap}, Path.{_≡_, refl, sym, ap, subst, _∙_}}
+use Rattle.numbers.proofs.Prelude.{ℕ, zero, suc, _+_, _*_, _≤_, eq-eqb, ne-eqb, eqb-true, eqb-false, eqb, length, length-append, Bool, true, false, List, [], _∷_, map, flatMap, _≡_, refl, sym, ap}
+use Rattle.numbers.{proofs.{Prelude.{subst, _∙_, arith}, Spelling.{varint-few}}, specs.{Answer.{if_then_else_}, Spelling.{varintOf}}}
 use Rattle.layout.{proofs.Steps.{Shorter, shortest, least-layout}, specs.inner.Layout.{wordSize, wordsSize, next, Fits, Least, after}}
-use Rattle.numbers.{proofs.Spelling.{varint-few}, specs.{Answer.{if_then_else_}, Spelling.{varintOf}}}
-use Rattle.builder.specs.{Metadata.{inlined, isRemote, offsetOf, written, fits, firstFrom, layoutOf, joinedFrom, wordBytes, fieldBytes}, Yards.{Text}}
+use Rattle.builder.specs.{Metadata.{inlined, isRemote, offsetOf, written, fits, firstFrom, layoutOf}, Yards.{Text}}
 
 -- ---- the fields as plain numbers
 module _ (all : List Text) where
@@ -21,14 +17,12 @@ module _ (all : List Text) where
 
   field-size : (records : ℕ) (t : Text) → length (written all records t) ≡ (if isRemote all t then 0 else length (inlined t)) + wordSize (wordOf t) records
   unfolding written wordSize
-  field-size records t = go (isRemote all t)
-    where
-      go : (far : Bool) → length (if far then varintOf (256 + records + offsetOf all t) else inlined t)
-          ≡ (if far then 0 else length (inlined t)) + (if eqb (if far then suc (offsetOf all t) else 0) 0 then 0 else length (varintOf (255 + records + (if far then suc (offsetOf all t) else 0))))
-      go true =
-          let e : 256 + records + offsetOf all t ≡ 255 + records + suc (offsetOf all t) = omega arith in
-          rw (ne-eqb (suc (offsetOf all t)) 0 (λ z. omega arith), e) (omega arith)
-      go false = omega arith
+  field-size records t = go (isRemote all t) where
+    go : (far : Bool) → length (if far then varintOf (256 + records + offsetOf all t) else inlined t)
+        ≡ (if far then 0 else length (inlined t)) + (if eqb (if far then suc (offsetOf all t) else 0) 0 then 0 else length (varintOf (255 + records + (if far then suc (offsetOf all t) else 0))))
+    go true = let e : 256 + records + offsetOf all t ≡ 255 + records + suc (offsetOf all t) = omega arith in
+        rw (ne-eqb (suc (offsetOf all t)) 0 (λ z. omega arith), e) (omega arith)
+    go false = omega arith
 
   -- the records' length is that of the plain numbers
   pub records-size : (records : ℕ) (ts : List Text) → length (flatMap (written all records) ts) ≡ next (inlineOf ts) (map wordOf ts) records
@@ -41,34 +35,29 @@ module _ (all : List Text) where
   -- no word has more than ten bytes
   field-most : (records : ℕ) (t : Text) → length (written all records t) ≤ length (inlined t) + 10
   unfolding written
-  field-most records t = go (isRemote all t)
-    where
-      go : (far : Bool) → length (if far then varintOf (256 + records + offsetOf all t) else inlined t) ≤ length (inlined t) + 10
-      go true = omega (arith, varint-few (256 + records + offsetOf all t))
-      go false = omega arith
+  field-most records t = go (isRemote all t) where
+    go : (far : Bool) → length (if far then varintOf (256 + records + offsetOf all t) else inlined t) ≤ length (inlined t) + 10
+    go true = omega (arith, varint-few (256 + records + offsetOf all t))
+    go false = omega arith
 
   records-most : (records : ℕ) (ts : List Text) → length (flatMap (written all records) ts) ≤ length (flatMap inlined ts) + 10 * length ts
   unfolding flatMap
   records-most records [] = omega arith
-  records-most records (t ∷ ts) = omega (arith, length-append (written all records t) (flatMap (written all records) ts), length-append (inlined t) (flatMap inlined ts), field-most records t, records-most records ts)
+  records-most records (t ∷ ts) =
+      omega (arith, length-append (written all records t) (flatMap (written all records) ts), length-append (inlined t) (flatMap inlined ts), field-most records t, records-most records ts)
 
 -- ---- the first number that is good
 first-good : (good : ℕ → Bool) (least n more : ℕ) → good least ≡ true → ((k : ℕ) → good k ≡ true → least ≤ k) → n ≤ least → least ≤ n + more → firstFrom more good n ≡ least
 unfolding firstFrom
 first-good good least n zero is none h k = omega arith
-first-good good least n (suc more) is none h k = go (good n) refl (first-good good least (suc n) more is none)
-  where
-    go : (t : Bool) → good n ≡ t → (suc n ≤ least → least ≤ suc n + more → firstFrom more good (suc n) ≡ least) → (if t then n else firstFrom more good (suc n)) ≡ least
-    go true e later = omega (arith, none n e)
-    go false e later = by-size (eqb n least) refl
-      where
-        by-size : (s : Bool) → eqb n least ≡ s → firstFrom more good (suc n) ≡ least
-        by-size true s =
-            let same : n ≡ least = eqb-true n least s in
-            let bad : good least ≡ false = ap good (sym same) ∙ e in
-            let z : _≡_ {A = Bool} true false = sym is ∙ bad in
-            let w : _≡_ {A = ℕ} 0 1 = cc in absurd (omega arith)
-        by-size false s = later (omega (arith, eqb-false n least s)) (omega arith)
+first-good good least n (suc more) is none h k = go (good n) refl (first-good good least (suc n) more is none) where
+  go : (t : Bool) → good n ≡ t → (suc n ≤ least → least ≤ suc n + more → firstFrom more good (suc n) ≡ least) → (if t then n else firstFrom more good (suc n)) ≡ least
+  go true e later = omega (arith, none n e)
+  go false e later = by-size (eqb n least) refl where
+    by-size : (s : Bool) → eqb n least ≡ s → firstFrom more good (suc n) ≡ least
+    by-size true s = let same : n ≡ least = eqb-true n least s in let bad : good least ≡ false = ap good (sym same) ∙ e in
+        let z : _≡_ {A = Bool} true false = sym is ∙ bad in let w : _≡_ {A = ℕ} 0 1 = cc in absurd (omega arith)
+    by-size false s = later (omega (arith, eqb-false n least s)) (omega arith)
 
 -- ---- the definition's layout
 module _ (fields : List Text) where
@@ -95,41 +84,8 @@ module _ (fields : List Text) where
 
   -- and there is one
   pub layout-least : Least numbers words (layoutOf fields)
-  layout-least =
-      let l = least-layout numbers words in
-      subst (Least numbers words) (sym (layout-is (after numbers words (10 * length words)) l)) l
+  layout-least = let l = least-layout numbers words in subst (Least numbers words) (sym (layout-is (after numbers words (10 * length words)) l)) l
 
   -- any other layout that fits makes no word longer and a longer section
   pub shortest-section : (other : ℕ) → fits fields other ≡ true → Shorter words (layoutOf fields) other
   shortest-section other e = shortest numbers words (layoutOf fields) other layout-least (fits-then other e)
-
--- ---- the records that are written by their words are the definition's
-module _ (all : List Text) (records : ℕ) where
-  by-word : (t : Text) → wordBytes records (wordOf all t) t ≡ written all records t
-  unfolding wordBytes written
-  by-word t = go (isRemote all t)
-    where
-      go : (far : Bool) → (if eqb (if far then suc (offsetOf all t) else 0) 0 then inlined t else varintOf (255 + records + (if far then suc (offsetOf all t) else 0)))
-          ≡ (if far then varintOf (256 + records + offsetOf all t) else inlined t)
-      go true =
-          let e : 255 + records + suc (offsetOf all t) ≡ 256 + records + offsetOf all t = omega arith in
-          rw (ne-eqb (suc (offsetOf all t)) 0 (λ z. omega arith), e)
-      go false = refl
-
-  joined-written : (words : List ℕ) (i : ℕ) (ts : List Text) → ((k : ℕ) → k < length ts → getD words (i + k) 0 ≡ getD (map (wordOf all) ts) k 0) → joinedFrom (fieldBytes records words) i ts ≡ flatMap (written all records) ts
-  unfolding joinedFrom flatMap
-  joined-written words i [] same = refl
-  joined-written words i (t ∷ ts) same =
-      let here : getD words i 0 ≡ wordOf all t = ap (λ (n : ℕ). getD words n 0) (sym (add-zero i)) ∙ same 0 (omega arith) in
-      let one : wordBytes records (getD words i 0) t ≡ written all records t = ap (λ (w : ℕ). wordBytes records w t) here ∙ by-word t in
-      let more : joinedFrom (fieldBytes records words) (suc i) ts ≡ flatMap (written all records) ts = joined-written words (suc i) ts (λ k h. ap (λ (n : ℕ). getD words n 0) (shift i k) ∙ same (suc k) (omega arith)) in
-      rw (one, more)
-    where
-      shift : (i k : ℕ) → suc i + k ≡ i + suc k
-      shift i k = omega arith
-
-pub records-written : (fields : List Text) (records : ℕ) → joinedFrom (fieldBytes records (map (wordOf fields) fields)) 0 fields ≡ flatMap (written fields records) fields
-records-written fields records = joined-written fields records (map (wordOf fields) fields) 0 fields (λ k h. ap (λ (n : ℕ). getD (map (wordOf fields) fields) n 0) (zero-first k))
-  where
-    zero-first : (k : ℕ) → 0 + k ≡ k
-    zero-first k = omega arith

@@ -1,11 +1,8 @@
 -- The signed form of a step between two places. Assumes nothing.
-use Prim.Native.Nat.{ℕ, zero, suc, _+_, _-_, _*_, _≤_, _<_}
-use borrow.Author.Tests.{lt-ltb, le-ltb}
-use lib.{IntN.{ℤ, pos, _-ℤ_, +ℤ-idr}, ListN.{length, length-append}}
-use mathlib.Core.{Path.{_≡_, ap, subst}, List.{List, _++_}}
-use native.Mathlib.Omega.{arith}
-use Rattle.writer.{proofs.Stores.{stored-then}, specs.inner.Stored.{Stored}}
+use Rattle.numbers.proofs.Prelude.{ℕ, zero, suc, _+_, _-_, _*_, _≤_, _<_, lt-ltb, le-ltb, ℤ, pos, _-ℤ_, length, length-append, List, _++_, _≡_, ap, subst, arith}
 use Rattle.numbers.{proofs.Spelling.{varint-few}, specs.Spelling.{varintOf, signedForm}}
+use lib.IntN.{+ℤ-idr}
+use Rattle.writer.{proofs.Stores.{stored-then}, specs.inner.Stored.{Stored}}
 use Rattle.builder.specs.{Entries.{boxBytes}, declared.boxes.Bounds.{Bounds}}
 
 pub step-down : (from to : ℕ) → to < from → (from - to) * 2 + 1 ≡ signedForm (pos to -ℤ pos from)

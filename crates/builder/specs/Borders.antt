@@ -1,9 +1,7 @@
 -- The data section: "begins with one zero byte, for backward runs"; borders lie in order of arrival. 23 and 28 come yard by yard.
-use Prim.Native.Nat.{ℕ, _≤_, _<_}
-use mathlib.Core.{Bool.{Bool, not}, Path.{_≡_}, List.{List, [], _∷_, _++_}}
-use lib.{Dec.{leb, eqb}, ListN.{length, take}}
+use Rattle.numbers.specs.Prelude.{ℕ, _≤_, _<_, eqb, leb, length, take, Bool, not, List, [], _∷_, _++_, _≡_}
+use Rattle.numbers.specs.{Answer.{if_then_else_}, Reply.{Reply, given, refused, refusal, plain, demand, _>>=_, _>>_}}
 use Rattle.writer.specs.Writer.{borderOf}
-use Rattle.numbers.specs.{Reply.{Reply, given, refused, refusal, plain, demand, _>>=_, _>>_}, Answer.{if_then_else_}}
 use Rattle.builder.specs.{Yards.{Yard}, declared.borders.Border.{Border}}
 use Rattle.builder.specs.declared.borders.Border.the-variants as B
 

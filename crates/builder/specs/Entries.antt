@@ -1,8 +1,5 @@
 -- The table: "boxes from the borders, entries sorted by lower latitude and then by order of arrival, polygon deltas modulo 2^32".
-use Prim.Native.Nat.{ℕ, suc, _+_, _-_, _*_, _%_, _^_}
-use mathlib.Core.List.{List, [], _∷_, _++_}
-use lib.{IntN.{ℤ, pos, negsuc, _-ℤ_}, ListN.{getD}, Signed.{ltZ}}
-use Rattle.numbers.specs.{Answer.{if_then_else_}, Spelling.{varintOf, signedForm}}
+use Rattle.numbers.specs.{Answer.{if_then_else_}, Prelude.{ℕ, suc, _+_, _-_, _*_, _%_, _^_, ℤ, pos, negsuc, _-ℤ_, getD, ltZ, List, [], _∷_, _++_}, Spelling.{varintOf, signedForm}}
 use Rattle.builder.specs.declared.{boxes.Bounds.{Bounds}, entry.Places.{Places}}
 use Rattle.layout.specs.Order.{sortedBy}
 

@@ -1,12 +1,9 @@
 -- A built file, and when building is refused: document 02, Q-4.
-use Prim.Native.Nat.{ℕ, _^_, min}
-use mathlib.Core.{Bool.{Bool, _&&_}, List.{List, [], _∷_, _++_, flatMap, zipWith}}
-use lib.{Dec.{ltb, leb}, ListN.{length}}
-use Rattle.writer.specs.Writer.{every, checks}
+use Rattle.numbers.specs.Prelude.{ℕ, _^_, min, ltb, leb, length, Bool, _&&_, List, [], _∷_, _++_, flatMap, zipWith}
 use Rattle.numbers.specs.{Lists.{zeros, padded}, Reply.{Reply, given, refused, plain, demand, _>>=_, _>>_}, Spelling.{varintOf}}
+use Rattle.writer.specs.Writer.{every, checks}
 use Rattle.header.specs.{Header.{isKind}, Utf8.{isUtf8}}
-use Rattle.builder.specs.{Borders.{Drawn, drawnOf}, Entries.{Entry, boxOf, tableOf}, Metadata.{inlined, recordsOf, startOf, metadataOf}}
-use Rattle.builder.specs.Yards.{Text, Yard, Plan, cutBy, sumOf}
+use Rattle.builder.specs.{Borders.{Drawn, drawnOf}, Entries.{Entry, boxOf, tableOf}, Metadata.{inlined, recordsOf, startOf, metadataOf}, Yards.{Text, Yard, Plan, cutBy, sumOf}}
 
 -- `PLB`, type, version, precision, number of names, the names and the notice
 unfoldable pub headFrom : ℕ → ℕ → ℕ → ℕ → List Text → List ℕ

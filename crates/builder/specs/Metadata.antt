@@ -1,9 +1,6 @@
 -- The metadata section: "Yards with equal field values share one metadata record, others have their own. Records lie in order of arrival; a nonempty value
 -- found twice in the records is stored once, remotely, after them, by first use; of several layouts that fit, the shortest."
-use Prim.Native.Nat.{ℕ, zero, suc, _+_, _*_}
-use mathlib.Core.{Bool.{Bool, not, _&&_}, List.{List, [], _∷_, _++_, map, flatMap}}
-use lib.{Dec.{leb, eqb}, ListN.{length, getD}}
-use Rattle.numbers.specs.{Answer.{if_then_else_}, Spelling.{varintOf}}
+use Rattle.numbers.specs.{Answer.{if_then_else_}, Prelude.{ℕ, zero, suc, _+_, _*_, eqb, leb, length, getD, Bool, _&&_, not, List, [], _∷_, _++_, map, flatMap}, Spelling.{varintOf}}
 use Rattle.header.specs.Utf8.{unmasked}
 use Rattle.builder.specs.{Sharing.{sameText, sameTexts, timesIn, firsts, sizeBefore, goodOnes}, Yards.{Text, Yard}}
 

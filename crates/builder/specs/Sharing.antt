@@ -1,8 +1,5 @@
 -- What is found twice: equal texts, equal records, and the first of each. "Equal means the same texts, byte for byte, field by field."
-use Prim.Native.Nat.{ℕ, _+_}
-use mathlib.Core.{Bool.{Bool, true, false, _&&_, _||_}, List.{List, [], _∷_}}
-use lib.Dec.{eqb}
-use Rattle.numbers.specs.Answer.{if_then_else_}
+use Rattle.numbers.specs.{Answer.{if_then_else_}, Prelude.{ℕ, _+_, eqb, Bool, true, false, _&&_, _||_, List, [], _∷_}}
 use Rattle.builder.specs.Yards.{Text}
 
 -- two lists have the same items, in turn
@@ -51,8 +48,3 @@ goodOnes good (x ∷ xs) = if good x then (x ∷ goodOnes good xs) else goodOnes
 unfoldable pub firstWith : {A : Type 0} → (A → Bool) → A → List A → A
 firstWith good other [] = other
 firstWith good other (x ∷ xs) = if good x then x else firstWith good other xs
-
--- those at the front that have this key
-unfoldable pub frontBy : {A : Type 0} → (A → ℕ) → ℕ → List A → List A
-frontBy key k [] = []
-frontBy key k (x ∷ xs) = if eqb (key x) k then (x ∷ frontBy key k xs) else []

@@ -1,9 +1,6 @@
 -- What a file is built of: document 02, Q-4, "from yards (borders with pieces, field values, names, notice, precision, type, version)".
-use Prim.Native.Nat.{ℕ, _+_, _-_, _*_, _/_}
-use mathlib.Core.{Bool.{Bool, _&&_}, List.{List, [], _∷_}}
-use lib.{Dec.{ltb, leb, eqb}, IntN.{ℤ}, ListN.{length, take, drop, getD}}
+use Rattle.numbers.specs.{Answer.{if_then_else_}, Prelude.{ℕ, _+_, _-_, _*_, _/_, eqb, ltb, leb, ℤ, length, take, drop, getD, Bool, _&&_, List, [], _∷_}}
 use Rattle.writer.specs.{Pieces.{piecesOf}, Writer.{every}, declared.write.Piece.{Piece}}
-use Rattle.numbers.specs.Answer.{if_then_else_}
 
 -- a text is its bytes
 abbrev pub Text : Type 0

@@ -1,13 +1,11 @@
 -- Bytes, names and entries of a bundle, as the code meets them. Assumes nothing.
-use mathlib.Core.{Path.{_≡_, refl, ap, sym, subst, _∙_}, Bool.{Bool, true, false, _&&_, and-false}, List.{List, [], _∷_, _++_, map}}
-use Prim.Native.Nat.{ℕ, zero, suc, _+_, _-_, _*_, _/_, _%_, _≤_, _<_}
-use borrow.Author.Tests.{le-leb, lt-leb, leb-true, eq-eqb, ne-eqb, eqb-true}
-use lib.{Bits.{bitXor}, Dec.{leb, eqb}, ListN.{length, getD, drop, length-append, length-map, List·getD-append, List·getD-eq-default}, Seq.{getD-drop, drop-drop, getD-append-add}}
-use native.Mathlib.Omega.{arith}
-use Rattle.numbers.proofs.Replies.{given-from, demanded}
-use Rattle.numbers.specs.{Answer.{Answer, found, failed, if_then_else_}, Reply.{Reply, given, refused, refusal, plain, demand, _orElse_, _>>=_, _>>_}, declared.refusal.Refusal.{Refusal}}
-use Rattle.bundle.specs.{Bundle.{xored, wordAt, agrees, magic, isBundle, isIndex, isData, isEnd, headOf, isEntry, seekOf, findOf}, declared.{head.Head.{Head}, find.File.{File}}}
-use Rattle.numbers.proofs.Tests.{both}
+use Rattle.numbers.proofs.Prelude.{ℕ, zero, suc, _+_, _-_, _*_, _/_, _%_, _≤_, _<_, eq-eqb, ne-eqb, le-leb, leb-true, lt-leb, eqb-true, eqb, leb, length, drop, getD, length-append, length-map}
+use Rattle.numbers.proofs.Prelude.{List·getD-append, List·getD-eq-default, drop-drop, getD-drop, getD-append-add, Bool, true, false, _&&_, List, [], _∷_, _++_, map, _≡_, refl, sym, ap, subst, _∙_}
+use Rattle.numbers.proofs.Prelude.{arith}
+use Rattle.numbers.{proofs.{Replies.{demanded}, Tests.{both}}, specs.{Answer.{found, failed, if_then_else_}, Reply.{given, refused, refusal, plain}, declared.refusal.Refusal.{Refusal}}}
+use mathlib.Core.Bool.{and-false}
+use lib.Bits.{bitXor}
+use Rattle.bundle.specs.{Bundle.{xored, wordAt, agrees, magic, isBundle, isIndex, isData, isEnd, headOf, isEntry, seekOf, findOf}, declared.{find.File.{File}, head.Head.{Head}}}
 
 -- ---- a name in two parts, under a mask
 masked-at : (mask : ℕ) (l : List ℕ) (at : ℕ) → at < length l → bitXor (getD l at 0) mask ≡ getD (map (xored mask) l) at 0
@@ -24,8 +22,7 @@ module _ (p q : List ℕ) (at mask : ℕ) where
 
   pub byte-second : length p ≤ at → at - length p < length q → bitXor (getD q (at - length p) 0) mask ≡ getD (map (xored mask) (p ++ q)) at 0
   byte-second h l =
-      masked (omega (arith, length-append p q))
-      (sym (ap (λ (k : ℕ). getD (p ++ q) k 0) (let e : at ≡ length p + (at - length p) = omega arith in e) ∙ getD-append-add p q (at - length p) 0))
+      masked (omega (arith, length-append p q)) (sym (ap (λ (k : ℕ). getD (p ++ q) k 0) (let e : at ≡ length p + (at - length p) = omega arith in e) ∙ getD-append-add p q (at - length p) 0))
 
   pub byte-none : length p ≤ at → length q ≤ at - length p → 0 ≡ getD (map (xored mask) (p ++ q)) at 0
   byte-none h l = sym (List·getD-eq-default (map (xored mask) (p ++ q)) 0 (omega (arith, length-map (p ++ q) (xored mask), length-append p q)))
@@ -61,12 +58,10 @@ agree-differ : (n k : ℕ) (xs ys : List ℕ) → k < n → (getD xs k 0 ≡ get
 unfolding agrees
 agree-differ zero k xs ys h d = absurd (omega arith)
 agree-differ (suc n) zero xs ys h d = simp (ne-eqb (getD xs 0 0) (getD ys 0 0) d)
-agree-differ (suc n) (suc k) xs ys h d =
-    let later = agree-differ n k (drop 1 xs) (drop 1 ys) (omega arith) (λ e. d (sym (one-on k xs) ∙ e ∙ one-on k ys)) in
-    ap (λ (t : Bool). eqb (getD xs 0 0) (getD ys 0 0) && t) later ∙ and-false (eqb (getD xs 0 0) (getD ys 0 0))
-  where
-    one-on : (k : ℕ) (text : List ℕ) → getD (drop 1 text) k 0 ≡ getD text (suc k) 0
-    one-on k text = getD-drop 1 text k 0 ∙ ap (λ (i : ℕ). getD text i 0) (let e : 1 + k ≡ suc k = omega arith in e)
+agree-differ (suc n) (suc k) xs ys h d = let later = agree-differ n k (drop 1 xs) (drop 1 ys) (omega arith) (λ e. d (sym (one-on k xs) ∙ e ∙ one-on k ys)) in
+    ap (λ (t : Bool). eqb (getD xs 0 0) (getD ys 0 0) && t) later ∙ and-false (eqb (getD xs 0 0) (getD ys 0 0)) where
+      one-on : (k : ℕ) (text : List ℕ) → getD (drop 1 text) k 0 ≡ getD text (suc k) 0
+      one-on k text = getD-drop 1 text k 0 ∙ ap (λ (i : ℕ). getD text i 0) (let e : 1 + k ≡ suc k = omega arith in e)
 
 pub not-entry : (bundle name : List ℕ) (place probe : ℕ) → probe < 40 → (getD bundle (place + probe) 0 ≡ getD name probe 0 → ⊥) → isEntry bundle name place ≡ false
 unfolding isEntry
@@ -91,11 +86,10 @@ long-bundle bundle h = sym (simp (le-leb 24 (length bundle) h))
 
 pub bundle-long : (bundle : List ℕ) → isBundle bundle ≡ true → 24 ≤ length bundle
 unfolding isBundle
-bundle-long bundle e = go (leb 24 (length bundle)) (agrees 6 bundle magic) refl e
-  where
-    go : (a b : Bool) → leb 24 (length bundle) ≡ a → (a && b) ≡ true → 24 ≤ length bundle
-    go true b f e = leb-true 24 (length bundle) f
-    go false b f e = absurd (let z : _≡_ {A = ℕ} 0 1 = cc in omega arith)
+bundle-long bundle e = go (leb 24 (length bundle)) (agrees 6 bundle magic) refl e where
+  go : (a b : Bool) → leb 24 (length bundle) ≡ a → (a && b) ≡ true → 24 ≤ length bundle
+  go true b f e = leb-true 24 (length bundle) f
+  go false b f e = absurd (let z : _≡_ {A = ℕ} 0 1 = cc in omega arith)
 
 same-head : {a b c d e f : ℕ} → a ≡ b → c ≡ d → e ≡ f → _≡_ {A = Head} (record { index = a; start = c; end = e }) (record { index = b; start = d; end = f })
 same-head p q r = cc
@@ -140,20 +134,15 @@ pub record Lies (length index start end : ℕ) : Type 0 where
 
 lies : (length i d e : ℕ) → isIndex i ≡ true → isData i d ≡ true → isEnd d e length ≡ true → Lies length i d e
 unfolding isIndex isData isEnd
-lies length i d e x y z =
-    let a = both (leb i 2147483647) (leb 24 i) x in
-    let b = both (leb d 2147483647 && leb i d) (eqb ((d - i) % 52) 0) y in
-    let c = both (leb d 2147483647) (leb i d) (b .0) in
-    let f = both (leb e 2147483647 && leb d e) (leb e length) z in
+lies length i d e x y z = let a = both (leb i 2147483647) (leb 24 i) x in let b = both (leb d 2147483647 && leb i d) (eqb ((d - i) % 52) 0) y in
+    let c = both (leb d 2147483647) (leb i d) (b .0) in let f = both (leb e 2147483647 && leb d e) (leb e length) z in
     let g = both (leb e 2147483647) (leb d e) (f .0) in
     record { low = leb-true _ _ (a .1); order = leb-true _ _ (c .1); whole = eqb-true _ _ (b .1); under = leb-true _ _ (g .1); inside = leb-true _ _ (f .1); small = leb-true _ _ (g .0) }
 
 pub head-good : (bundle : List ℕ) {head : Head} → given head ≡ headOf bundle → Lies (length bundle) (head .index) (head .start) (head .end)
 unfolding headOf
-head-good bundle {head = head} h =
-    let a = demanded (isBundle bundle) (refusal 89 0 0) h in
-    let b = demanded (eqb (getD bundle 11 0) 0) (refusal 89 0 11) (a .1) in
-    let c = demanded (isIndex (wordAt bundle 12)) (refusal 89 0 12) (b .1) in
+head-good bundle {head = head} h = let a = demanded (isBundle bundle) (refusal 89 0 0) h in
+    let b = demanded (eqb (getD bundle 11 0) 0) (refusal 89 0 11) (a .1) in let c = demanded (isIndex (wordAt bundle 12)) (refusal 89 0 12) (b .1) in
     let d = demanded (isData (wordAt bundle 12) (wordAt bundle 16)) (refusal 89 0 16) (c .1) in
     let e = demanded (isEnd (wordAt bundle 16) (wordAt bundle 20) (length bundle)) (refusal 89 0 20) (d .1) in
     let same : head ≡ record { index = wordAt bundle 12; start = wordAt bundle 16; end = wordAt bundle 20 } = (let f = e .1 in cc) in
@@ -203,12 +192,11 @@ seek-end left bundle name at e = rw e refl
 pub seek-inside : (n : ℕ) (bundle name : List ℕ) (at : ℕ) {place : ℕ} → found place ≡ seekOf n bundle name at → (at ≤ place) × (place + 52 ≤ at + 52 * n)
 unfolding seekOf
 seek-inside zero bundle name at e = absurd (let z : _≡_ {A = ℕ} 0 1 = cc in omega arith)
-seek-inside (suc n) bundle name at e = go (isEntry bundle name at) (λ p q. seek-inside n bundle name (at + 52) {place = p} q) e
-  where
-    go : (t : Bool) {place : ℕ} → ((p : ℕ) → found p ≡ seekOf n bundle name (at + 52) → (at + 52 ≤ p) × (p + 52 ≤ at + 52 + 52 * n))
-        → found place ≡ (if t then found at else seekOf n bundle name (at + 52)) → (at ≤ place) × (place + 52 ≤ at + 52 * suc n)
-    go true {place = place} k e = let s : place ≡ at = cc in (omega arith, omega arith)
-    go false {place = place} k e = let h = k place e in (omega (arith, h), omega (arith, h))
+seek-inside (suc n) bundle name at e = go (isEntry bundle name at) (λ p q. seek-inside n bundle name (at + 52) {place = p} q) e where
+  go : (t : Bool) {place : ℕ} → ((p : ℕ) → found p ≡ seekOf n bundle name (at + 52) → (at + 52 ≤ p) × (p + 52 ≤ at + 52 + 52 * n))
+      → found place ≡ (if t then found at else seekOf n bundle name (at + 52)) → (at ≤ place) × (place + 52 ≤ at + 52 * suc n)
+  go true {place = place} k e = let s : place ≡ at = cc in (omega arith, omega arith)
+  go false {place = place} k e = let h = k place e in (omega (arith, h), omega (arith, h))
 
 -- ---- the file
 module _ (bundle name : List ℕ) where

@@ -1,8 +1,5 @@
 -- A bundle of two zones, worked by computation: both are found, a third is not, and each fault of the head and of an entry has its place.
-use mathlib.Core.{Path.{_≡_, refl}, List.{List, [], _∷_, _++_, map}}
-use Prim.Native.Nat.{ℕ}
-use lib.ListN.{take, set}
-use Rattle.numbers.specs.{Lists.{padded, zeros}, Reply.{Reply, given, refused, refusal, plain}}
+use Rattle.numbers.{proofs.Prelude.{ℕ, take, set, List, [], _∷_, _++_, map, _≡_, refl}, specs.{Lists.{padded, zeros}, Reply.{Reply, given, refused}}}
 use Rattle.bundle.specs.{Bundle.{wordAt, agrees, magic, isBundle, isIndex, isData, isEnd, headOf, isEntry, seekOf, findOf}, declared.find.File.{File}}
 
 -- a number below 256 in four bytes
@@ -37,17 +34,9 @@ computed r = record { bundle = r .bundle; name = r .name; says = shownAs (findOf
 
 pub worked : List Row
 worked =
-    row two (65 ∷ []) (file 128 2)
-    ∷ row two (66 ∷ 47 ∷ 67 ∷ []) (file 130 4)
-    ∷ row two (66 ∷ []) (not 88 0)
-    ∷ row (take 23 two) (65 ∷ []) (not 89 0)
-    ∷ row (set two 11 1) (65 ∷ []) (not 89 11)
-    ∷ row (set two 15 23) (65 ∷ []) (not 89 12)
-    ∷ row (set two 19 127) (65 ∷ []) (not 89 16)
-    ∷ row (take 133 two) (65 ∷ []) (not 89 20)
-    ∷ row (set two 71 7) (65 ∷ []) (not 89 24)
-    ∷ row (set two 71 7) (66 ∷ 47 ∷ 67 ∷ []) (file 130 4)
-    ∷ []
+    row two (65 ∷ []) (file 128 2) ∷ row two (66 ∷ 47 ∷ 67 ∷ []) (file 130 4) ∷ row two (66 ∷ []) (not 88 0) ∷ row (take 23 two) (65 ∷ []) (not 89 0) ∷ row
+    (set two 11 1) (65 ∷ []) (not 89 11) ∷ row (set two 15 23) (65 ∷ []) (not 89 12) ∷ row (set two 19 127) (65 ∷ []) (not 89 16) ∷ row (take 133 two)
+    (65 ∷ []) (not 89 20) ∷ row (set two 71 7) (65 ∷ []) (not 89 24) ∷ row (set two 71 7) (66 ∷ 47 ∷ 67 ∷ []) (file 130 4) ∷ []
 
 pub worked-hold : map computed worked ≡ worked
 unfolding worked computed row shownAs two entry word wordAt agrees isBundle isIndex isData isEnd headOf isEntry seekOf findOf

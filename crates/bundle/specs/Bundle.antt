@@ -1,9 +1,8 @@
 -- S-2, a bundle: the TZif files of all zones, in the form of Android's `tzdata`.
-use mathlib.Core.{Bool.{Bool, true, _&&_}, List.{List, [], _∷_, _++_}}
-use Prim.Native.Nat.{ℕ, zero, suc, _+_, _-_, _*_, _/_, _%_, _^_}
-use lib.{Bits.{bitXor}, Dec.{leb, eqb}, ListN.{length, getD, drop}}
+use Rattle.numbers.specs.Prelude.{ℕ, zero, suc, _+_, _-_, _*_, _/_, _%_, _^_, eqb, leb, length, drop, getD, Bool, true, _&&_, List, [], _∷_}
 use Rattle.numbers.specs.{Answer.{Answer, found, failed, if_then_else_}, Reply.{Reply, given, refusal, plain, demand, _orElse_, _>>=_, _>>_}}
-use Rattle.bundle.specs.declared.{head.Head.{Head}, find.File.{File}}
+use lib.Bits.{bitXor}
+use Rattle.bundle.specs.declared.{find.File.{File}, head.Head.{Head}}
 
 -- a byte, as it stands under a mask
 abbrev pub xored : ℕ → ℕ → ℕ

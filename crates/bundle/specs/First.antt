@@ -1,8 +1,5 @@
 -- What `found-first` says of a bundle: where a zone's file lies.
-use Prim.Native.Nat.{ℕ, _+_, _*_, _≤_, _<_}
-use lib.ListN.{length}
-use mathlib.Core.{Bool.{true, false}, List.{List}, Path.{_≡_}}
-use Rattle.numbers.specs.Reply.{given}
+use Rattle.numbers.specs.{Prelude.{ℕ, _+_, _*_, _≤_, _<_, length, true, false, List, _≡_}, Reply.{given}}
 use Rattle.bundle.specs.{Bundle.{wordAt, headOf, isEntry}, declared.{find.File.{File}, head.Head.{Head}}}
 
 -- an entry of the index has the name, and none before it has

@@ -1,7 +1,6 @@
 -- What the code's answers say.
-use Prim.Native.Nat.{ℕ, _≤_}
-use Rattle.numbers.specs.{Answer.{Answer, found, failed}, Reply.{Reply, given, refused}}
-use Rattle.bundle.specs.declared.{head.{Head.{Head}, Headed.{Headed}}, find.{Sought.{Sought}, File.{File}, Found.{Found}}}
+use Rattle.numbers.specs.{Answer.{Answer, found, failed}, Prelude.{ℕ}, Reply.{Reply, given, refused}}
+use Rattle.bundle.specs.declared.{find.{File.{File}, Found.{Found}, Sought.{Sought}}, head.{Head.{Head}, Headed.{Headed}}}
 use Rattle.bundle.specs.declared.head.Headed.the-variants as H
 use Rattle.bundle.specs.declared.find.Sought.the-variants as S
 use Rattle.bundle.specs.declared.find.Found.the-variants as F

@@ -1,9 +1,7 @@
 -- A date lies in its year, and no other date has its day number. Assumes nothing.
-use Prim.Native.Nat.{ℕ, suc, _+_, _-_, _≤_, _<_}
-use mathlib.Core.{Bool.{Bool}, Path.{_≡_, ap, sym, _∙_}}
-use native.Mathlib.Omega.{arith}
+use Rattle.numbers.proofs.Prelude.{ℕ, suc, _+_, _-_, _≤_, _<_, Bool, _≡_, sym, ap, _∙_, arith}
 use Rattle.calendar.proofs.{Laws.{days-in-all}, Months.{month-more, months-up, year-more}, Rising.{rises, between}}
-use Rattle.calendar.specs.{Dates.{PlaceOf, DateOf}, Calendar.{isLeap, daysOfYears, daysOfMonths, dayNumber, InMonths, InYear, IsDate}}
+use Rattle.calendar.specs.{Calendar.{isLeap, daysOfYears, daysOfMonths, dayNumber, InMonths, InYear, IsDate}, Dates.{PlaceOf, DateOf}}
 
 pub years-up : (n : ℕ) → daysOfYears n ≤ daysOfYears (suc n)
 unfolding daysOfYears
@@ -44,10 +42,10 @@ module _ {year month day : ℕ} (date : IsDate year month day) where
 -- the day of the year tells month and day
 pub same-month : (leap : Bool) (m d m' d' : ℕ) → InMonths leap m d → InMonths leap m' d' → place leap m d ≡ place leap m' d' → (m ≡ m') × (d ≡ d')
 unfolding place
-same-month leap m d m' d' p q e = (months, omega (arith, ap (λ (n : ℕ). daysOfMonths leap (n - 1)) months))
-  where
-    months : m ≡ m'
-    months = between (daysOfMonths leap) (months-up leap) (place leap m d) m m' (p .month-from) (q .month-from) (omega arith) (in-month leap m d p) (omega arith) (omega (arith, in-month leap m' d' q))
+same-month leap m d m' d' p q e = (months, omega (arith, ap (λ (n : ℕ). daysOfMonths leap (n - 1)) months)) where
+  months : m ≡ m'
+  months =
+      between (daysOfMonths leap) (months-up leap) (place leap m d) m m' (p .month-from) (q .month-from) (omega arith) (in-month leap m d p) (omega arith) (omega (arith, in-month leap m' d' q))
 
 same-year : (y m d m' d' : ℕ) → IsDate y m d → IsDate y m' d' → dayNumber y m d ≡ dayNumber y m' d' → (m ≡ m') × (d ≡ d')
 unfolding dayNumber place
@@ -55,10 +53,9 @@ same-year y m d m' d' p q e = same-month (isLeap y) m d m' d' (p .months) (q .mo
 
 -- a day number is that of one date only
 pub unique : {y m d y' m' d' : ℕ} → IsDate y m d → IsDate y' m' d' → dayNumber y m d ≡ dayNumber y' m' d' → (y ≡ y') × (m ≡ m') × (d ≡ d')
-unique {y} {m} {d} {y'} {m'} {d'} p q e = (years, months .0, months .1)
-  where
-    years : y ≡ y'
-    years = between daysOfYears years-up (dayNumber y m d) y y' (p .range .from) (q .range .from) (dated p .begun) (dated p .lasts) (rw e (dated q .begun)) (rw e (dated q .lasts))
+unique {y} {m} {d} {y'} {m'} {d'} p q e = (years, months .0, months .1) where
+  years : y ≡ y'
+  years = between daysOfYears years-up (dayNumber y m d) y y' (p .range .from) (q .range .from) (dated p .begun) (dated p .lasts) (rw e (dated q .begun)) (rw e (dated q .lasts))
 
-    months : (m ≡ m') × (d ≡ d')
-    months = same-year y m d m' d' p (rw years q) (e ∙ sym (ap (λ (n : ℕ). dayNumber n m' d') years))
+  months : (m ≡ m') × (d ≡ d')
+  months = same-year y m d m' d' p (rw years q) (e ∙ sym (ap (λ (n : ℕ). dayNumber n m' d') years))

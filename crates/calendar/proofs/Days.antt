@@ -1,14 +1,12 @@
 -- The date of a day, by the years and the months that have ended. Assumes nothing.
-use Prim.Native.Nat.{ℕ, suc, _+_, _-_, _≤_, _<_}
-use mathlib.Core.{Bool.{Bool}, Path.{_≡_, refl}}
-use native.Mathlib.{Numerals.{sub-one}, Omega.{arith}}
+use Rattle.numbers.proofs.Prelude.{ℕ, suc, _+_, _-_, _≤_, _<_, Bool, refl, arith}
+use native.Mathlib.Numerals.{sub-one}
 use Rattle.calendar.proofs.{Dates.{place-short, placed-date, years-up}, Months.{months-up, placed}, Rising.{Between, rises}}
 use Rattle.calendar.specs.{Calendar.{isLeap, daysOfYears, daysOfMonths, InYear}, Dates.{PlaceOf, DateOf}}
 
 module _ (number : ℕ) (short : number < daysOfYears 9999) (years : Between daysOfYears number) where
   in-year : InYear (suc (years .step)) number
-  in-year =
-      let past : 9999 ≤ years .step → ⊥ = λ h. omega (arith, rises daysOfYears years-up 9999 (years .step) h, years .from) in
+  in-year = let past : 9999 ≤ years .step → ⊥ = λ h. omega (arith, rises daysOfYears years-up 9999 (years .step) h, years .from) in
       record { range = record { from = omega arith; to = omega arith }; begun = rw sub-one (years .from); lasts = years .to }
 
   abbrev leap : Bool

@@ -1,9 +1,5 @@
 -- The count from the year 1 and the count from 1970 are one: 719162 days apart, and 146097 more for each 400 years. Assumes nothing.
-use Prim.Native.Nat.{ℕ, zero, suc, _+_, _-_, _*_, _/_, _%_, _≤_, _<_}
-use borrow.Author.Tests.{eq-eqb, ne-eqb}
-use lib.Dec.{eqb}
-use mathlib.Core.Path.{_≡_, refl, ap, sym, _∙_}
-use native.Mathlib.Omega.{arith}
+use Rattle.numbers.proofs.Prelude.{ℕ, zero, suc, _+_, _-_, _*_, _/_, _%_, _≤_, _<_, eq-eqb, ne-eqb, eqb, _≡_, refl, sym, ap, _∙_, arith}
 use Rattle.calendar.proofs.Laws.{closed, days-closed, fewer, epoch, weekday-closed}
 use Rattle.calendar.specs.{Calendar.{isLeap, yearLength, daysOfYears, weekdayOf}, Epoch.{forwards, unsigned, backwards}}
 

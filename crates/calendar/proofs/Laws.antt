@@ -1,11 +1,6 @@
 -- The count of the days in closed form. Assumes nothing.
-use Prim.Native.Nat.{ℕ, zero, suc, _+_, _-_, _*_, _/_, _%_, _≤_}
-use borrow.Author.Tests.{eqb-true, eqb-false}
-use lib.Dec.{eqb}
-use mathlib.Core.{Bool.{Bool, true, false}, Path.{_≡_, refl, sym}}
-use native.Mathlib.Omega.{arith}
+use Rattle.numbers.{proofs.Prelude.{ℕ, zero, suc, _+_, _-_, _*_, _/_, _%_, _≤_, eqb-true, eqb-false, eqb, Bool, true, false, _≡_, refl, sym, arith}, specs.Answer.{if_then_else_}}
 use Rattle.calendar.specs.Calendar.{isLeap, yearLength, daysOfYears, nextWeekday, weekdayOf}
-use Rattle.numbers.specs.Answer.{if_then_else_}
 
 -- the days of the years from 1 to this one, in closed form
 abbrev pub closed : ℕ → ℕ
@@ -41,7 +36,8 @@ module _ (n : ℕ) where
   fewer = omega arith
 
 -- the sum, where the quotients grow by i, j and k: a year more, and a leap day where i + k is one more than j
-grown : (n a b c i j k : ℕ) (leap : Bool) {a' b' c' : ℕ} → b ≤ a → b' ≤ a' → a' ≡ a + i → b' ≡ b + j → c' ≡ c + k → i + k ≡ j + (if leap then 1 else 0) → 365 * suc n + a' - b' + c' ≡ 365 * n + a - b + c + (if leap then 366 else 365)
+grown : (n a b c i j k : ℕ) (leap : Bool) {a' b' c' : ℕ} → b ≤ a → b' ≤ a' → a' ≡ a + i → b' ≡ b + j → c' ≡ c + k → i + k ≡ j + (if leap then 1 else 0) →
+    365 * suc n + a' - b' + c' ≡ 365 * n + a - b + c + (if leap then 366 else 365)
 grown n a b c i j k true h h' p q r e = omega arith
 grown n a b c i j k false h h' p q r e = omega arith
 

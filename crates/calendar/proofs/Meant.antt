@@ -1,14 +1,9 @@
 -- The days by number are those that the rules of the calendar mean. Assumes nothing.
-use Prim.Native.Nat.{ℕ, suc, _+_, _-_, _*_, _/_, _%_, _≤_, _<_}
-use borrow.Author.Tests.{ltb-true, ltb-false}
-use lib.Dec.{ltb}
-use mathlib.Core.{Bool.{Bool, true, false}, Path.{_≡_, refl, ap, sym, _∙_}}
-use native.Mathlib.Omega.{arith}
-use Rattle.calendar.proofs.{Laws.{weekday-closed}, Months.{month-more, months-up, month-long, month-short, months-closed, in-january, in-leap, in-common}}
-use Rattle.calendar.proofs.{Rising.{rises, Between, passes}, Weeks.{week-apart, count-closed}, Within.{weeks-long, week-back}}
+use Rattle.numbers.{proofs.Prelude.{ℕ, suc, _+_, _-_, _*_, _/_, _%_, _≤_, _<_, ltb-true, ltb-false, ltb, Bool, true, false, _≡_, refl, sym, ap, _∙_, arith}, specs.Answer.{if_then_else_}}
+use Rattle.calendar.proofs.{Laws.{weekday-closed}, Months.{month-more, months-up, month-long, month-short, months-closed, in-january, in-leap, in-common}, Rising.{rises, Between, passes}}
+use Rattle.calendar.proofs.{Weeks.{week-apart, count-closed}, Within.{weeks-long, week-back}}
 use Rattle.calendar.specs.Calendar.{isLeap, monthLength, daysOfYears, daysOfMonths, dayNumber, weekdayOf}
 use Rattle.calendar.specs.{Rules.{countOn, WeekdayOf, JulianDay, leapDay, lastOn, firstOf, weeksOf, dayOf, IsMonth}, declared.rule.When.the-variants.{Julian, Month}}
-use Rattle.numbers.specs.Answer.{if_then_else_}
 
 -- so many days back, the weekday is met
 back-on : (weekday day : ℕ) → weekday ≤ 6 → 6 ≤ day → (day - ((day + 1) % 7 + 7 - weekday) % 7 + 1) % 7 ≡ weekday
@@ -29,10 +24,9 @@ weeks-five false week length e k h = refl
 
 -- of the days before one that are counted from a first, one in seven has its weekday
 count-before : (weekday first day : ℕ) → first ≤ day → weekdayOf day ≡ weekday → countOn weekday first (day - first) ≡ (day - first) / 7
-count-before weekday first day h e = count-closed weekday first ((day - first) % 7) (omega arith) same (day - first) ∙ omega arith
-  where
-    same : weekdayOf (first + (day - first) % 7) ≡ weekday
-    same = (let alike : weekdayOf (first + (day - first) % 7) ≡ weekdayOf day = omega (arith, weekday-closed day, weekday-closed (first + (day - first) % 7)) in alike) ∙ e
+count-before weekday first day h e = count-closed weekday first ((day - first) % 7) (omega arith) same (day - first) ∙ omega arith where
+  same : weekdayOf (first + (day - first) % 7) ≡ weekday
+  same = (let alike : weekdayOf (first + (day - first) % 7) ≡ weekdayOf day = omega (arith, weekday-closed day, weekday-closed (first + (day - first) % 7)) in alike) ∙ e
 
 -- M month.week.weekday
 module _ (year month week weekday : ℕ) (m : IsMonth month week weekday) where
@@ -49,15 +43,12 @@ module _ (year month week weekday : ℕ) (m : IsMonth month week weekday) where
 
   pub month-meant : WeekdayOf (firstOf year month) (monthLength (isLeap (suc year)) month) week weekday (dayOf (Month month week weekday) year)
   unfolding dayOf
-  month-meant =
-      let back = week-back weekday (firstOf year month + weeksOf year month week - 1) in
-      let long = weeks-long year month week weekday m in
-      record {
-        inside = record { from = omega arith; to = omega arith };
-        named = named;
-        counted = λ h. omega (arith, some h, count-before weekday (firstOf year month) _ (omega arith) named);
-        last = λ h later after within e. omega (arith, five h, within .to, week-apart _ later (named ∙ sym e) after);
-      }
+  month-meant = let back = week-back weekday (firstOf year month + weeksOf year month week - 1) in let long = weeks-long year month week weekday m in record {
+    inside = record { from = omega arith; to = omega arith };
+    named = named;
+    counted = λ h. omega (arith, some h, count-before weekday (firstOf year month) _ (omega arith) named);
+    last = λ h later after within e. omega (arith, five h, within .to, week-apart _ later (named ∙ sym e) after);
+  }
 
 -- the leap day is counted from March on
 module _ (year step n : ℕ) (few : step ≤ 11) (from : daysOfMonths false step ≤ n - 1) (to : n - 1 < daysOfMonths false (suc step)) where
@@ -68,11 +59,9 @@ module _ (year step n : ℕ) (few : step ≤ 11) (from : daysOfMonths false step
   in-february h = omega (arith, rises (daysOfMonths false) (months-up false) (suc step) 2 (omega arith), months-closed false 2 (omega arith))
 
   pub leap-counted : (leap early : Bool) → 1 ≤ n → ltb n 60 ≡ early → daysOfMonths leap step ≡ daysOfMonths false step + (if leap then (if early then 0 else 1) else 0)
-  leap-counted true true k e =
-      let not-march : 2 ≤ step → ⊥ = λ h. omega (arith, in-march h, ltb-true n 60 e) in
+  leap-counted true true k e = let not-march : 2 ≤ step → ⊥ = λ h. omega (arith, in-march h, ltb-true n 60 e) in
       omega (arith, in-january true step (omega arith) (omega arith), in-january false step (omega arith) (omega arith))
-  leap-counted true false k e =
-      let not-february : step < 2 → ⊥ = λ h. omega (arith, in-february h, ltb-false n 60 e) in
+  leap-counted true false k e = let not-february : step < 2 → ⊥ = λ h. omega (arith, in-february h, ltb-false n 60 e) in
       omega (arith, in-leap true step (omega arith) (omega arith) refl, in-common false step (omega arith) (omega arith) refl)
   leap-counted false early k e = omega arith
 
@@ -99,7 +88,19 @@ module _ (year n : ℕ) (from : 1 ≤ n) (to : n ≤ 365) where
       record {
         month = suc (month-of .step);
         date = n - daysOfMonths false (month-of .step);
-        common = record { month-from = omega arith; month-to = omega (arith, month-few); day-from = omega (arith, month-of .from); day-to = omega (arith, month-more false (suc (month-of .step)) (omega arith), month-of .from, month-of .to, same-months false) };
+        common = record {
+          month-from = omega arith;
+          month-to = omega (arith, month-few);
+          day-from = omega (arith, month-of .from);
+          day-to = omega
+              (arith, month-more false (suc (month-of .step)) (omega arith), month-of .from, month-of .to, same-months false);
+        };
         counted = omega (arith, month-of .from, same-months false);
-        meant = omega (arith, month-of .from, same-months (isLeap (suc year)), ap daysOfYears (less-one year), leap-counted year (month-of .step) n month-few (month-of .from) (month-of .to) (isLeap (suc year)) (ltb n 60) from refl);
+        meant = omega (
+          arith,
+          month-of .from,
+          same-months (isLeap (suc year)),
+          ap daysOfYears (less-one year),
+          leap-counted year (month-of .step) n month-few (month-of .from) (month-of .to) (isLeap (suc year)) (ltb n 60) from refl,
+        );
       }

@@ -1,12 +1,9 @@
 -- The days of the months in closed form, and how they go on. Assumes nothing.
-use Prim.Native.Nat.{ℕ, zero, suc, _+_, _-_, _*_, _/_, _≤_, _<_}
-use borrow.Author.Tests.{lt-ltb, le-ltb}
-use lib.{Dec.{eqb, ltb, leb, eqb→eq, leb→le}, ListN.{getD}}
-use mathlib.Core.{Bool.{Bool, true, false}, Path.{_≡_, refl, ap, sym, _∙_}}
-use native.Mathlib.{Numerals.{sub-one}, Omega.{arith}}
+use Rattle.numbers.{proofs.Prelude.{ℕ, zero, suc, _+_, _-_, _*_, _/_, _≤_, _<_, lt-ltb, le-ltb, eqb, ltb, leb, getD, Bool, true, false, _≡_, refl, sym, ap, _∙_, arith}, specs.Answer.{if_then_else_}}
+use lib.Dec.{eqb→eq, leb→le}
+use native.Mathlib.Numerals.{sub-one}
 use Rattle.calendar.proofs.Below.{below}
-use Rattle.calendar.specs.{Dates.{PlaceOf}, Calendar.{isLeap, yearLength, daysOfYears, monthLengths, monthLength, daysOfMonths}}
-use Rattle.numbers.specs.Answer.{if_then_else_}
+use Rattle.calendar.specs.{Calendar.{isLeap, yearLength, daysOfYears, monthLengths, monthLength, daysOfMonths}, Dates.{PlaceOf}}
 
 -- the days of the months from January to this one, in closed form
 abbrev pub closedMonths : Bool → ℕ → ℕ
@@ -54,9 +51,7 @@ module _ (leap : Bool) (n : ℕ) (few : n ≤ 12) where
 module _ (leap : Bool) (place month : ℕ) (from : 1 ≤ month) (to : month ≤ 12) where
   -- December is not passed
   pub not-last : place < daysOfMonths leap 12 → daysOfMonths leap month ≤ place → month < 12
-  not-last h k =
-      let other : month ≡ 12 → ⊥ = λ e. omega (arith, ap (daysOfMonths leap) e) in
-      omega arith
+  not-last h k = let other : month ≡ 12 → ⊥ = λ e. omega (arith, ap (daysOfMonths leap) e) in omega arith
 
   pub placed : daysOfMonths leap (month - 1) ≤ place → place < daysOfMonths leap month → PlaceOf leap place month (place - daysOfMonths leap (month - 1) + 1)
   placed h k =

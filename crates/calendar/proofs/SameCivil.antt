@@ -1,11 +1,7 @@
 -- The clock's answer is one, and the moment's. Assumes nothing.
-use Prim.Native.Nat.{ℕ, _+_, _*_}
-use lib.IntN.{ℤ}
-use mathlib.Core.Path.{_≡_, refl, ap, sym, _∙_}
-use native.Mathlib.Omega.{arith}
+use Rattle.numbers.proofs.Prelude.{ℕ, _+_, _*_, ℤ, _≡_, refl, sym, ap, _∙_, arith}
 use Rattle.calendar.proofs.{Dates.{unique, number-short}, Laws.{days-in-all}, Unique.{one-moment}}
-use Rattle.calendar.specs.{Calendar.{dayNumber, weekdayOf}, Civil.{Shows, CivilOf}, Moments.{InDays, MomentOf}}
-use Rattle.calendar.specs.declared.civil.{Civil.{Civil, the-variants.{Shown, Outside}}, Reading.{Reading}}
+use Rattle.calendar.specs.{Calendar.{dayNumber, weekdayOf}, Civil.{Shows, CivilOf}, Moments.{InDays, MomentOf}, declared.civil.{Civil.{Civil, the-variants.{Shown, Outside}}, Reading.{Reading}}}
 use Rattle.calendar.specs.declared.moment.Moment.{Moment}
 use Rattle.calendar.specs.declared.moment.Moment.the-variants as m
 
@@ -26,10 +22,11 @@ same-fields r q ya mo da ho mi se we = same-numbers ya mo da ho mi se we
 
 -- two readings of one instant are equal
 same-reading : (local : ℤ) (r q : Reading) → Shows local r → Shows local q → r ≡ q
-same-reading local r q s t =
-    let moment = one-moment _ _ _ _ (in-days local r s) (in-days local q t) (s .back ∙ sym (t .back)) in
+same-reading local r q s t = let moment = one-moment _ _ _ _ (in-days local r s) (in-days local q t) (s .back ∙ sym (t .back)) in
     let date = unique (s .date) (t .date) (moment .0) in
-    same-fields r q (date .0) (date .1) (date .2) (omega (arith, s .minute, s .second, t .minute, t .second, moment .1)) (omega (arith, s .minute, s .second, t .minute, t .second, moment .1)) (omega (arith, s .minute, s .second, t .minute, t .second, moment .1)) (s .weekday ∙ ap weekdayOf (moment .0) ∙ sym (t .weekday))
+    same-fields r q (date .0) (date .1) (date .2) (omega (arith, s .minute, s .second, t .minute, t .second, moment .1))
+    (omega (arith, s .minute, s .second, t .minute, t .second, moment .1)) (omega (arith, s .minute, s .second, t .minute, t .second, moment .1))
+    (s .weekday ∙ ap weekdayOf (moment .0) ∙ sym (t .weekday))
 
 -- two answers that the promise of `civil_time` permits are equal
 pub same-civil : (instant offset : ℤ) (a b : Civil) → CivilOf instant offset a → CivilOf instant offset b → a ≡ b

@@ -1,21 +1,13 @@
 -- The sums that the code works out. Assumes nothing.
-use Prim.Native.Nat.{ℕ, suc, _+_, _-_, _*_, _≤_, _<_}
-use borrow.Author.Tests.{lt-ltb, le-ltb}
-use lib.Dec.{ltb}
-use mathlib.Core.{Bool.{Bool, true, false}, Path.{_≡_, ap, sym, _∙_}}
-use native.Mathlib.Omega.{arith}
-use Rattle.calendar.proofs.{Months.{month-short, months-up, year-length}, Rising.{rises}, Laws.{mean-high}, Within.{weeks-long}}
-use Rattle.calendar.specs.{Calendar.{isLeap, monthLength, daysOfYears, daysOfMonths}, Rules.{leapDay, lastOn, firstOf, weeksOf, dayOf, IsMonth, IsWhen}}
-use Rattle.calendar.specs.declared.rule.When.{When, the-variants.{Julian, Zero, Month}}
-use Rattle.numbers.specs.Answer.{if_then_else_}
-
-next : (year : ℕ) → year + 1 ≡ suc year
-next year = omega arith
+use Rattle.numbers.{proofs.Prelude.{ℕ, suc, _+_, _-_, _*_, _≤_, _<_, lt-ltb, le-ltb, ltb, Bool, true, false, _≡_, sym, ap, _∙_, add-one, arith}, specs.Answer.{if_then_else_}}
+use Rattle.calendar.proofs.{Laws.{mean-high}, Months.{month-short, months-up, year-length}, Rising.{rises}, Within.{weeks-long}}
+use Rattle.calendar.specs.{Calendar.{isLeap, monthLength, daysOfYears, daysOfMonths}, Rules.{leapDay, lastOn, firstOf, weeksOf, dayOf, IsMonth, IsWhen}, declared.rule.When.{When}}
+use Rattle.calendar.specs.declared.rule.When.the-variants.{Julian, Zero, Month}
 
 -- the year that follows so many is a leap year, as the code finds
 module _ (year : ℕ) {leap : Bool} (kind : leap ≡ isLeap (year + 1)) where
   leap-next : isLeap (suc year) ≡ leap
-  leap-next = sym (kind ∙ ap isLeap (next year))
+  leap-next = sym (kind ∙ ap isLeap (add-one year))
 
   -- the three ways to the leap day
   pub leap-early : (n : ℕ) → leap ≡ true → n < 60 → 0 ≡ leapDay year n
@@ -53,21 +45,22 @@ days-few year h = omega (arith, mean-high year)
 
 pub first-few : (year month : ℕ) → year ≤ 11000 → month ≤ 12 → firstOf year month ≤ 4100366
 unfolding firstOf
-first-few year month h k = omega (arith, days-few year h, rises (daysOfMonths (isLeap (suc year))) (months-up _) (month - 1) 12 (omega arith), year-length (isLeap (suc year)), months-few (isLeap (suc year)))
+first-few year month h k = omega
+    (arith, days-few year h, rises (daysOfMonths (isLeap (suc year))) (months-up _) (month - 1) 12 (omega arith), year-length (isLeap (suc year)), months-few (isLeap (suc year)))
 
 pub weeks-few : (year month week weekday : ℕ) → IsMonth month week weekday → (7 ≤ weeksOf year month week) × (weeksOf year month week ≤ 31)
 weeks-few year month week weekday m = omega (arith, weeks-long year month week weekday m, month-short (isLeap (suc year)) month (m .month-from) (m .month-to))
 
 pub leap-few : (year n : ℕ) → leapDay year n ≤ 1
 unfolding leapDay
-leap-few year n = few (isLeap (suc year)) (ltb n 60)
-  where
-    few : (leap early : Bool) → (if leap then (if early then 0 else 1) else 0) ≤ 1
-    few true true = omega arith
-    few true false = omega arith
-    few false early = omega arith
+leap-few year n = few (isLeap (suc year)) (ltb n 60) where
+  few : (leap early : Bool) → (if leap then (if early then 0 else 1) else 0) ≤ 1
+  few true true = omega arith
+  few true false = omega arith
+  few false early = omega arith
 
-pub month-sum : (year month week weekday : ℕ) {first weeks day : ℕ} → first ≡ firstOf year month → weeks ≡ weeksOf year month week → day ≡ lastOn weekday (first + weeks - 1) → day ≡ dayOf (Month month week weekday) year
+pub month-sum : (year month week weekday : ℕ) {first weeks day : ℕ} → first ≡ firstOf year month → weeks ≡ weeksOf year month week → day ≡ lastOn weekday (first + weeks - 1) →
+    day ≡ dayOf (Month month week weekday) year
 unfolding dayOf
 month-sum year month week weekday p q e = rw (p, q) at e
 

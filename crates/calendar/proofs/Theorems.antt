@@ -1,11 +1,9 @@
 -- What the calendar promises, by name. Assumes nothing.
-use Prim.Native.Nat.{ℕ, suc, _+_, _-_, _%_, _≤_, _<_}
-use mathlib.Core.{Bool.{Bool}, Path.{_≡_, refl, ap, sym, subst, _∙_}}
-use native.Mathlib.Omega.{arith}
-use Rattle.calendar.proofs.{Dates.{unique}, Days.{short-year, day-date}, Laws.{weekday-closed, epoch}, Meant.{month-meant, julian-meant}}
-use Rattle.calendar.proofs.{Rising.{Between, passes}, Unique.{one-weekday, one-julian}}
-use Rattle.calendar.specs.{Calendar.{isLeap, daysOfYears, daysOfMonths, dayNumber, monthLength, weekdayOf}, Dates.{DateOf}}
-use Rattle.calendar.specs.{Rules.{firstOf, dayOf, IsMonth, WeekdayOf, Meant, Only}, declared.rule.When.the-variants.{Julian, Zero, Month}}
+use Rattle.numbers.proofs.Prelude.{ℕ, suc, _+_, _-_, _%_, _≤_, _<_, _≡_, sym, ap, subst, _∙_, arith}
+use Rattle.calendar.proofs.{Dates.{unique}, Days.{short-year, day-date}, Laws.{weekday-closed, epoch}, Meant.{month-meant, julian-meant}, Rising.{Between, passes}}
+use Rattle.calendar.proofs.Unique.{one-weekday, one-julian}
+use Rattle.calendar.specs.{Calendar.{isLeap, daysOfYears, daysOfMonths, dayNumber, monthLength, weekdayOf}, Dates.{DateOf}, Rules.{firstOf, dayOf, IsMonth, WeekdayOf, Meant, Only}}
+use Rattle.calendar.specs.declared.rule.When.the-variants.{Julian, Zero, Month}
 
 -- a date, and no other
 pub record OneDate (number : ℕ) : Type 0 where
@@ -39,10 +37,11 @@ first-number past month = omega (arith, ap daysOfYears (let e : suc past - 1 ≡
 -- M month.week.weekday means exactly one day of each year
 pub week-day-unique : (past month week weekday : ℕ) → IsMonth month week weekday → Only (Meant (Month month week weekday) past) (dayOf (Month month week weekday) past)
 unfolding Meant
-week-day-unique past month week weekday m = subst (λ (first : ℕ). Only (λ day. WeekdayOf first (monthLength (isLeap (suc past)) month) week weekday day) (dayOf (Month month week weekday) past)) (sym (first-number past month)) (record { holds = meant; alone = λ other p. one-weekday (firstOf past month) (monthLength (isLeap (suc past)) month) week weekday other _ (m .week-from) (m .week-to) p meant })
-  where
-    meant : WeekdayOf (firstOf past month) (monthLength (isLeap (suc past)) month) week weekday (dayOf (Month month week weekday) past)
-    meant = month-meant past month week weekday m
+week-day-unique past month week weekday m =
+    subst (λ (first : ℕ). Only (λ day. WeekdayOf first (monthLength (isLeap (suc past)) month) week weekday day) (dayOf (Month month week weekday) past)) (sym (first-number past month))
+    (record { holds = meant; alone = λ other p. one-weekday (firstOf past month) (monthLength (isLeap (suc past)) month) week weekday other _ (m .week-from) (m .week-to) p meant }) where
+      meant : WeekdayOf (firstOf past month) (monthLength (isLeap (suc past)) month) week weekday (dayOf (Month month week weekday) past)
+      meant = month-meant past month week weekday m
 
 -- so does J n
 pub julian-unique : (past n : ℕ) → 1 ≤ n → n ≤ 365 → Only (Meant (Julian n) past) (dayOf (Julian n) past)
@@ -56,10 +55,9 @@ new-year past = first-number past 1 ∙ omega arith
 -- and n
 pub zero-unique : (past n : ℕ) → Only (Meant (Zero n) past) (dayOf (Zero n) past)
 unfolding Meant dayOf
-zero-unique past n = record { holds = zero-day; alone = λ other p. p ∙ sym zero-day }
-  where
-    zero-day : daysOfYears past + n ≡ dayNumber (suc past) 1 1 + n
-    zero-day = omega (arith, new-year past)
+zero-unique past n = record { holds = zero-day; alone = λ other p. p ∙ sym zero-day } where
+  zero-day : daysOfYears past + n ≡ dayNumber (suc past) 1 1 + n
+  zero-day = omega (arith, new-year past)
 
 -- seven weekdays one after the other, and 1 January 1970 is a Thursday
 pub weekday : (day : ℕ) → (weekdayOf day ≡ (day + 1) % 7) × (weekdayOf (daysOfYears 1969) ≡ 4)

@@ -1,9 +1,5 @@
 -- What the contracts say of an answer holds of one number only. Assumes nothing.
-use Prim.Native.Nat.{ℕ, suc, _+_, _-_, _≤_, _<_}
-use borrow.Author.Tests.{eq-eqb}
-use lib.IntN.{natAbs}
-use mathlib.Core.{Bool.{false}, Path.{_≡_, refl, ap, sym, _∙_}}
-use native.Mathlib.Omega.{arith}
+use Rattle.numbers.proofs.Prelude.{ℕ, suc, _+_, _-_, _≤_, _<_, eq-eqb, natAbs, false, _≡_, refl, sym, ap, _∙_, arith}
 use Rattle.calendar.proofs.{Dates.{place, same-month}, Rising.{rises}, moment.Shift.{seconds-of}}
 use Rattle.calendar.specs.{Calendar.{weekdayOf, dayNumber}, Moments.{instantOf, InDays}, Rules.{countOn, WeekdayOf, JulianDay}}
 
@@ -18,20 +14,14 @@ module _ (first length week weekday : ℕ) where
 
   -- no day after the one that is meant is meant too
   none-after : (a b : ℕ) → 1 ≤ week → week ≤ 5 → WeekdayOf first length week weekday a → WeekdayOf first length week weekday b → a < b → ⊥
-  none-after a b from to p q h =
-      let few : week ≤ 4 → ⊥ = λ k. omega (arith, p .counted k, q .counted k, p .inside .from, counts) in
-      p .last (omega arith) b h (q .inside) (q .named)
-    where
-      counts : countOn weekday first (a - first) + 1 ≤ countOn weekday first (b - first)
-      counts =
-          let here : first + (a - first) ≡ a = omega (arith, p .inside .from) in
-          omega (arith, rises (countOn weekday first) count-up (suc (a - first)) (b - first) (omega (arith, p .inside .from)), count-here (a - first) (ap weekdayOf here ∙ p .named))
+  none-after a b from to p q h = let few : week ≤ 4 → ⊥ = λ k. omega (arith, p .counted k, q .counted k, p .inside .from, counts) in
+      p .last (omega arith) b h (q .inside) (q .named) where
+        counts : countOn weekday first (a - first) + 1 ≤ countOn weekday first (b - first)
+        counts = let here : first + (a - first) ≡ a = omega (arith, p .inside .from) in
+            omega (arith, rises (countOn weekday first) count-up (suc (a - first)) (b - first) (omega (arith, p .inside .from)), count-here (a - first) (ap weekdayOf here ∙ p .named))
 
   pub one-weekday : (a b : ℕ) → 1 ≤ week → week ≤ 5 → WeekdayOf first length week weekday a → WeekdayOf first length week weekday b → a ≡ b
-  one-weekday a b from to p q =
-      let not-below : a < b → ⊥ = none-after a b from to p q in
-      let not-above : b < a → ⊥ = none-after b a from to q p in
-      omega arith
+  one-weekday a b from to p q = let not-below : a < b → ⊥ = none-after a b from to p q in let not-above : b < a → ⊥ = none-after b a from to q p in omega arith
 
 -- the n-th day of a common year is one date
 pub one-julian : (year n a b : ℕ) → JulianDay year n a → JulianDay year n b → a ≡ b
@@ -42,6 +32,5 @@ one-julian year n a b p q =
 
 -- an instant is one second of one day
 pub one-moment : (day second day' second' : ℕ) → InDays day second → InDays day' second' → instantOf day second ≡ instantOf day' second' → (day ≡ day') × (second ≡ second')
-one-moment day second day' second' p q e =
-    let same = ap natAbs (sym (seconds-of _ day second refl) ∙ seconds-of _ day' second' (sym e)) in
+one-moment day second day' second' p q e = let same = ap natAbs (sym (seconds-of _ day second refl) ∙ seconds-of _ day' second' (sym e)) in
     omega (arith, p .second-to, q .second-to)

@@ -1,12 +1,7 @@
 -- Days of one weekday: each a week after the one before. Assumes nothing.
-use Prim.Native.Nat.{ℕ, zero, suc, _+_, _-_, _/_, _%_, _≤_, _<_}
-use borrow.Author.Tests.{eqb-true, eqb-false}
-use lib.Dec.{eqb}
-use mathlib.Core.{Bool.{Bool, true, false}, Path.{_≡_, refl, sym, _∙_}}
-use native.Mathlib.Omega.{arith}
+use Rattle.numbers.{proofs.Prelude.{ℕ, zero, suc, _+_, _-_, _/_, _%_, _≤_, _<_, eqb-true, eqb-false, eqb, Bool, true, false, _≡_, refl, sym, _∙_, arith}, specs.Answer.{if_then_else_}}
 use Rattle.calendar.proofs.Laws.{weekday-closed}
 use Rattle.calendar.specs.{Calendar.{weekdayOf}, Rules.{countOn}}
-use Rattle.numbers.specs.Answer.{if_then_else_}
 
 pub weekday-small : (day : ℕ) → weekdayOf day ≤ 6
 weekday-small day = omega (arith, weekday-closed day)

@@ -1,13 +1,8 @@
 -- A day comes later in each year than in the one before, and lies in the year or on the day after it. Assumes nothing.
-use Prim.Native.Nat.{ℕ, suc, _+_, _-_, _*_, _≤_, _<_}
-use borrow.Author.Tests.{ltb-true}
-use lib.Dec.{ltb}
-use mathlib.Core.{Bool.{Bool, true, false}, Path.{_≡_, refl}}
-use native.Mathlib.Omega.{arith}
+use Rattle.numbers.{proofs.Prelude.{ℕ, suc, _+_, _-_, _*_, _≤_, _<_, ltb-true, ltb, Bool, true, false, _≡_, refl, arith}, specs.Answer.{if_then_else_}}
 use Rattle.calendar.proofs.{Months.{month-long, month-more, months-up, year-length}, Rising.{rises}}
-use Rattle.calendar.specs.Calendar.{isLeap, yearLength, monthLength, daysOfYears, daysOfMonths}
-use Rattle.calendar.specs.{Rules.{leapDay, lastOn, firstOf, weeksOf, dayOf, IsMonth, IsWhen}, declared.rule.When.{When, the-variants.{Julian, Zero, Month}}}
-use Rattle.numbers.specs.Answer.{if_then_else_}
+use Rattle.calendar.specs.{Calendar.{isLeap, yearLength, monthLength, daysOfYears, daysOfMonths}, Rules.{leapDay, lastOn, firstOf, weeksOf, dayOf, IsMonth, IsWhen}, declared.rule.When.{When}}
+use Rattle.calendar.specs.declared.rule.When.the-variants.{Julian, Zero, Month}
 
 -- the length of a year, by cases
 length-cases : (leap : Bool) → (365 ≤ (if leap then 366 else 365)) × ((if leap then 366 else 365) ≤ 366)

@@ -1,8 +1,5 @@
 -- The Gregorian calendar, counted day by day. Day 0 is Monday, 1 January of the year 1; 1 January 1970, a Thursday, is day 719162.
-use Prim.Native.Nat.{ℕ, zero, suc, _+_, _-_, _%_, _≤_, _<_}
-use lib.{Dec.{eqb}, ListN.{getD}}
-use mathlib.Core.{Bool.{Bool}, List.{List, [], _∷_}}
-use Rattle.numbers.specs.Answer.{if_then_else_}
+use Rattle.numbers.specs.{Answer.{if_then_else_}, Prelude.{ℕ, zero, suc, _+_, _-_, _%_, _≤_, _<_, eqb, getD, Bool, List, [], _∷_}}
 
 -- every fourth year is a leap year, but of the full centuries only every fourth
 unfoldable pub isLeap : ℕ → Bool

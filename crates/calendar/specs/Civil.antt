@@ -1,9 +1,7 @@
 -- The date and the time of day that a clock shows, so many seconds east of UT.
-use Prim.Native.Nat.{ℕ, zero, suc, _+_, _-_, _*_, _/_, _%_, _≤_}
-use lib.{Dec.{leb, ltb}, IntN.{ℤ, pos, negsuc, _+ℤ_}}
-use mathlib.Core.{Bool.{Bool}, Path.{_≡_}}
-use Rattle.numbers.specs.Answer.{if_then_else_}
-use Rattle.calendar.specs.{Calendar.{isLeap, daysOfYears, daysOfMonths, dayNumber, weekdayOf, IsDate}, Moments.{secondsTo, instantOf, MomentOf}, declared.civil.{Civil.{Civil}, Reading.{Reading}}}
+use Rattle.numbers.specs.{Answer.{if_then_else_}, Prelude.{ℕ, zero, suc, _+_, _-_, _*_, _/_, _%_, _≤_, ltb, leb, ℤ, pos, negsuc, _+ℤ_, Bool, _≡_}}
+use Rattle.calendar.specs.{Calendar.{isLeap, daysOfYears, daysOfMonths, dayNumber, weekdayOf, IsDate}, Moments.{secondsTo, instantOf, MomentOf}, declared.civil.Civil.{Civil}}
+use Rattle.calendar.specs.declared.civil.Reading.{Reading}
 use Rattle.calendar.specs.declared.civil.Civil.the-variants as civil
 use Rattle.calendar.specs.declared.moment.Moment.the-variants as moments
 

@@ -1,6 +1,5 @@
 -- Dates of days, counted from 0.
-use Prim.Native.Nat.{ℕ, _+_, _-_}
-use mathlib.Core.{Bool.{Bool}, Path.{_≡_}}
+use Rattle.numbers.specs.Prelude.{ℕ, _+_, _-_, Bool, _≡_}
 use Rattle.calendar.specs.Calendar.{daysOfMonths, dayNumber, InMonths, IsDate}
 
 -- the month and the day of the month, for a day of the year

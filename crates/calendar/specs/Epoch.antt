@@ -1,5 +1,5 @@
 -- The days counted from 1970, year by year: forwards, and backwards past the year 1.
-use Prim.Native.Nat.{ℕ, zero, suc, _+_, _-_}
+use Rattle.numbers.specs.Prelude.{ℕ, zero, suc, _+_, _-_}
 use Rattle.calendar.specs.Calendar.{yearLength}
 
 -- the days from 1 January 1970 to 1 January so many years later

@@ -1,10 +1,6 @@
 -- The day that a rule of a TZ string means in a year. A year is told by how many come before it: the year 1 by 0.
-use Prim.Native.Nat.{ℕ, zero, suc, _+_, _-_, _*_, _%_, _≤_, _<_}
-use lib.Dec.{eqb, ltb}
-use mathlib.Core.{Bool.{false}, Path.{_≡_}}
-use Rattle.calendar.specs.Calendar.{isLeap, monthLength, daysOfYears, daysOfMonths, dayNumber, weekdayOf, InMonths}
-use Rattle.calendar.specs.declared.rule.When.{When, the-variants.{Julian, Zero, Month}}
-use Rattle.numbers.specs.Answer.{if_then_else_}
+use Rattle.numbers.specs.{Answer.{if_then_else_}, Prelude.{ℕ, zero, suc, _+_, _-_, _*_, _%_, _≤_, _<_, eqb, ltb, false, _≡_}}
+use Rattle.calendar.specs.{Calendar.{isLeap, monthLength, daysOfYears, daysOfMonths, dayNumber, weekdayOf, InMonths}, declared.rule.When.{When, the-variants.{Julian, Zero, Month}}}
 
 -- the leap day, where the n-th day of a year without it comes after it
 unfoldable pub leapDay : ℕ → ℕ → ℕ

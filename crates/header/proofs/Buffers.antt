@@ -1,10 +1,8 @@
 -- Laws on what a loop or a call has written into a lent buffer. Assumes nothing.
-use mathlib.Core.{Path.{_≡_, refl, sym, ap, _∙_}, List.{List, [], _∷_, _++_, map, append-nil}}
-use Prim.Native.Nat.{ℕ, zero, suc, _+_, _-_, _≤_, _<_}
-use native.Mathlib.{Nat.{le-of-lt, le-refl}, Numerals.{add-one}, Omega.{arith}}
-use lib.ListN.{length, getD, set, take, drop, length-append, length-drop, drop-of-length-le, length-replicate, getD-replicate}
-use lib.Seq.{take-all, length-take-le, drop-cons, take-suc, set-at, append-snoc, take-length, drop-length}
+use Rattle.numbers.proofs.Prelude.{ℕ, zero, suc, _+_, _-_, _≤_, _<_, length, take, drop, getD, set, length-append, length-drop, length-replicate, drop-of-length-le, length-take-le, drop-cons}
+use Rattle.numbers.proofs.Prelude.{drop-length, take-all, take-suc, take-length, List, [], _∷_, _++_, map, append-nil, _≡_, refl, sym, ap, _∙_, le-refl, le-of-lt, add-one, arith}
 use Rattle.numbers.specs.Lists.{zeros, over}
+use lib.{ListN.{getD-replicate}, Seq.{set-at, append-snoc}}
 
 -- an element of a list whose elements are taken one by one
 pub map-at : (f : ℕ → ℕ) (l : List ℕ) (i : ℕ) → i < length l → getD (map f l) i 0 ≡ f (getD l i 0)
@@ -16,10 +14,8 @@ map-at f (x ∷ l) (suc i) h = map-at f l i (omega arith)
 -- one more element goes on
 pub copied-suc : (s d : List ℕ) (i : ℕ) → i < length s → i < length d → set (take i s ++ drop i d) i (getD s i 0) ≡ take (i + 1) s ++ drop (i + 1) d
 copied-suc s d i hs hd =
-    ap (λ (r : List ℕ). set (take i s ++ r) i (getD s i 0)) (drop-cons d i 0 hd)
-    ∙ set-at (take i s) (getD d i 0) (drop (suc i) d) (getD s i 0) i (length-take-le i s (le-of-lt hs))
-    ∙ sym (append-snoc (take i s) (getD s i 0) (drop (suc i) d))
-    ∙ ap (λ (r : List ℕ). r ++ drop (suc i) d) (sym (take-suc s i 0 hs))
+    ap (λ (r : List ℕ). set (take i s ++ r) i (getD s i 0)) (drop-cons d i 0 hd) ∙ set-at (take i s) (getD d i 0) (drop (suc i) d) (getD s i 0) i
+    (length-take-le i s (le-of-lt hs)) ∙ sym (append-snoc (take i s) (getD s i 0) (drop (suc i) d)) ∙ ap (λ (r : List ℕ). r ++ drop (suc i) d) (sym (take-suc s i 0 hs))
     ∙ ap (λ (k : ℕ). take k s ++ drop k d) (sym (add-one i))
 
 pub copied-length : (s d : List ℕ) (i : ℕ) → i ≤ length s → i ≤ length d → length (take i s ++ drop i d) ≡ length d
@@ -34,18 +30,15 @@ zeroed i d = take i (zeros (length d)) ++ drop i d
 
 module _ (d : List ℕ) (i : ℕ) where
   pub zeroed-suc : i < length d → set (zeroed i d) i 0 ≡ zeroed (i + 1) d
-  zeroed-suc h =
-      ap (set (zeroed i d) i) (sym (getD-replicate (length d) i 0 0 h))
-      ∙ copied-suc (zeros (length d)) d i (rw length-replicate h) h
+  zeroed-suc h = ap (set (zeroed i d) i) (sym (getD-replicate (length d) i 0 0 h)) ∙ copied-suc (zeros (length d)) d i (rw length-replicate h) h
 
   pub zeroed-length : i ≤ length d → length (zeroed i d) ≡ length d
   zeroed-length h = copied-length (zeros (length d)) d i (rw length-replicate h) h
 
   pub zeroed-all : i ≤ length d → length d ≤ i → zeroed i d ≡ zeros (length d)
   zeroed-all le ge =
-      copied-all (zeros (length d)) d i (rw length-replicate le) (rw length-replicate ge)
-      ∙ ap (λ (r : List ℕ). zeros (length d) ++ r) (ap (λ (k : ℕ). drop k d) (length-replicate (length d) 0) ∙ drop-length d)
-      ∙ append-nil (zeros (length d))
+      copied-all (zeros (length d)) d i (rw length-replicate le) (rw length-replicate ge) ∙ ap (λ (r : List ℕ). zeros (length d) ++ r)
+      (ap (λ (k : ℕ). drop k d) (length-replicate (length d) 0) ∙ drop-length d) ∙ append-nil (zeros (length d))
 
 pub of-length : (xs : List ℕ) (n : ℕ) → xs ≡ zeros n → length xs ≡ n
 of-length xs n e = ap length e ∙ length-replicate n 0
@@ -68,8 +61,7 @@ module _ (a : ℕ) (d : List ℕ) where
   -- what d holds once s has come back for it
   pub tail-back : (s : List ℕ) → take a d ++ (s ++ drop (length d - a) (drop a d)) ≡ take a d ++ s
   tail-back s =
-      ap (λ (r : List ℕ). take a d ++ (s ++ r)) (drop-of-length-le (drop a d) {i = length d - a} (rw length-drop (le-refl (length d - a))))
-      ∙ ap (λ (r : List ℕ). take a d ++ r) (append-nil s)
+      ap (λ (r : List ℕ). take a d ++ (s ++ r)) (drop-of-length-le (drop a d) {i = length d - a} (rw length-drop (le-refl (length d - a)))) ∙ ap (λ (r : List ℕ). take a d ++ r) (append-nil s)
 
 -- one store at the front, and s over what is after it
 module _ (d s : List ℕ) (x : ℕ) (fits : length s + 1 ≤ length d) where

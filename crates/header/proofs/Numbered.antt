@@ -1,14 +1,9 @@
 -- Which numbers an opening can be refused with. Assumes nothing.
-use mathlib.Core.{Path.{_≡_, refl}, Bool.{Bool, true, false}, List.{List, [], _∷_, _++_}}
-use Prim.Native.Nat.{ℕ, zero, suc, _+_, _%_, _^_}
-use native.Mathlib.Omega.{arith}
-use lib.{Dec.{ltb, leb, eqb}, ListN.{length, getD}}
-use Rattle.numbers.proofs.{Refusals.{Listed, still-listed, Numbered, as-found, as-failed, as-refused, either, then-numbered}, Readings.{reading-numbered}}
-use Rattle.numbers.proofs.Replies.{NumberedReply, answers, refuses, then-reply, and-then, demands, or-else, number-of}
-use Rattle.numbers.specs.{Answer.{Answer, if_then_else_}, Reply.{Reply, refused, refusal, plain}, declared.refusal.Refusal.{Refusal}}
-use Rattle.header.specs.Header.{magicOf, isKind, preambleOf, blameOf, textsFrom, sizeAt, fits, sectionsFrom, sectionsAt, Contents, contentsBy, headBy}
-use Rattle.header.specs.{Opening.{fittingOf, repliedOf, openedBy, openedOf, openedStrictly}, Text.{within, remoteAt, stringAt, bytesOf, orBlamed, textAt}}
-use Rattle.header.specs.{Utf8.{isUtf8}, declared.text.{Blame.{Blame}, Text.{Text}}}
+use Rattle.numbers.proofs.{Prelude.{ℕ, zero, suc, _+_, _%_, _^_, eqb, ltb, leb, length, getD, Bool, true, false, List, [], _∷_, _++_, _≡_, refl, arith}, Readings.{reading-numbered}}
+use Rattle.numbers.proofs.{Refusals.{Listed, still-listed, Numbered, as-found, as-failed, as-refused, either, then-numbered}, Replies.{NumberedReply, answers, refuses, then-reply, and-then, demands}}
+use Rattle.numbers.{proofs.Replies.{or-else, number-of}, specs.{Answer.{Answer, if_then_else_}, Reply.{Reply, refused, refusal, plain}, declared.refusal.Refusal.{Refusal}}}
+use Rattle.header.specs.{Header.{magicOf, isKind, preambleOf, blameOf, textsFrom, sizeAt, fits, sectionsFrom, sectionsAt, Contents, contentsBy, headBy}, Opening.{fittingOf, repliedOf}}
+use Rattle.header.specs.{Opening.{openedBy, openedOf, openedStrictly}, Text.{within, remoteAt, stringAt, bytesOf, orBlamed, textAt}, Utf8.{isUtf8}, declared.text.{Blame.{Blame}, Text.{Text}}}
 
 -- the numbers that document 01 gives to a header
 abbrev pub headerNumbers : List ℕ
@@ -51,12 +46,9 @@ module _ {P : ℕ → Type 0} (has : (n : ℕ) → Listed headerNumbers n → P 
   preamble : (file : List ℕ) → NumberedReply P (preambleOf file)
   unfolding preambleOf
   preamble file =
-      and-then (demands (leb (length file) (2 ^ 30)) (plain 1) (has 1 refl))
-      (and-then (demands (leb 7 (length file)) (refusal 2 0 (length file)) (has 2 refl))
-      (and-then (demands (eqb (magicOf file) 0x504C42) (refusal 3 0 (magicOf file)) (has 3 refl))
-      (and-then (demands (isKind (getD file 3 0)) (refusal 4 0 (getD file 3 0)) (has 4 refl))
-      (and-then (demands (ltb (getD file 4 0) 2) (refusal 5 0 (getD file 4 0)) (has 5 refl))
-      answers))))
+      and-then (demands (leb (length file) (2 ^ 30)) (plain 1) (has 1 refl)) (and-then (demands (leb 7 (length file)) (refusal 2 0 (length file)) (has 2 refl))
+      (and-then (demands (eqb (magicOf file) 0x504C42) (refusal 3 0 (magicOf file)) (has 3 refl)) (and-then (demands (isKind (getD file 3 0))
+      (refusal 4 0 (getD file 3 0)) (has 4 refl)) (and-then (demands (ltb (getD file 4 0) 2) (refusal 5 0 (getD file 4 0)) (has 5 refl)) answers))))
 
   texts : (file : List ℕ) (names more index place : ℕ) → NumberedReply P (textsFrom strict file names more index place)
   unfolding textsFrom
@@ -73,27 +65,20 @@ module _ {P : ℕ → Type 0} (has : (n : ℕ) → Listed headerNumbers n → P 
 
   sections-from : (length end metadata start rest : ℕ) → NumberedReply P (sectionsFrom length end metadata start rest)
   unfolding sectionsFrom
-  sections-from length end metadata start rest =
-      let whole = rest + (end + start) in
-      and-then (sums 32 (end + start))
-      (and-then (sums 64 whole)
-      (and-then (demands (eqb whole length) (refusal 11 0 whole) (has 11 refl))
-      answers))
+  sections-from length end metadata start rest = let whole = rest + (end + start) in
+      and-then (sums 32 (end + start)) (and-then (sums 64 whole) (and-then (demands (eqb whole length) (refusal 11 0 whole) (has 11 refl)) answers))
 
   sections : (file : List ℕ) (place : ℕ) → NumberedReply P (sectionsAt strict file place)
   unfolding sectionsAt
   sections file place =
-      then-reply (size file place 8 (has 8 refl))
-      (λ first. then-reply (size file (first .place) 9 (has 9 refl))
-      (λ second. and-then (sums 32 (first .value % 2 ^ 32 + second .value % 2 ^ 32))
-      (then-reply (size file (second .place) 10 (has 10 refl))
-      (λ third. sections-from (length file) (third .place) (first .value % 2 ^ 32) (first .value % 2 ^ 32 + second .value % 2 ^ 32) (third .value)))))
+      then-reply (size file place 8 (has 8 refl)) (λ first. then-reply (size file (first .place) 9 (has 9 refl)) (λ second. and-then
+      (sums 32 (first .value % 2 ^ 32 + second .value % 2 ^ 32)) (then-reply (size file (second .place) 10 (has 10 refl)) (λ third. sections-from (length file)
+      (third .place) (first .value % 2 ^ 32) (first .value % 2 ^ 32 + second .value % 2 ^ 32) (third .value)))))
 
   contents : (file : List ℕ) → NumberedReply P (contentsBy strict file)
   unfolding contentsBy
   contents file =
-      then-reply (preamble file)
-      (λ begun. then-reply (texts file (begun .count) (begun .count + 1) 0 7) (λ read. then-reply (sections file (read .place)) (λ found. answers)))
+      then-reply (preamble file) (λ begun. then-reply (texts file (begun .count) (begun .count + 1) 0 7) (λ read. then-reply (sections file (read .place)) (λ found. answers)))
 
   pub head-numbered : (file : List ℕ) → NumberedReply P (headBy strict file)
   unfolding headBy

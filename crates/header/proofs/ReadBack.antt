@@ -1,15 +1,11 @@
 -- What opening and the strings of a file say, from the numbers and bytes that are read there, plainly and strictly. Assumes nothing.
-use Prim.Native.Nat.{ℕ, suc, _+_, _-_, _%_, _^_, _≤_, _<_}
-use borrow.Author.Tests.{le-leb, lt-leb, lt-ltb, le-ltb, eq-eqb, eqb-true, eqb-false}
-use lib.{Dec.{leb, ltb, eqb}, ListN.{length, take, drop, getD}}
-use mathlib.Core.{Bool.{Bool, true, false}, List.{List, [], _∷_, _++_, map}, Path.{_≡_, refl, sym, ap, _∙_}}
-use native.Mathlib.Omega.{arith}
+use Rattle.numbers.proofs.Prelude.{ℕ, suc, _+_, _-_, _%_, _^_, _≤_, _<_, eq-eqb, lt-ltb, le-leb, le-ltb, lt-leb, eqb-true, eqb-false, eqb, ltb, leb, length, take, drop, getD, Bool, true, false, List}
+use Rattle.numbers.proofs.Prelude.{[], _∷_, _++_, map, _≡_, refl, sym, ap, _∙_, arith}
 use Rattle.numbers.specs.{Answer.{Answer, found, refused, if_then_else_}, Lists.{zeros}, Reply.{given, plain, demand, _>>_}, Varint.{numeral, readingOf}}
+use Rattle.header.specs.{Field.{entry, field, fieldAt}, Header.{isKind, preambleOf, blameOf, Texts, textsFrom, textsOf, sectionsFrom, sectionsAt, Contents, contentsBy, headBy}}
+use Rattle.header.specs.{Opening.{repliedOf, fittingOf, openedBy}, Text.{within, remoteAt, stringAt, bytesOf, textAt}, Utf8.{unmasked, isUtf8}, declared.header.Preamble.{Preamble}}
+use Rattle.header.specs.declared.{header.Sections.{Sections}, text.{Blame.{Blame}, Text.{Text}}}
 use Rattle.numbers.specs.Reply as R
-use Rattle.header.specs.Field.{entry, field, fieldAt}
-use Rattle.header.specs.Header.{isKind, preambleOf, blameOf, Texts, textsFrom, textsOf, sectionsFrom, sectionsAt, Contents, contentsBy, headBy}
-use Rattle.header.specs.{Opening.{repliedOf, fittingOf, openedBy}, Text.{within, remoteAt, stringAt, bytesOf, textAt}, Utf8.{unmasked, isUtf8}}
-use Rattle.header.specs.declared.{header.{Preamble.{Preamble}, Sections.{Sections}}, text.{Blame.{Blame}, Text.{Text}}}
 
 -- ---- strings
 -- what a string at a place says: this text, and reading goes on at a place
@@ -38,33 +34,30 @@ none-there file (b ∷ t) next e = absurd (omega arith)
 
 within-told : (file t : List ℕ) (start next : ℕ) → Masked file start t → Told file (within file (record { start = start; size = length t; next = next })) t next
 unfolding within bytesOf
-within-told file t start next masked = by-size (eqb (length t) 0) refl
-  where
-    by-size : (none : Bool) → eqb (length t) 0 ≡ none
-        → Told file (if none then found (record { start = 0; size = 0; next = next }) else (if leb (start + length t) (length file) then found (record { start = start; size = length t; next = next }) else refused 14)) t next
-    by-size true e = record { text = record { start = 0; size = 0; next = next }; is = refl; bytes = none-there file t next (eqb-true (length t) 0 e); after = refl }
-    by-size false e =
-        record {
-          text = record { start = start; size = length t; next = next };
-          is = rw (le-leb (start + length t) (length file) (masked .inside (omega (arith, eqb-false (length t) 0 e))));
-          bytes = masked .there;
-          after = refl;
-        }
+within-told file t start next masked = by-size (eqb (length t) 0) refl where
+  by-size : (none : Bool) → eqb (length t) 0 ≡ none → Told file (if none then found (record { start = 0; size = 0; next = next }) else (if leb (start + length t)
+      (length file) then found (record { start = start; size = length t; next = next }) else refused 14)) t next
+  by-size true e = record { text = record { start = 0; size = 0; next = next }; is = refl; bytes = none-there file t next (eqb-true (length t) 0 e); after = refl }
+  by-size false e =
+      record {
+        text = record { start = start; size = length t; next = next };
+        is = rw (le-leb (start + length t) (length file) (masked .inside (omega (arith, eqb-false (length t) 0 e))));
+        bytes = masked .there;
+        after = refl;
+      }
 
 module _ (strict : Bool) (file t : List ℕ) (short : length t ≤ 255) (metadata place next : ℕ) where
   -- a text inline: its length, and its bytes behind it
   pub inline-says : readingOf strict file place ≡ numeral (length t) next → Masked file next t → Says strict file metadata place t (next + length t)
   unfolding stringAt
-  inline-says read masked =
-      let told = within-told file t next (next + length t) masked in
+  inline-says read masked = let told = within-told file t next (next + length t) masked in
       record { text = told .text; reads = rw (read, lt-ltb (length t) 256 (omega arith)) (told .is); bytes = told .bytes; after = told .after }
 
   -- a text elsewhere: 256 and how far behind the metadata's begin its length stands
   pub remote-says : (offset start : ℕ) → metadata + offset < 2 ^ 32 → readingOf strict file place ≡ numeral (256 + offset) next → readingOf strict file (metadata + offset) ≡ numeral (length t) start
       → Masked file start t → Says strict file metadata place t next
   unfolding stringAt remoteAt
-  remote-says offset start small read far masked =
-      let same : (metadata + (256 + offset) - 256) % 2 ^ 32 ≡ metadata + offset = omega arith in
+  remote-says offset start small read far masked = let same : (metadata + (256 + offset) - 256) % 2 ^ 32 ≡ metadata + offset = omega arith in
       let told = within-told file t start next masked in
       record { text = told .text; reads = rw (read, le-ltb (256 + offset) 256 (omega arith), same, far, le-leb (length t) 256 (omega arith)) (told .is); bytes = told .bytes; after = told .after }
 
@@ -83,8 +76,7 @@ module _ {strict : Bool} {file : List ℕ} {metadata place : ℕ} {t : List ℕ}
       rw (here, s .after, later, s .bytes)
 
   -- as a field
-  pub says-field : (tag room : ℕ) → fieldAt strict file metadata place tag room
-      ≡ (demand (leb (length (field tag t)) room) (plain 18) >> given (record { bytes = field tag t; next = next }))
+  pub says-field : (tag room : ℕ) → fieldAt strict file metadata place tag room ≡ (demand (leb (length (field tag t)) room) (plain 18) >> given (record { bytes = field tag t; next = next }))
   unfolding fieldAt
   says-field tag room = rw (says-text (record { number = 15; detail = 0 }), s .bytes, s .after)
 
@@ -97,28 +89,34 @@ no-texts strict file names index place = refl
 pub preamble-is : (kind version precision count : ℕ) (rest file : List ℕ) → file ≡ 0x50 ∷ 0x4C ∷ 0x42 ∷ kind ∷ version ∷ precision ∷ count ∷ rest → length file ≤ 2 ^ 30
     → isKind kind ≡ true → ltb version 2 ≡ true → preambleOf file ≡ given (record { kind = kind; version = version; precision = precision; count = count })
 unfolding preambleOf
-preamble-is kind version precision count rest file e small known new =
-    let b0 : getD file 0 0 ≡ 0x50 = ap (λ (f : List ℕ). getD f 0 0) e in
-    let b1 : getD file 1 0 ≡ 0x4C = ap (λ (f : List ℕ). getD f 1 0) e in
-    let b2 : getD file 2 0 ≡ 0x42 = ap (λ (f : List ℕ). getD f 2 0) e in
-    let b3 : getD file 3 0 ≡ kind = ap (λ (f : List ℕ). getD f 3 0) e in
-    let b4 : getD file 4 0 ≡ version = ap (λ (f : List ℕ). getD f 4 0) e in
-    let b5 : getD file 5 0 ≡ precision = ap (λ (f : List ℕ). getD f 5 0) e in
-    let b6 : getD file 6 0 ≡ count = ap (λ (f : List ℕ). getD f 6 0) e in
+preamble-is kind version precision count rest file e small known new = let b0 : getD file 0 0 ≡ 0x50 = ap (λ (f : List ℕ). getD f 0 0) e in
+    let b1 : getD file 1 0 ≡ 0x4C = ap (λ (f : List ℕ). getD f 1 0) e in let b2 : getD file 2 0 ≡ 0x42 = ap (λ (f : List ℕ). getD f 2 0) e in
+    let b3 : getD file 3 0 ≡ kind = ap (λ (f : List ℕ). getD f 3 0) e in let b4 : getD file 4 0 ≡ version = ap (λ (f : List ℕ). getD f 4 0) e in
+    let b5 : getD file 5 0 ≡ precision = ap (λ (f : List ℕ). getD f 5 0) e in let b6 : getD file 6 0 ≡ count = ap (λ (f : List ℕ). getD f 6 0) e in
     simp (le-leb (length file) (2 ^ 30) small, le-leb 7 (length file) (omega (arith, ap length e)), b0, b1, b2, b3, b4, b5, b6, known, new)
 
 -- the three sizes
-pub sections-are : (strict : Bool) (file : List ℕ) (p q r s t m d : ℕ) → length file ≤ 2 ^ 30 → readingOf strict file p ≡ numeral t q → readingOf strict file q ≡ numeral m r → readingOf strict file r ≡ numeral d s
-    → s + (t + (m + d)) ≡ length file → sectionsAt strict file p ≡ given (record { table = s; metadata = s + t; «data» = s + (t + m) })
+pub sections-are : (strict : Bool) (file : List ℕ) (p q r s t m d : ℕ) → length file ≤ 2 ^ 30 → readingOf strict file p ≡ numeral t q → readingOf strict file q ≡ numeral m r
+    → readingOf strict file r ≡ numeral d s → s + (t + (m + d)) ≡ length file → sectionsAt strict file p ≡ given (record { table = s; metadata = s + t; «data» = s + (t + m) })
 unfolding sectionsAt sectionsFrom
-sections-are strict file p q r s t m d small one two three whole =
-    let first : t % 2 ^ 32 ≡ t = omega arith in
-    let second : m % 2 ^ 32 ≡ m = omega arith in
+sections-are strict file p q r s t m d small one two three whole = let first : t % 2 ^ 32 ≡ t = omega arith in let second : m % 2 ^ 32 ≡ m = omega arith in
     let sum : d + (s + (t + m)) ≡ length file = omega arith in
-    simp (one, two, three, first, second, lt-ltb (t + m) (2 ^ 32) (omega arith), lt-ltb (s + (t + m)) (2 ^ 32) (omega arith), sum, lt-ltb (length file) (2 ^ 64) (omega arith), eq-eqb (length file) (length file) refl)
+    simp (
+      one,
+      two,
+      three,
+      first,
+      second,
+      lt-ltb (t + m) (2 ^ 32) (omega arith),
+      lt-ltb (s + (t + m)) (2 ^ 32) (omega arith),
+      sum,
+      lt-ltb (length file) (2 ^ 64) (omega arith),
+      eq-eqb (length file) (length file) refl,
+    )
 
 -- all of it
-module _ (strict : Bool) (file : List ℕ) (preamble : Preamble) (texts : Texts) (sections : Sections) (first : preambleOf file ≡ given preamble) (second : textsOf strict file (preamble .count) ≡ given texts)
+module _ (strict : Bool) (file : List ℕ) (preamble : Preamble) (texts : Texts) (sections : Sections) (first : preambleOf file ≡ given preamble)
+    (second : textsOf strict file (preamble .count) ≡ given texts)
     (third : sectionsAt strict file (texts .place) ≡ given sections) where
   pub contents-are : contentsBy strict file ≡ given (record { head = record { preamble = preamble; sections = sections; strict = strict }; bytes = texts .bytes })
   unfolding contentsBy

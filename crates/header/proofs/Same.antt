@@ -1,10 +1,8 @@
 -- Two replies that a promise permits are equal. Assumes nothing.
-use mathlib.Core.{Bool.{Bool}, Path.{_≡_, refl, sym, ap, _∙_}, List.{List}}
-use Prim.Native.Nat.{ℕ}
-use Rattle.numbers.specs.{Answer.{Answer, found, failed}, Reply.{Reply, given, refused}}
+use Rattle.numbers.{proofs.Prelude.{ℕ, Bool, List, _≡_, refl, sym, ap, _∙_}, specs.{Answer.{Answer, found, failed}, Reply.{Reply, given, refused}}}
+use Rattle.header.specs.{Opening.{Replied, replied, toldOpened, openedOf, openedStrictly}, Text.{toldText, stringAt}, declared.opening.{Opened.{Opened}, Opening.{Opening}}}
+use Rattle.header.specs.declared.text.{String.{String}, Text.{Text}}
 use Rattle.numbers.specs.Answer as A
-use Rattle.header.specs.{Text.{toldText, stringAt}, Opening.{Replied, replied, toldOpened, openedOf, openedStrictly}}
-use Rattle.header.specs.declared.{text.{Text.{Text}, String.{String}}, opening.{Opening.{Opening}, Opened.{Opened}}}
 use Rattle.header.specs.declared.text.String.the-variants as S
 use Rattle.header.specs.declared.opening.Opened.the-variants as O
 
@@ -38,7 +36,8 @@ pub same-string : (strict : Bool) (file : List ℕ) (metadata place : ℕ) (r r�
 same-string strict file metadata place = one-answer toldText textBack text-same
 
 -- the reply and the whole text
-pub same-open-strict : (file : List ℕ) (room : ℕ) (r r′ : Opened) (text text′ : List ℕ) → replied r text ≡ openedStrictly file room → replied r′ text′ ≡ openedStrictly file room → (r ≡ r′) × (text ≡ text′)
+pub same-open-strict : (file : List ℕ) (room : ℕ) (r r′ : Opened) (text text′ : List ℕ) → replied r text ≡ openedStrictly file room → replied r′ text′ ≡ openedStrictly file room →
+    (r ≡ r′) × (text ≡ text′)
 same-open-strict file room r r′ text text′ e e′ = (
   one-answer toldOpened openedBack opened-same r r′ (ap (λ (x : Replied). x .reply) e) (ap (λ (x : Replied). x .reply) e′),
   ap (λ (x : Replied). x .text) (e ∙ sym e′),

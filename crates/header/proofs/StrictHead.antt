@@ -1,15 +1,10 @@
 -- Opening strictly (request Q-6): refused 31, or as the plain opening. Assumes nothing.
-use Prim.Native.Nat.{ℕ, zero, suc, _+_, _%_, _^_, _≤_}
-use borrow.Author.Tests.{eqb-true}
-use lib.{Dec.{ltb, leb, eqb}, ListN.{length}}
-use mathlib.Core.{Bool.{Bool, true, false}, List.{List}, Logic.{_⊎_, inl, inr}, Path.{_≡_, refl, sym, ap, subst, _∙_}}
-use native.Mathlib.Omega.{arith}
-use Rattle.numbers.proofs.{Readings.{Strictly, cut, same, then-strictly, strictly-either, reading-strictly}, Replies.{given-from, demanded}}
-use Rattle.numbers.specs.{Answer.{Answer}, Reply.{Reply, given, refused, refusal, plain, demand, _orElse_, _>>=_, _>>_}, Varint.{Numeral}, declared.refusal.Refusal.{Refusal}}
-use Rattle.header.proofs.Unless.{shown, Unless, refuses, alike, unless-after, unless-demand, unless-then}
-use Rattle.header.specs.Header.{preambleOf, blameOf, textsFrom, textsOf, sizeAt, sectionsFrom, sectionsAt, Contents, contentsBy, headBy, headOf, headStrictly}
-use Rattle.header.specs.{Opening.{fittingOf, repliedOf, openedBy, openedOf, openedStrictly}, Text.{remoteAt, stringAt, orBlamed, textAt}}
-use Rattle.header.specs.declared.{header.{Head.{Head}, Sections.{Sections}}, text.{Blame.{Blame}, Text.{Text}}}
+use Rattle.numbers.proofs.Prelude.{ℕ, zero, suc, _+_, _%_, _^_, _≤_, ltb, leb, length, Bool, true, false, List, _⊎_, inl, inr, _≡_, refl, sym, ap, subst, _∙_, arith}
+use Rattle.numbers.{proofs.Readings.{Strictly, cut, same, then-strictly, strictly-either, reading-strictly}, specs.Answer.{Answer}}
+use Rattle.numbers.specs.{Reply.{Reply, given, refused, plain, demand, _orElse_, _>>=_, _>>_}, Varint.{Numeral}, declared.refusal.Refusal.{Refusal}}
+use Rattle.header.proofs.{ReadFrom.{read-from, sized}, Unless.{shown, Unless, refuses, alike, unless-after, unless-demand, unless-then}}
+use Rattle.header.specs.{Header.{preambleOf, blameOf, textsFrom, textsOf, sizeAt, sectionsAt, Contents, contentsBy, headBy, headOf, headStrictly}, Opening.{fittingOf, repliedOf, openedBy}}
+use Rattle.header.specs.{Opening.{openedOf, openedStrictly}, Text.{remoteAt, stringAt, orBlamed, textAt}, declared.{header.Head.{Head}, text.{Blame.{Blame}, Text.{Text}}}}
 
 -- refused 31, or the same
 abbrev pub Or31 : {A : Type 0} → Reply A → Reply A → Type 0
@@ -25,23 +20,14 @@ shown-same (refused why) = refl
 
 -- a header says how it was read
 pub head-strict : (strict : Bool) (file : List ℕ) {head : Head} → headBy strict file ≡ given head → head .strict ≡ strict
-unfolding headBy contentsBy
-head-strict strict file {head} e =
-    let c = given-from (contentsBy strict file) _ (sym e) in
-    let p = given-from (preambleOf file) _ (c .is) in
-    let t = given-from (textsOf strict file (p .it .count)) _ (p .onto) in
-    let s = given-from (sectionsAt strict file (t .it .place)) _ (t .onto) in
-    let same : c .it .head ≡ head = cc (c .onto) in
-    let made : record { head = record { preamble = p .it; sections = s .it; strict = strict }; bytes = t .it .bytes } ≡ c .it = cc (s .onto) in
-    rw (← same, ← made) refl
+head-strict strict file e = read-from strict file (sym e) .strictly
 
 -- ---- strings
 module _ (file : List ℕ) where
   string-strictly : (metadata place : ℕ) → Strictly (stringAt true file metadata place) (stringAt false file metadata place)
   unfolding stringAt remoteAt
   string-strictly metadata place =
-      then-strictly (reading-strictly file place)
-      (λ number. strictly-either (ltb (number .value) 256) same (then-strictly (reading-strictly file _) (λ length. same)))
+      then-strictly (reading-strictly file place) (λ number. strictly-either (ltb (number .value) 256) same (then-strictly (reading-strictly file _) (λ length. same)))
 
   blamed : (blame : Blame) {strict plainly : Answer Text} → Strictly strict plainly → Or31 (orBlamed file blame strict) (orBlamed file blame plainly)
   blamed blame cut = refuses refl
@@ -70,10 +56,9 @@ module _ (file : List ℕ) where
   sections-strictly : (place : ℕ) → Or31 (sectionsAt true file place) (sectionsAt false file place)
   unfolding sectionsAt
   sections-strictly place =
-      then-same (sizeAt true file place 8) (sizeAt false file place 8) (size-strictly place 8)
-      (λ first. then-same (sizeAt true file (first .place) 9) (sizeAt false file (first .place) 9) (size-strictly (first .place) 9)
-      (λ second. unless-demand (ltb (first .value % 2 ^ 32 + second .value % 2 ^ 32) (2 ^ 32)) (plain 13)
-      (then-same (sizeAt true file (second .place) 10) (sizeAt false file (second .place) 10) (size-strictly (second .place) 10) (λ third. alike refl))))
+      then-same (sizeAt true file place 8) (sizeAt false file place 8) (size-strictly place 8) (λ first. then-same (sizeAt true file (first .place) 9)
+      (sizeAt false file (first .place) 9) (size-strictly (first .place) 9) (λ second. unless-demand (ltb (first .value % 2 ^ 32 + second .value % 2 ^ 32) (2 ^ 32))
+      (plain 13) (then-same (sizeAt true file (second .place) 10) (sizeAt false file (second .place) 10) (size-strictly (second .place) 10) (λ third. alike refl))))
 
   -- all that a header says but how it was read
   abbrev pub unstrict : Head → Head
@@ -97,9 +82,8 @@ module _ (file : List ℕ) where
   fitting-strictly : (room : ℕ) → Unless 31 unstrictContents (fittingOf true file room) (fittingOf false file room)
   unfolding fittingOf
   fitting-strictly room =
-      unless-then (contentsBy true file) (contentsBy false file) contents-strictly
-      (λ a b e. subst (λ (bytes : List ℕ). Unless 31 unstrictContents (demand (leb (length (a .bytes)) room) (plain 18) >> given a) (demand (leb (length bytes) room) (plain 18) >> given b))
-      (ap (λ (c : Contents). c .bytes) e)
+      unless-then (contentsBy true file) (contentsBy false file) contents-strictly (λ a b e. subst (λ (bytes : List ℕ). Unless 31 unstrictContents (demand
+      (leb (length (a .bytes)) room) (plain 18) >> given a) (demand (leb (length bytes) room) (plain 18) >> given b)) (ap (λ (c : Contents). c .bytes) e)
       (unless-demand (leb (length (a .bytes)) room) (plain 18) (alike (ap given e))))
 
   replied-unstrict : (room : ℕ) (r : Reply Contents) → repliedOf room r ≡ repliedOf room (shown unstrictContents r)
@@ -109,41 +93,12 @@ module _ (file : List ℕ) where
   -- `strict-or-plain` of opening: refused 31 with the whole text zero, or the plain opening's reply and text
   pub strict-open-or-plain : (room : ℕ) → (openedStrictly file room ≡ repliedOf room (refused (plain 31))) ⊎ (openedStrictly file room ≡ openedOf file room)
   unfolding openedBy
-  strict-open-or-plain room = go (fitting-strictly room)
-    where
-      go : {r s : Reply Contents} → Unless 31 unstrictContents r s → (repliedOf room r ≡ repliedOf room (refused (plain 31))) ⊎ (repliedOf room r ≡ repliedOf room s)
-      go (refuses e) = inl (ap (repliedOf room) e)
-      go {r = r} {s = s} (alike e) = inr (replied-unstrict room r ∙ ap (repliedOf room) e ∙ sym (replied-unstrict room s))
+  strict-open-or-plain room = go (fitting-strictly room) where
+    go : {r s : Reply Contents} → Unless 31 unstrictContents r s → (repliedOf room r ≡ repliedOf room (refused (plain 31))) ⊎ (repliedOf room r ≡ repliedOf room s)
+    go (refuses e) = inl (ap (repliedOf room) e)
+    go {r = r} {s = s} (alike e) = inr (replied-unstrict room r ∙ ap (repliedOf room) e ∙ sym (replied-unstrict room s))
 
--- ---- a file that opens holds its whole table
-abbrev metadataIn : Reply Sections → ℕ
-metadataIn (given sections) = sections .metadata
-metadataIn (refused why) = 0
-
-within-whole : {metadata length : ℕ} (rest end start more : ℕ) → metadata ≡ end + start → rest + (end + (start + more)) ≡ length → metadata ≤ length
-within-whole rest end start more at exact = omega arith
-
+-- a file that opens holds its whole table
 pub table-within : (strict : Bool) (file : List ℕ) {head : Head} → headBy strict file ≡ given head → head .sections .metadata ≤ length file
-unfolding headBy contentsBy sectionsAt sectionsFrom
-table-within strict file {head} e =
-    let c = given-from (contentsBy strict file) _ (sym e) in
-    let p = given-from (preambleOf file) _ (c .is) in
-    let t = given-from (textsOf strict file (p .it .count)) _ (p .onto) in
-    let s = given-from (sectionsAt strict file (t .it .place)) _ (t .onto) in
-    let made : record { head = record { preamble = p .it; sections = s .it; strict = strict }; bytes = t .it .bytes } ≡ c .it = cc (s .onto) in
-    let head-is : c .it .head ≡ head = cc (c .onto) in
-    let first = given-from (sizeAt strict file (t .it .place) 8) _ (s .is) in
-    let second = given-from (sizeAt strict file (first .it .place) 9) _ (first .onto) in
-    let start = first .it .value % 2 ^ 32 in
-    let sum = start + second .it .value % 2 ^ 32 in
-    let small = demanded (ltb sum (2 ^ 32)) (plain 13) (second .onto) in
-    let third = given-from (sizeAt strict file (second .it .place) 10) _ (small .1) in
-    let end = third .it .place in
-    let whole = third .it .value + (end + sum) in
-    let one = demanded (ltb (end + sum) (2 ^ 32)) (plain 13) (third .onto) in
-    let two = demanded (ltb whole (2 ^ 64)) (plain 13) (one .1) in
-    let three = demanded (eqb whole (length file)) (refusal 11 0 whole) (two .1) in
-    let at : s .it .metadata ≡ end + start = ap metadataIn (three .1) in
-    let exact : whole ≡ length file = eqb-true whole (length file) (three .0) in
-    let within : s .it .metadata ≤ length file = within-whole (third .it .value) end start (second .it .value % 2 ^ 32) at exact in
-    rw (← head-is, ← made) within
+table-within strict file e = let o = read-from strict file (sym e) in let a = sized strict file (o .texts .place) (o .sections) in
+    omega (arith, a .metadata, a .data-place, a .exact)

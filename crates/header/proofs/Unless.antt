@@ -1,8 +1,5 @@
 -- "Unless the first is refused by n, both reply the same, as far as one looks": kept by every next step of a `do` block. Assumes nothing.
-use Prim.Native.Nat.{ℕ}
-use mathlib.Core.{Bool.{Bool, true, false}, Path.{_≡_, refl, ap}}
-use native.Mathlib.Omega.{arith}
-use Rattle.numbers.specs.{Reply.{Reply, given, refused, plain, demand, _>>=_, _>>_}, declared.refusal.Refusal.{Refusal}}
+use Rattle.numbers.{proofs.Prelude.{ℕ, Bool, true, false, _≡_, refl, ap, arith}, specs.{Reply.{Reply, given, refused, plain, demand, _>>=_, _>>_}, declared.refusal.Refusal.{Refusal}}}
 
 -- what is seen of a reply
 abbrev pub shown : {A B : Type 0} → (A → B) → Reply A → Reply B

@@ -1,11 +1,9 @@
 -- Document 01's worked examples of UTF-8, those of RFC 3629, its strings, and the header of its printed file, and a name whose length the file's end cuts, as one table. Assumes nothing.
-use mathlib.Core.{Path.{_≡_, refl}, Bool.{Bool, true, false}, List.{List, [], _∷_, _++_, map}}
-use Prim.Native.Nat.{ℕ}
-use lib.ListN.{replicate}
+use Rattle.numbers.proofs.Prelude.{ℕ, replicate, Bool, true, false, List, [], _∷_, _++_, map, _≡_, refl}
+use Rattle.numbers.specs.{Answer.{Answer}, Reply.{given, refused, plain, refusal}, Varint.{readingOf, wholeOf, valueOf, sizeOf, tooLong, forwardAt}}
+use Rattle.header.specs.{Header.{preambleOf, textsFrom, sectionsFrom, sectionsAt, contentsBy}, Opening.{Replied, fittingOf, openedBy}, Text.{within, remoteAt, stringAt, bytesOf, textAt}}
+use Rattle.header.specs.{Utf8.{characters, startedBy, begunBy, followed, goesOn, isUtf8}, declared.text.Text.{Text}}
 use Rattle.numbers.specs.Answer as A
-use Rattle.numbers.specs.{Answer.{Answer}, Varint.{readingOf, wholeOf, valueOf, sizeOf, tooLong, forwardAt}, Reply.{given, refused, plain, refusal}}
-use Rattle.header.specs.{Utf8.{characters, startedBy, begunBy, followed, goesOn, isUtf8}, Text.{within, remoteAt, stringAt, bytesOf, textAt}}
-use Rattle.header.specs.{Header.{preambleOf, textsFrom, sectionsFrom, sectionsAt, contentsBy}, Opening.{Replied, fittingOf, openedBy}, declared.text.Text.{Text}}
 
 -- a row: what is read, and what the document says of it
 data Row : Type 0 where
@@ -61,5 +59,6 @@ worked =
 
 -- the definitions and the documents agree on every row
 worked-hold : map computed worked ≡ worked
-unfolding readingOf wholeOf computed printed cut worked characters startedBy begunBy followed goesOn isUtf8 valueOf sizeOf tooLong forwardAt within remoteAt stringAt bytesOf textAt preambleOf textsFrom sectionsFrom sectionsAt contentsBy fittingOf openedBy
+unfolding readingOf wholeOf computed printed cut worked characters startedBy begunBy followed goesOn isUtf8 valueOf sizeOf tooLong forwardAt within remoteAt
+    stringAt bytesOf textAt preambleOf textsFrom sectionsFrom sectionsAt contentsBy fittingOf openedBy
 worked-hold = refl

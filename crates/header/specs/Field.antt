@@ -1,8 +1,5 @@
 -- Strings as they go out, and what a lent text then holds.
-use mathlib.Core.{Bool.{Bool}, List.{List, _∷_}}
-use Prim.Native.Nat.{ℕ, _/_, _%_}
-use lib.{Dec.{leb}, ListN.{length}}
-use Rattle.numbers.specs.{Lists.{over}, Reply.{Reply, given, refused, plain, demand, _>>=_, _>>_}}
+use Rattle.numbers.specs.{Lists.{over}, Prelude.{ℕ, _/_, _%_, leb, length, Bool, List, _∷_}, Reply.{Reply, given, refused, plain, demand, _>>=_, _>>_}}
 use Rattle.header.specs.{Text.{bytesOf, textAt}, declared.field.{Sent.{Sent}, Written.{Written}}}
 use Rattle.header.specs.declared.field.Written.the-variants as W
 

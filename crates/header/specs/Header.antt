@@ -1,12 +1,8 @@
 -- The header, in document 01's order, its numbers read strictly or not.
-use mathlib.Core.{Bool.{Bool, true, false, _||_}, List.{List, [], _++_}}
-use Prim.Native.Nat.{ℕ, zero, suc, _+_, _*_, _%_, _^_}
-use lib.{Dec.{ltb, leb, eqb}, ListN.{length, getD}}
-use Rattle.numbers.specs.{Limits.{largestFile}, Answer.{if_then_else_}, Varint.{Numeral, readingOf}, declared.varint.Varint.{Varint}}
-use Rattle.numbers.specs.Reply.{Reply, given, refused, refusal, plain, demand, _orElse_, _>>=_, _>>_}
-use Rattle.header.specs.{Text.{stoppedOf, textAt, bytesOf}, Field.{entry}, declared.text.Blame.{Blame}}
-use Rattle.header.specs.declared.header.{Preamble.{Preamble}, Sections.{Sections}, Head.{Head}, PreambleAnswer.{PreambleAnswer}, SectionsAnswer.{SectionsAnswer}, Headed.{Headed}, PlaceAnswer.{PlaceAnswer}}
-use Rattle.header.specs.declared.header.SizeAnswer.{SizeAnswer}
+use Rattle.numbers.specs.{Answer.{if_then_else_}, Limits.{largestFile}, Prelude.{ℕ, zero, suc, _+_, _*_, _%_, _^_, eqb, ltb, leb, length, getD, Bool, true, false, _||_, List, [], _++_}}
+use Rattle.numbers.specs.{Reply.{Reply, given, refused, refusal, plain, demand, _orElse_, _>>=_, _>>_}, Varint.{Numeral, readingOf}, declared.varint.Varint.{Varint}}
+use Rattle.header.specs.{Field.{entry}, Text.{stoppedOf, textAt, bytesOf}, declared.header.{Head.{Head}, Headed.{Headed}, PlaceAnswer.{PlaceAnswer}, Preamble.{Preamble}}}
+use Rattle.header.specs.declared.{header.{PreambleAnswer.{PreambleAnswer}, Sections.{Sections}, SectionsAnswer.{SectionsAnswer}, SizeAnswer.{SizeAnswer}}, text.Blame.{Blame}}
 use Rattle.header.specs.declared.header.PreambleAnswer.the-variants as B
 use Rattle.header.specs.declared.header.SectionsAnswer.the-variants as P
 use Rattle.header.specs.declared.header.Headed.the-variants as H

@@ -1,9 +1,6 @@
 -- Opening: the reply and the whole lent text.
-use mathlib.Core.{Path.{_≡_}, Bool.{Bool, true, false}, List.{List}}
-use Prim.Native.Nat.{ℕ, _≤_, _<_}
-use lib.{Dec.{leb}, ListN.{length}}
-use Rattle.numbers.specs.{Lists.{zeros, padded}, Reply.{Reply, given, refused, plain, demand, _>>=_, _>>_}}
-use Rattle.header.specs.{Header.{Texts, Contents, contentsBy}, declared.opening.{Opening.{Opening}, Opened.{Opened}, Wrote.{Wrote}}}
+use Rattle.numbers.specs.{Lists.{zeros, padded}, Prelude.{ℕ, _≤_, _<_, leb, length, Bool, true, false, List, _≡_}, Reply.{Reply, given, refused, plain, demand, _>>=_, _>>_}}
+use Rattle.header.specs.{Header.{Texts, Contents, contentsBy}, declared.opening.{Opened.{Opened}, Opening.{Opening}, Wrote.{Wrote}}}
 use Rattle.header.specs.declared.opening.Opened.the-variants as O
 use Rattle.header.specs.declared.opening.Wrote.the-variants as W
 

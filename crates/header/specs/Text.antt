@@ -1,11 +1,8 @@
 -- Strings of the file, as document 01 has them, their numbers read strictly or not.
-use mathlib.Core.{Bool.{Bool}, List.{List, map}}
-use Prim.Native.Nat.{ℕ, _+_, _-_, _%_, _^_}
-use lib.{Dec.{ltb, leb, eqb}, ListN.{length, take, drop}}
-use Rattle.numbers.specs.{Answer.{Answer, found, failed, refused, if_then_else_, _>>=_}, Varint.{told, readingOf}, declared.varint.Varint.{Varint}}
-use Rattle.numbers.specs.Reply.{Reply, given, encoding, notUtf8, refusal, plain}
+use Rattle.numbers.specs.{Answer.{Answer, found, failed, refused, if_then_else_, _>>=_}, Prelude.{ℕ, _+_, _-_, _%_, _^_, eqb, ltb, leb, length, take, drop, Bool, List, map}}
+use Rattle.numbers.specs.{Reply.{Reply, given, encoding, notUtf8, refusal, plain}, Varint.{told, readingOf}, declared.varint.Varint.{Varint}}
+use Rattle.header.specs.{Utf8.{unmasked, isUtf8}, declared.text.{Blame.{Blame}, Read.{Read}, String.{String}, Text.{Text}}}
 use Rattle.numbers.specs.Reply as R
-use Rattle.header.specs.{Utf8.{unmasked, isUtf8}, declared.text.{Text.{Text}, Blame.{Blame}, String.{String}, Read.{Read}}}
 use Rattle.header.specs.declared.text.String.the-variants as S
 use Rattle.header.specs.declared.text.Read.the-variants as T
 

@@ -1,8 +1,6 @@
 -- UTF-8, after the grammar of RFC 3629, section 4.
-use mathlib.Core.{Bool.{Bool, true, false, _&&_}, List.{List, [], _∷_, _++_}, Path.{_≡_}}
-use Prim.Native.Nat.{ℕ, _-_}
-use lib.{Bits.{bitXor}, Dec.{leb, eqb}, ListN.{replicate}}
-use Rattle.numbers.specs.Answer.{if_then_else_}
+use Rattle.numbers.specs.{Answer.{if_then_else_}, Prelude.{ℕ, _-_, eqb, leb, replicate, Bool, true, false, _&&_, List, [], _∷_, _++_, _≡_}}
+use lib.Bits.{bitXor}
 use Rattle.header.specs.declared.utf8.{Due.{Due}, Step.{Step}}
 use Rattle.header.specs.declared.utf8.Step.the-variants as S
 

@@ -1,18 +1,12 @@
 -- The line for an answer: which it is, that there is one, and that it has room. Assumes nothing.
-use Prim.Native.Nat.{ℕ, zero, suc, _+_, _-_, _≤_, _<_}
-use borrow.Author.Tests.{eq-eqb, ne-eqb, lt-ltb, le-ltb}
-use lib.{IntN.{ℤ, pos, negsuc}, ListN.{length, take, drop, length-append, length-drop, length-map, length-replicate}, Seq.{take-all, length-take-le}}
-use native.Mathlib.{Nat.{le-refl}, Omega.{arith}}
-use mathlib.Core.{List.{List, [], _∷_, _++_, map}, Path.{_≡_, refl, sym, ap, subst, _∙_}}
+use Rattle.numbers.proofs.Prelude.{ℕ, zero, suc, _-_, _≤_, _<_, eq-eqb, ne-eqb, lt-ltb, le-ltb, ℤ, pos, negsuc, length, take, drop, length-append, length-drop, length-map, length-replicate}
+use Rattle.numbers.{proofs.Prelude.{length-take-le, take-all, List, [], _∷_, _++_, map, _≡_, refl, sym, ap, subst, _∙_, le-refl, arith}, specs.Lists.{zeros}}
 use Rattle.calendar.{proofs.SameCivil.{same-civil}, specs.{Civil.{CivilOf}, declared.civil.{Civil.{Civil}, Reading.{Reading}}}}
-use Rattle.calendar.specs.declared.civil.Civil.the-variants as C
 use Rattle.localtime.specs.{Local.{localTime, scaleAt}, declared.scale.Scale.{Scale}}
-use Rattle.hour.specs.Hour.{instantOf, onScale, shownBy, answerOf, civilLine, LineFor, Answered, Printed}
-use Rattle.hour.specs.Line.{clockText, signedText, hourLine, unknownLine, refusedLine}
-use Rattle.line.specs.Clock.{dateText, timeText, shown}
-use Rattle.line.{proofs.{Decimals.{decimal-short}, Puts.{put-length, put-front}}, specs.Put.{Put, decimal}}
+use Rattle.hour.specs.{Hour.{instantOf, onScale, shownBy, answerOf, civilLine, LineFor, Answered, Printed}, Line.{clockText, signedText, hourLine, unknownLine, refusedLine}}
+use Rattle.line.{proofs.{Decimals.{decimal-short}, Puts.{put-length, put-front}}, specs.{Clock.{dateText, timeText, shown}, Put.{Put, decimal}}}
 use Rattle.tzif.specs.{Local.{Replied, replied}, Reply.{refusal}, declared.{local.{Local.{Local}, LocalTime.{LocalTime}}, refusal.Refusal.{Refusal}}}
-use Rattle.numbers.specs.Lists.{zeros}
+use Rattle.calendar.specs.declared.civil.Civil.the-variants as C
 use Rattle.tzif.specs.declared.local.LocalTime.the-variants as L
 
 -- two lines that the promise permits are equal
@@ -32,9 +26,7 @@ one-printed {input} {room} {out} {out′} {used} {used′} p q =
 -- ---- how long a line is
 refused-short : (why : Refusal) → length (refusedLine why) ≤ 512
 unfolding refusedLine
-refused-short why =
-    let number = decimal (why .number) in
-    let detail = decimal (why .detail) in
+refused-short why = let number = decimal (why .number) in let detail = decimal (why .detail) in
     omega (arith, length-append number ((32 ∷ detail) ++ (10 ∷ [])), length-append detail (10 ∷ []), decimal-short (why .number), decimal-short (why .detail))
 
 signed-short : (z : ℤ) → length (signedText z) ≤ 21
@@ -48,10 +40,7 @@ clock-short reading = omega (arith, decimal-short (reading .weekday))
 
 hour-short : (reading : Reading) (local : Local) (name : List ℕ) → length name ≤ 256 → length (hourLine reading local name) ≤ 512
 unfolding hourLine
-hour-short reading local name h =
-    let clock = clockText reading in
-    let offset = signedText (local .offset) in
-    let daylight = decimal (local .daylight) in
+hour-short reading local name h = let clock = clockText reading in let offset = signedText (local .offset) in let daylight = decimal (local .daylight) in
     let shows = map shown name in
     omega (
       arith,
@@ -90,20 +79,28 @@ moved {instant} {at} {o} {offset} civil i e s = subst (λ (z : ℤ). CivilOf z o
 
 module _ {before after : List ℕ} {next : ℕ} where
   pub answered-hour : {instant at offset : ℤ} (local : Local) (text : List ℕ) → at ≡ instant → offset ≡ local .offset → {civil : Civil} → CivilOf at offset civil
-      → {reading : Reading} → civil ≡ C.Shown reading → Put before 0 (hourLine reading local (take (local .length) text)) after next → Answered instant (replied (L.Local local) text) before after next
+      → {reading : Reading} → civil ≡ C.Shown reading → Put before 0 (hourLine reading local (take (local .length) text)) after next
+      → Answered instant (replied (L.Local local) text) before after next
   unfolding LineFor civilLine
-  answered-hour {instant} local text i o {civil} s {reading} e p = record { line = hourLine reading local (take (local .length) text); is = record { civil = C.Shown reading; shows = subst (CivilOf instant (local .offset)) e (moved civil i o s); is = refl }; put = p }
+  answered-hour {instant} local text i o {civil} s {reading} e p =
+      record {
+        line = hourLine reading local (take (local .length) text);
+        is = record { civil = C.Shown reading; shows = subst (CivilOf instant (local .offset)) e (moved civil i o s); is = refl };
+        put = p;
+      }
 
   pub answered-outside : {instant at offset : ℤ} (local : Local) (text : List ℕ) → at ≡ instant → offset ≡ local .offset → {civil : Civil} → CivilOf at offset civil
       → civil ≡ C.Outside → Put before 0 (refusedLine (refusal 61 0)) after next → Answered instant (replied (L.Local local) text) before after next
   unfolding LineFor civilLine
-  answered-outside {instant} local text i o {civil} s e p = record { line = refusedLine (refusal 61 0); is = record { civil = C.Outside; shows = subst (CivilOf instant (local .offset)) e (moved civil i o s); is = refl }; put = p }
+  answered-outside {instant} local text i o {civil} s e p =
+      record { line = refusedLine (refusal 61 0); is = record { civil = C.Outside; shows = subst (CivilOf instant (local .offset)) e (moved civil i o s); is = refl }; put = p }
 
   pub answered-unknown : (instant : ℤ) (text : List ℕ) {reply : LocalTime} → reply ≡ L.Unknown → Put before 0 unknownLine after next → Answered instant (replied reply text) before after next
   unfolding LineFor
   answered-unknown instant text e p = subst (λ (r : LocalTime). Answered instant (replied r text) before after next) (sym e) (record { line = unknownLine; is = refl; put = p })
 
-  pub answered-refused : (instant : ℤ) (text : List ℕ) {reply : LocalTime} (why : Refusal) → reply ≡ L.Refused why → Put before 0 (refusedLine why) after next → Answered instant (replied reply text) before after next
+  pub answered-refused : (instant : ℤ) (text : List ℕ) {reply : LocalTime} (why : Refusal) → reply ≡ L.Refused why → Put before 0 (refusedLine why) after next
+      → Answered instant (replied reply text) before after next
   unfolding LineFor
   answered-refused instant text why e p = subst (λ (r : LocalTime). Answered instant (replied r text) before after next) (sym e) (record { line = refusedLine why; is = refl; put = p })
 
@@ -136,16 +133,14 @@ module _ (input : List ℕ) (room : ℕ) where
 
   module _ {before after : List ℕ} {next : ℕ} where
     printed : Answered (instantOf input) (answerOf input room) before after next → length (answerOf input room .text) ≤ 256 → 512 ≤ length before → Printed input room after next
-    printed a small large =
-        let short = line-short (instantOf input) (answerOf input room .reply) (answerOf input room .text) (a .line) (a .is) small in
+    printed a small large = let short = line-short (instantOf input) (answerOf input room .reply) (answerOf input room .text) (a .line) (a .is) small in
         let front = put-front (a .put) (omega (arith, short, large)) in
         record { line = a .line; is = a .is; fits = omega (arith, front .0, short, large, put-length (a .put)); whole = front .1 }
 
-    zeroed : {why : Refusal} → replied (L.Refused why) (zeros room) ≡ answerOf input room → room ≤ 256 → 512 ≤ length before → Put before 0 (refusedLine why) after next → Printed input room after next
+    zeroed : {why : Refusal} → replied (L.Refused why) (zeros room) ≡ answerOf input room → room ≤ 256 → 512 ≤ length before → Put before 0 (refusedLine why) after next
+        → Printed input room after next
     zeroed {why} e small large p =
-        printed
-        (answered-as refl e (answered-refused (instantOf input) (zeros room) why refl p))
-        (omega (arith, ap (λ (r : Replied). length (r .text)) e, length-replicate {A = ℕ} room 0, small))
+        printed (answered-as refl e (answered-refused (instantOf input) (zeros room) why refl p)) (omega (arith, ap (λ (r : Replied). length (r .text)) e, length-replicate {A = ℕ} room 0, small))
         large
 
     pub printed-long : 65536 < length input → room ≤ 256 → 512 ≤ length before → Put before 0 (refusedLine (refusal 1 0)) after next → Printed input room after next
@@ -154,8 +149,9 @@ module _ (input : List ℕ) (room : ℕ) where
     pub printed-short : length input ≤ 65536 → length input < 8 → room ≤ 256 → 512 ≤ length before → Put before 0 (refusedLine (refusal 2 (length input))) after next → Printed input room after next
     printed-short l h = zeroed (too-short l h)
 
-    pub printed-answer : length input ≤ 65536 → 8 ≤ length input → {at at′ : ℤ} {file text : List ℕ} {time reply : LocalTime} {scale : Scale} → at ≡ instantOf input → at′ ≡ instantOf input → file ≡ drop 8 input
-        → replied time text ≡ localTime file at room → scale ≡ scaleAt file at → reply ≡ onScale (scale .kind) time → length text ≤ 256 → 512 ≤ length before → Answered at′ (replied reply text) before after next → Printed input room after next
+    pub printed-answer : length input ≤ 65536 → 8 ≤ length input → {at at′ : ℤ} {file text : List ℕ} {time reply : LocalTime} {scale : Scale} → at ≡ instantOf input
+        → at′ ≡ instantOf input → file ≡ drop 8 input → replied time text ≡ localTime file at room → scale ≡ scaleAt file at → reply ≡ onScale (scale .kind) time
+        → length text ≤ 256 → 512 ≤ length before → Answered at′ (replied reply text) before after next → Printed input room after next
     printed-answer l h {at} {at′} {file} {text} {time} {reply} {scale} i i′ f e s r small large a =
         let shows : replied reply text ≡ shownBy file at room =
         ap (λ (x : LocalTime). replied x text) (r ∙ ap (λ (x : Scale). onScale (x .kind) time) s) ∙ ap (λ (x : Replied). replied (onScale (scaleAt file at .kind) (x .reply)) (x .text)) e in

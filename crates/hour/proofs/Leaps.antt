@@ -1,15 +1,12 @@
 -- A file that counts leap seconds: no hour is printed by it. Assumes nothing.
-use Prim.Native.Nat.{ℕ}
-use lib.{Dec.{ltb}, ListN.{length, take, drop}}
-use mathlib.Core.{Bool.{Bool, true, false}, List.{List, [], _∷_}, Path.{_≡_, refl, ap, sym, subst, _∙_}}
-use Rattle.localtime.{proofs.Theorems.{no-scale, own-scale}, specs.{Local.{rulesIn, answerAt, localTimeBy, localTime, scaleIn, scaleOr, scaleBy, scaleAt}, declared.rule.Rules.{Rules}}}
+use Rattle.numbers.{proofs.Prelude.{ℕ, ltb, length, take, drop, Bool, true, false, List, [], _∷_, _≡_, refl, ap, subst, _∙_}, specs.{Answer.{if_then_else_}, Lists.{zeros}}}
+use Rattle.localtime.{proofs.Theorems.{no-scale, own-scale}, specs.{Local.{rulesIn, answerAt, localTimeBy, localTime, scaleIn, scaleOr, scaleBy}, declared.rule.Rules.{Rules}}}
 use Rattle.hour.specs.{Hour.{instantOf, onScale, shownBy, answerOf, LineFor, Printed}, Line.{refusedLine}}
-use Rattle.tzif.specs.Check.{occursLater, correctionBefore, correctionAt, correctionOf, oneApart, isExpiry, nulEnd, checkTime, checkIndex, checkType, checkLeap, checkLeaps, checkStandard, isStandard, checkUt}
-use Rattle.tzif.specs.Header.{begins, isVersion, isFourth, versionFits, checkHeader, blockAt, noneOrAll, checkCounts, checkBlock, readBlock}
-use Rattle.tzif.specs.{Local.{Replied, replied, lent}, Number.{octets, be32, raised, timeAt, lift}, Part.{countOf, checkOf, checkPart}}
-use Rattle.tzif.specs.{Reply.{Reply, given, refused, refusal, demand, each, _>>=_, _>>_}, Text.{firstWith, isStop, runTo}}
-use Rattle.numbers.specs.{Answer.{if_then_else_}, Lists.{zeros}}
-use Rattle.tzif.specs.{Times.{timeIn, lastWith, lastNotAfter}, Zone.{readShort, readZoneBy, readZone}, declared.{local.LocalTime.{LocalTime}, refusal.Refusal.{Refusal}, zone.Zone.{Zone}}}
+use Rattle.tzif.specs.Check.{occursLater, correctionBefore, correctionAt, correctionOf, oneApart, isExpiry, nulEnd, checkTime, checkIndex, checkType, checkLeap, checkLeaps, checkStandard, isStandard}
+use Rattle.tzif.specs.{Check.{checkUt}, Header.{begins, isVersion, isFourth, versionFits, checkHeader, blockAt, noneOrAll, checkCounts, checkBlock, readBlock}, Local.{Replied, replied, lent}}
+use Rattle.tzif.specs.{Number.{octets, be32, raised, timeAt, lift}, Part.{countOf, checkOf, checkPart}, Reply.{Reply, given, refused, refusal, demand, each, _>>=_, _>>_}}
+use Rattle.tzif.specs.{Text.{firstWith, isStop, runTo}, Times.{timeIn, lastWith, lastNotAfter}, Zone.{readShort, readZoneBy, readZone}, declared.local.LocalTime.{LocalTime}}
+use Rattle.tzif.specs.declared.{refusal.Refusal.{Refusal}, zone.Zone.{Zone}}
 use Rattle.tzif.specs.declared.local.LocalTime.the-variants as L
 
 -- a refusal's line
@@ -36,29 +33,28 @@ module _ (input : List ℕ) (room : ℕ) {zone : Zone} (z : readZone (drop 8 inp
 
   -- the file's answer on its scale: refused 60 with its string, or 91
   on-own-scale : RefusedReply (shownBy (drop 8 input) (instantOf input) room .reply)
-  on-own-scale = go (rulesIn (drop 8 input) zone) refl
-    where
-      own : {rules : Rules} → rulesIn (drop 8 input) zone ≡ given rules → RefusedReply (shownBy (drop 8 input) (instantOf input) room .reply)
-      own r = record { why = refusal 91 0; is = on-two _ (own-scale (drop 8 input) (instantOf input) z r leaps) }
+  on-own-scale = go (rulesIn (drop 8 input) zone) refl where
+    own : {rules : Rules} → rulesIn (drop 8 input) zone ≡ given rules → RefusedReply (shownBy (drop 8 input) (instantOf input) room .reply)
+    own r = record { why = refusal 91 0; is = on-two _ (own-scale (drop 8 input) (instantOf input) z r leaps) }
 
-      none : {why : Refusal} → rulesIn (drop 8 input) zone ≡ refused why → RefusedReply (shownBy (drop 8 input) (instantOf input) room .reply)
-      none {why} r = record { why = why; is = on-none (no-scale (drop 8 input) (instantOf input) z r) (refused-local r) }
+    none : {why : Refusal} → rulesIn (drop 8 input) zone ≡ refused why → RefusedReply (shownBy (drop 8 input) (instantOf input) room .reply)
+    none {why} r = record { why = why; is = on-none (no-scale (drop 8 input) (instantOf input) z r) (refused-local r) }
 
-      go : (rules : Reply Rules) → rulesIn (drop 8 input) zone ≡ rules → RefusedReply (shownBy (drop 8 input) (instantOf input) room .reply)
-      go (given rules) r = own r
-      go (refused why) r = none r
+    go : (rules : Reply Rules) → rulesIn (drop 8 input) zone ≡ rules → RefusedReply (shownBy (drop 8 input) (instantOf input) room .reply)
+    go (given rules) r = own r
+    go (refused why) r = none r
 
   refused-reply : RefusedReply (answerOf input room .reply)
   unfolding answerOf
-  refused-reply = go (ltb 65536 (length input)) (ltb (length input) 8)
-    where
-      reply : Replied → LocalTime
-      reply answer = answer .reply
+  refused-reply = go (ltb 65536 (length input)) (ltb (length input) 8) where
+    reply : Replied → LocalTime
+    reply answer = answer .reply
 
-      go : (long short : Bool) → RefusedReply (reply (if long then replied (L.Refused (refusal 1 0)) (zeros room) else (if short then replied (L.Refused (refusal 2 (length input))) (zeros room) else shownBy (drop 8 input) (instantOf input) room)))
-      go true short = record { why = refusal 1 0; is = refl }
-      go false true = record { why = refusal 2 (length input); is = refl }
-      go false false = on-own-scale
+    go : (long short : Bool) → RefusedReply (reply (if long then replied (L.Refused (refusal 1 0)) (zeros room) else (if short then replied (L.Refused (refusal 2 (length input)))
+        (zeros room) else shownBy (drop 8 input) (instantOf input) room)))
+    go true short = record { why = refusal 1 0; is = refl }
+    go false true = record { why = refusal 2 (length input); is = refl }
+    go false false = on-own-scale
 
   line-refuses : (reply : LocalTime) (text line : List ℕ) → RefusedReply reply → LineFor (instantOf input) reply text line → Refuses line
   unfolding LineFor
@@ -79,5 +75,8 @@ pub record WorkedLeap : Type 0 where
   pub refused : answerOf leaping 256 .reply ≡ L.Refused (refusal 91 0)
 
 pub worked-leap : WorkedLeap
-unfolding occursLater correctionBefore correctionAt correctionOf oneApart isExpiry nulEnd checkTime checkIndex checkType checkLeap checkLeaps checkStandard isStandard checkUt begins isVersion isFourth versionFits checkHeader blockAt noneOrAll checkCounts checkBlock readBlock octets be32 raised timeAt lift countOf checkOf checkPart demand each _>>=_ _>>_ firstWith isStop runTo timeIn lastWith lastNotAfter readShort readZoneBy answerOf onScale scaleBy scaleOr scaleIn rulesIn
+unfolding occursLater correctionBefore correctionAt correctionOf oneApart isExpiry nulEnd checkTime checkIndex checkType checkLeap checkLeaps checkStandard
+    isStandard checkUt begins isVersion isFourth versionFits checkHeader blockAt noneOrAll checkCounts checkBlock readBlock octets be32 raised timeAt lift
+    countOf checkOf checkPart demand each _>>=_ _>>_ firstWith isStop runTo timeIn lastWith lastNotAfter readShort readZoneBy answerOf onScale scaleBy scaleOr
+    scaleIn rulesIn
 worked-leap = record { one = refl; refused = refl }

@@ -1,14 +1,13 @@
 -- A line, computed. Assumes nothing.
-use lib.IntN.{pos, negsuc}
-use mathlib.Core.{List.{[], _∷_}, Path.{_≡_, refl}}
+use Rattle.numbers.proofs.Prelude.{pos, negsuc, [], _∷_, _≡_, refl}
 use Rattle.hour.specs.Line.{clockText, signedText, hourLine, refusedLine}
-use Rattle.line.specs.Clock.{dateText, timeText, shown}
-use Rattle.line.specs.Put.{decimal, decimalOf}
+use Rattle.line.specs.{Clock.{dateText, timeText, shown}, Put.{decimal, decimalOf}}
 use Rattle.tzif.specs.Reply.{refusal}
 
 -- "hour 2026-07-01 13:59:59 3 7200 1 CEST"
-pub worked-line : hourLine (record { year = 2026; month = 7; day = 1; hour = 13; minute = 59; second = 59; weekday = 3 }) (record { offset = pos 7200; daylight = 1; length = 4 }) (67 ∷ 69 ∷ 83 ∷ 84 ∷ [])
-    ≡ 104 ∷ 111 ∷ 117 ∷ 114 ∷ 32 ∷ 50 ∷ 48 ∷ 50 ∷ 54 ∷ 45 ∷ 48 ∷ 55 ∷ 45 ∷ 48 ∷ 49 ∷ 32 ∷ 49 ∷ 51 ∷ 58 ∷ 53 ∷ 57 ∷ 58 ∷ 53 ∷ 57 ∷ 32 ∷ 51 ∷ 32 ∷ 55 ∷ 50 ∷ 48 ∷ 48 ∷ 32 ∷ 49 ∷ 32 ∷ 67 ∷ 69 ∷ 83 ∷ 84 ∷ 10 ∷ []
+pub worked-line : hourLine (record { year = 2026; month = 7; day = 1; hour = 13; minute = 59; second = 59; weekday = 3 }) (record { offset = pos 7200; daylight = 1; length = 4 })
+    (67 ∷ 69 ∷ 83 ∷ 84 ∷ []) ≡ 104 ∷ 111 ∷ 117 ∷ 114 ∷ 32 ∷ 50 ∷ 48 ∷ 50 ∷ 54 ∷ 45 ∷ 48 ∷ 55 ∷ 45 ∷ 48 ∷ 49 ∷ 32 ∷ 49 ∷ 51 ∷ 58 ∷ 53 ∷ 57 ∷ 58 ∷ 53 ∷ 57 ∷ 32 ∷
+    51 ∷ 32 ∷ 55 ∷ 50 ∷ 48 ∷ 48 ∷ 32 ∷ 49 ∷ 32 ∷ 67 ∷ 69 ∷ 83 ∷ 84 ∷ 10 ∷ []
 unfolding hourLine clockText dateText timeText signedText shown decimal decimalOf
 worked-line = refl
 

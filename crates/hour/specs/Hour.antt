@@ -1,15 +1,11 @@
 -- What the program prints for each input: an instant in eight bytes, low byte first, then a TZif file.
-use Prim.Native.Nat.{ℕ, _+_, _*_, _^_, _≤_}
-use lib.{Dec.{ltb, eqb}, IntN.{ℤ}, ListN.{length, take, drop}}
-use mathlib.Core.{List.{List}, Path.{_≡_}}
-use mir.{Syntax.{w64}, Val.{toZ}}
+use Rattle.numbers.specs.{Answer.{if_then_else_}, Lists.{zeros}, Prelude.{ℕ, _+_, _*_, _^_, _≤_, eqb, ltb, ℤ, length, take, drop, List, _≡_, w64, toZ}}
 use Rattle.calendar.specs.{Civil.{CivilOf}, declared.civil.Civil.{Civil}}
-use Rattle.calendar.specs.declared.civil.Civil.the-variants as C
 use Rattle.localtime.specs.Local.{localTime, scaleAt}
 use Rattle.hour.specs.Line.{hourLine, unknownLine, refusedLine}
 use Rattle.line.specs.{Bytes.{wordAt}, Put.{Put}}
 use Rattle.tzif.specs.{Local.{Replied, replied}, Reply.{refusal}, declared.local.{Local.{Local}, LocalTime.{LocalTime}}}
-use Rattle.numbers.specs.{Answer.{if_then_else_}, Lists.{zeros}}
+use Rattle.calendar.specs.declared.civil.Civil.the-variants as C
 use Rattle.tzif.specs.declared.local.LocalTime.the-variants as L
 
 -- in two's complement

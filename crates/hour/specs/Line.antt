@@ -1,7 +1,5 @@
 -- The lines that are printed: "hour 2026-07-01 13:59:59 3 7200 1 CEST", "unknown", "refused 60 685".
-use Prim.Native.Nat.{ℕ, suc}
-use lib.IntN.{ℤ, pos, negsuc}
-use mathlib.Core.{List.{List, [], _∷_, _++_, map}}
+use Rattle.numbers.specs.Prelude.{ℕ, suc, ℤ, pos, negsuc, List, [], _∷_, _++_, map}
 use Rattle.calendar.specs.declared.civil.Reading.{Reading}
 use Rattle.line.specs.{Clock.{dateText, timeText, shown}, Put.{decimal}}
 use Rattle.tzif.specs.declared.{local.Local.{Local}, refusal.Refusal.{Refusal}}

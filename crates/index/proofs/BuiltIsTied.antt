@@ -1,25 +1,18 @@
 -- Words that building gave for a file are tied to it, and zeros, which a refused building leaves, to none. Assumes nothing.
-use Prim.Native.Nat.{ℕ, zero, suc, _+_, _*_, _-_, _^_, _<_, _≤_}
-use borrow.Author.Tests.{leb-true, le-leb, eq-eqb, ne-eqb}
-use lib.{Dec.{leb, eqb}, ListN.{length, take, getD, length-append, List·getD-append}, Seq.{getD-append-add}}
-use mathlib.Core.{Bool.{Bool, true, false, _&&_}, List.{List, [], _∷_, _++_, append-assoc}, Path.{_≡_, refl, sym, ap, subst, _∙_}}
-use native.Mathlib.{Nat.{add-zero}, Omega.{arith}}
-use Rattle.numbers.{proofs.Replies.{given-from, demanded}, specs.{Lists.{zeros, padded}, Reply.{Reply, given, refused, refusal, plain}}}
+use Rattle.numbers.proofs.Prelude.{ℕ, zero, suc, _+_, _-_, _*_, _^_, _≤_, _<_, eq-eqb, ne-eqb, le-leb, leb-true, eqb, leb, length, take, getD, length-append, List·getD-append, getD-append-add, Bool}
+use Rattle.numbers.proofs.Prelude.{true, false, _&&_, List, [], _∷_, _++_, append-assoc, _≡_, refl, sym, ap, subst, _∙_, add-zero, arith}
+use Rattle.numbers.{proofs.Replies.{given-from, demanded, given-one}, specs.{Lists.{zeros, padded}, Reply.{Reply, given, refused, refusal, plain}}}
 use Rattle.table.specs.{Find.{isPrecision}, declared.rows.Row.{Row}}
 use Rattle.header.specs.{Header.{preambleOf, contentsBy, headBy, headOf}, declared.header.Head.{Head}}
-use Rattle.index.proofs.{Keeping.{packed-length}, Sides.{and-rest}, Tabling.{records-length}, Tying.{end-decides, tied-so, tied-not}}
-use Rattle.numbers.proofs.Replies.{given-one}
-use Rattle.index.proofs.Whole.{lists-length, starts-length}
-use Rattle.index.specs.Index.{recordsOf, fourAt, packedFrom, wordsFor, keptOf, listsFrom, joined, startsFrom, tiles, recordsAt, listsAt, indexOf, hasRoom, indexWith, indexIn}
-use Rattle.index.specs.Index.{indexedBy, indexedOf}
-use Rattle.index.specs.{Table.{tableOf}, Tied.{wordAt, isHeaded, keepsFrom, isTied, tiedOf}}
+use Rattle.index.proofs.{Keeping.{packed-length}, Sides.{and-rest}, Tabling.{records-length}, Tying.{end-decides, tied-so, tied-not}, Whole.{lists-length, starts-length}}
+use Rattle.index.specs.Index.{recordsOf, fourAt, packedFrom, wordsFor, keptOf, listsFrom, joined, startsFrom, tiles, recordsAt, listsAt, indexOf, hasRoom, indexWith, indexIn, indexedBy}
+use Rattle.index.specs.{Index.{indexedOf}, Table.{tableOf}, Tied.{wordAt, isHeaded, keepsFrom, isTied, tiedOf}}
 
 -- ---- kept bytes
 keeps-same : (words bytes : List ℕ) (more at i : ℕ) → ((k : ℕ) → k < more → getD words (at + k) 0 ≡ getD (packedFrom bytes more i) k 0) → keepsFrom words at bytes more i ≡ true
 unfolding keepsFrom packedFrom
 keeps-same words bytes zero at i h = refl
-keeps-same words bytes (suc more) at i h =
-    let e : at ≡ at + 0 = omega arith in
+keeps-same words bytes (suc more) at i h = let e : at ≡ at + 0 = omega arith in
     let here : wordAt words at ≡ fourAt bytes i = ap (λ (j : ℕ). getD words j 0) e ∙ h 0 (omega arith) in
     let onward = keeps-same words bytes more (at + 1) (i + 4) (λ k l. let f : at + 1 + k ≡ at + suc k = omega arith in ap (λ (j : ℕ). getD words j 0) f ∙ h (suc k) (omega arith)) in
     rw (eq-eqb (wordAt words at) (fourAt bytes i) here) onward
@@ -40,9 +33,7 @@ starts-last at (list ∷ lists) more =
 -- ---- the parts, one after the other
 flattened : (a b c d e f : List ℕ) → (a ++ (b ++ (c ++ (d ++ e)))) ++ f ≡ a ++ (b ++ (c ++ (d ++ (e ++ f))))
 flattened a b c d e f =
-    append-assoc a (b ++ (c ++ (d ++ e))) f
-    ∙ ap (λ (x : List ℕ). a ++ x) (append-assoc b (c ++ (d ++ e)) f)
-    ∙ ap (λ (x : List ℕ). a ++ (b ++ x)) (append-assoc c (d ++ e) f)
+    append-assoc a (b ++ (c ++ (d ++ e))) f ∙ ap (λ (x : List ℕ). a ++ x) (append-assoc b (c ++ (d ++ e)) f) ∙ ap (λ (x : List ℕ). a ++ (b ++ x)) (append-assoc c (d ++ e) f)
     ∙ ap (λ (x : List ℕ). a ++ (b ++ (c ++ x))) (append-assoc d e f)
 
 in-front : (a b c d : List ℕ) → a ++ (b ++ (c ++ d)) ≡ (a ++ (b ++ c)) ++ d
@@ -103,20 +94,15 @@ module _ (file : List ℕ) (head : Head) (rows : List Row) (rest : List ℕ) whe
 
   pub last : wordAt words 2051 ≡ begin + length (joined lists)
   last =
-      ap (λ (w : List ℕ). getD w 2051 0) flat
-      ∙ getD-append-add three (starts ++ behind) 2048 0
-      ∙ ap (λ (k : ℕ). getD (starts ++ behind) k 0) (sym (lists-length (head .preamble .precision) rows tiles 0))
-      ∙ starts-last begin lists behind
+      ap (λ (w : List ℕ). getD w 2051 0) flat ∙ getD-append-add three (starts ++ behind) 2048 0 ∙ ap (λ (k : ℕ). getD (starts ++ behind) k 0)
+      (sym (lists-length (head .preamble .precision) rows tiles 0)) ∙ starts-last begin lists behind
 
   pub headed : isHeaded words size (length file) ≡ true
-  headed =
-      let begins : wordAt words 3 ≡ listsAt (wordAt words 2) size = fourth ∙ ap (λ (n : ℕ). listsAt n size) (sym third) in
-      sym (end-decides words size (length file) (omega (arith, long)) first second begins (omega (arith, long, third)))
-      ∙ le-leb (wordAt words 2051) (length words) (omega (arith, long, last))
+  headed = let begins : wordAt words 3 ≡ listsAt (wordAt words 2) size = fourth ∙ ap (λ (n : ℕ). listsAt n size) (sym third) in
+      sym (end-decides words size (length file) (omega (arith, long)) first second begins (omega (arith, long, third))) ∙ le-leb (wordAt words 2051) (length words) (omega (arith, long, last))
 
   kept-there : keepsFrom words (recordsAt + 7 * wordAt words 2) (take size file) (wordsFor size) 0 ≡ true
-  kept-there =
-      let kept = keptOf file size in
+  kept-there = let kept = keptOf file size in
       keeps-same words (take size file) (wordsFor size) (recordsAt + 7 * wordAt words 2) 0
       (λ k l.
       let place : recordsAt + 7 * wordAt words 2 + k ≡ length (three ++ (starts ++ recordsOf rows)) + k =
@@ -134,11 +120,8 @@ module _ (file : List ℕ) (head : Head) (rows : List Row) (rest : List ℕ) whe
 -- ---- what building gave
 words-tied : (file : List ℕ) (n : ℕ) {words : List ℕ} → given words ≡ indexIn file n → given tt ≡ tiedOf file (padded n words)
 unfolding indexIn indexWith
-words-tied file n {words} e =
-    let opened = given-from (headOf file) _ e in
-    let head = opened .it in
-    let fine = demanded (isPrecision (head .preamble .precision)) (plain 16) (opened .onto) in
-    let table = given-from (tableOf file head) _ (fine .1) in
+words-tied file n {words} e = let opened = given-from (headOf file) _ e in let head = opened .it in
+    let fine = demanded (isPrecision (head .preamble .precision)) (plain 16) (opened .onto) in let table = given-from (tableOf file head) _ (fine .1) in
     let room = demanded (hasRoom n (length (indexOf file head (table .it)))) (plain 35) (table .onto) in
     let whole : indexOf file head (table .it) ≡ words = sym (given-one (room .1)) in
     let tied = index-is-tied file head (table .it) (zeros (n - length (indexOf file head (table .it)))) in
@@ -147,20 +130,16 @@ words-tied file n {words} e =
 -- Words that building gave for a file are tied to it.
 pub built-is-tied : (file : List ℕ) (n : ℕ) {used : ℕ} → indexedOf file n .reply ≡ given used → given tt ≡ tiedOf file (indexedOf file n .words)
 unfolding indexedOf indexedBy
-built-is-tied file n {used} e = go (indexIn file n) refl e
-  where
-    go : (reply : Reply (List ℕ)) → reply ≡ indexIn file n → indexedBy n reply .reply ≡ given used → given tt ≡ tiedOf file (indexedBy n reply .words)
-    go (given words) same e = words-tied file n same
-    go (refused why) same e = let z : _≡_ {A = ℕ} 0 1 = cc in absurd (omega arith)
+built-is-tied file n {used} e = go (indexIn file n) refl e where
+  go : (reply : Reply (List ℕ)) → reply ≡ indexIn file n → indexedBy n reply .reply ≡ given used → given tt ≡ tiedOf file (indexedBy n reply .words)
+  go (given words) same e = words-tied file n same
+  go (refused why) same e = let z : _≡_ {A = ℕ} 0 1 = cc in absurd (omega arith)
 
 -- ---- zeros
 opened-long : (file : List ℕ) {head : Head} → given head ≡ headOf file → 7 ≤ length file
 unfolding headBy contentsBy preambleOf
-opened-long file e =
-    let contents = given-from (contentsBy false file) _ e in
-    let begun = given-from (preambleOf file) _ (contents .is) in
-    let small = demanded (leb (length file) (2 ^ 30)) (plain 1) (begun .is) in
-    leb-true 7 (length file) (demanded (leb 7 (length file)) (refusal 2 0 (length file)) (small .1) .0)
+opened-long file e = let begun = given-from (preambleOf file) _ (given-from (contentsBy false file) _ e .is) in
+    leb-true 7 (length file) (demanded (leb 7 (length file)) (refusal 2 0 (length file)) (demanded (leb (length file) (2 ^ 30)) (plain 1) (begun .is) .1) .0)
 
 zero-first : (n : ℕ) → wordAt (zeros n) 0 ≡ 0
 zero-first zero = refl
@@ -172,8 +151,7 @@ second-fails false b c d e = refl
 
 zeros-untied : (file : List ℕ) (n : ℕ) {head : Head} → given head ≡ headOf file → isTied file head (zeros n) ≡ false
 unfolding isTied
-zeros-untied file n {head} e =
-    let long = opened-long file e in
+zeros-untied file n {head} e = let long = opened-long file e in
     let other : eqb (wordAt (zeros n) 0) (length file) ≡ false = ne-eqb (wordAt (zeros n) 0) (length file) (λ same. omega (arith, same, zero-first n, long)) in
     second-fails (leb recordsAt (length (zeros n))) (eqb (wordAt (zeros n) 0) (length file)) _ _ other
 

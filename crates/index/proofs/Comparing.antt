@@ -1,18 +1,13 @@
 -- The loops that hold words against an index. Assumes nothing.
-use Prim.Native.Nat.{ℕ, zero, suc, _+_, _*_, _-_, _^_, _<_, _≤_}
-use lib.{IntN.{ℤ}, ListN.{length, length-append}}
-use mathlib.Core.{Bool.{Bool, true, false, _&&_}, List.{List, [], _∷_, _++_}, Path.{_≡_, refl, sym, ap, subst, _∙_}}
-use native.Mathlib.{Nat.{add-zero}, Omega.{arith}}
+use Rattle.numbers.proofs.Prelude.{ℕ, suc, _+_, _-_, _*_, _^_, _≤_, _<_, ℤ, length, Bool, true, false, _&&_, List, [], _∷_, _≡_, refl, sym, ap, _∙_, add-zero, arith}
+use Rattle.numbers.{proofs.Replies.{carried, onward, met, unmet}, specs.{Answer.{found}, Lists.{zeros}, Reply.{Reply, given, refused, plain, demand, _>>=_, _>>_}, Varint.{readingOf}}}
 use Rattle.writer.specs.inner.Stored.{Stored}
-use Rattle.numbers.proofs.{Answers.{found-one}, Replies.{carried, onward, met, unmet}}
-use Rattle.numbers.specs.{Answer.{found}, Lists.{zeros}, Reply.{Reply, given, refused, plain, demand, _>>=_, _>>_}, Varint.{readingOf}}
-use Rattle.numbers.specs.Answer as A
 use Rattle.table.specs.{Ordered.{lowest}, Rows.{after, rowBy}, declared.rows.{Cursor.{Cursor}, Row.{Row}}}
-use Rattle.header.specs.declared.header.Head.{Head}
 use Rattle.index.proofs.{Listing.{list-met, list-not, list-done, list-few}, Standing.{at-append, sets-none}}
 use Rattle.index.proofs.Tabling.{records-length, records-snoc, Tabling, tabling-starts, starts-done, tabling-next, next-done}
-use Rattle.index.specs.{inner.{Building.{isMetIn, listIn, listsIn}, Own.{isWord, isAt, standsFrom, listsStand, isEmptyFrom}}, Index.{recordOf, recordsOf, recordsAt, tiles}}
-use Rattle.index.specs.{Table.{isNext}, Tiles.{tileAt}, declared.tiles.Tile.{Tile}}
+use Rattle.index.specs.{Index.{recordOf, recordsOf, recordsAt, tiles}, Table.{isNext}, Tiles.{tileAt}, declared.tiles.Tile.{Tile}, inner.Building.{isMetIn, listIn, listsIn}}
+use Rattle.index.specs.inner.Own.{isWord, isAt, standsFrom, listsStand, isEmptyFrom}
+use Rattle.numbers.specs.Answer as A
 
 -- ---- one word
 module _ (words : List ℕ) where
@@ -30,11 +25,10 @@ module _ (words : List ℕ) where
 
   -- where words stand, the place behind them
   pub stands-place : (at : ℕ) (xs : List ℕ) {next : ℕ} → given next ≡ standsFrom words at xs → (isAt words at xs ≡ true) × (next ≡ at + length xs)
-  stands-place at xs {next} e = go (isAt words at xs) refl e
-    where
-      go : (t : Bool) → isAt words at xs ≡ t → given next ≡ (demand t (plain 36) >> given (at + length xs)) → (isAt words at xs ≡ true) × (next ≡ at + length xs)
-      go true is e = (is, cc)
-      go false is e = let z : _≡_ {A = ℕ} 0 1 = cc in absurd (omega arith)
+  stands-place at xs {next} e = go (isAt words at xs) refl e where
+    go : (t : Bool) → isAt words at xs ≡ t → given next ≡ (demand t (plain 36) >> given (at + length xs)) → (isAt words at xs ≡ true) × (next ≡ at + length xs)
+    go true is e = (is, cc)
+    go false is e = let z : _≡_ {A = ℕ} 0 1 = cc in absurd (omega arith)
 
   -- ---- the loop over the records, for one tile's list
   module _ (tile : Tile) (n from : ℕ) where
@@ -87,9 +81,7 @@ module _ (words : List ℕ) where
       module _ (end : tiles ≤ t) where
         last : lists ≡ (demand (isWord words 2051 at) (plain 36) >> given at)
         unfolding listsIn listsStand
-        last =
-            let z : tiles - t ≡ 0 = omega (arith, end) in
-            let e : 3 + t ≡ 2051 = omega (arith, end, g .within) in
+        last = let z : tiles - t ≡ 0 = omega (arith, end) in let e : 3 + t ≡ 2051 = omega (arith, end, g .within) in
             g .same ∙ ap (λ (m : ℕ). listsStand words (3 + t) at (listsIn words precision n m t)) z ∙ ap (λ (k : ℕ). demand (isWord words k at) (plain 36) >> given at) e
 
         pub walking-ends : isWord words 2051 at ≡ true → given at ≡ lists
@@ -117,14 +109,11 @@ module _ (words : List ℕ) where
           walking-list e = carried e _ ∙ sym onto
 
           pub walking-next : {next : ℕ} → n < 2 ^ 32 → given next ≡ standsFrom words at first → Walking next (t + 1)
-          walking-next {next} small e =
-              let s : 3 + t + 1 ≡ 3 + (t + 1) = omega arith in
-              let place = stands-place at first e .1 in
-              record {
-                within = omega arith;
-                few = omega (arith, g .few, place, list-few words (tileAt precision t) n 0, small);
-                same = onto ∙ sym (onward e _) ∙ ap (λ (k : ℕ). listsStand words k next (restAt (t + 1))) s;
-              }
+          walking-next {next} small e = let s : 3 + t + 1 ≡ 3 + (t + 1) = omega arith in let place = stands-place at first e .1 in record {
+            within = omega arith;
+            few = omega (arith, g .few, place, list-few words (tileAt precision t) n 0, small);
+            same = onto ∙ sym (onward e _) ∙ ap (λ (k : ℕ). listsStand words k next (restAt (t + 1))) s;
+          }
 
   -- ---- the loop over the zeros
   module _ (from : ℕ) where
@@ -165,11 +154,9 @@ module _ (strict : Bool) (file : List ℕ) (end : ℕ) (start : Cursor) (bottom 
 
   pub matching-next : {at : Cursor} {floor : ℤ} {same : Bool} {n : ℕ} (g : Matching at floor same n) (more : at .place < end) {r : Row} (e : found r ≡ rowBy (readingOf strict file) at)
       {next : Cursor} → isNext end floor r ≡ true → next ≡ after r → {same′ : Bool} → same′ ≡ (same && isAt words (recordsAt + 7 * n) (recordOf r)) → Matching next (lowest r) same′ (n + 1)
-  matching-next {n = n} g more {r} e is m {same′} s =
-      let done = g .tabling .done in
+  matching-next {n = n} g more {r} e is m {same′} s = let done = g .tabling .done in
       let nothing : Stored [] (recordsAt + 7 * n) (recordOf r) [] (recordsAt + 7 * (n + 1)) = record { place-after = omega arith; stored = sets-none (recordOf r) (recordsAt + 7 * n) } in
-      let place : recordsAt + 7 * n ≡ recordsAt + length (recordsOf done) = omega (arith, g .tabling .counted, records-length done) in
-      record {
+      let place : recordsAt + 7 * n ≡ recordsAt + length (recordsOf done) = omega (arith, g .tabling .counted, records-length done) in record {
         tabling = tabling-next strict file end start bottom [] (g .tabling) more e is m nothing;
         compared =
             s

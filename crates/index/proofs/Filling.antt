@@ -1,20 +1,13 @@
 -- How building fills the words: what each step left, and what it comes to. Assumes nothing.
-use Prim.Native.Nat.{ℕ, _+_, _*_, _^_, _<_, _≤_}
-use borrow.Author.Tests.{leb-true}
-use lib.{ListN.{length, getD}, Seq.{sets, length-sets}}
-use mathlib.Core.{Bool.{true}, List.{List, [], _∷_, _++_, map}, Path.{_≡_, refl, sym, ap, subst, _∙_}}
-use native.Mathlib.Omega.{arith}
-use Rattle.writer.specs.inner.Stored.{Stored}
-use Rattle.numbers.{proofs.Replies.{carried, onward}, specs.{Lists.{zeros}, Reply.{Reply, given, refused}, declared.refusal.Refusal.{Refusal}}}
-use Rattle.table.{proofs.Agreeing.{Gave, gave, refused-so}, specs.{Find.{isPrecision}, inner.Agreeing.{Agrees}, declared.rows.Row.{Row}}}
+use Rattle.numbers.proofs.Prelude.{ℕ, _+_, _*_, _^_, _≤_, _<_, leb-true, length, getD, sets, length-sets, true, List, [], _∷_, _++_, map, _≡_, refl, sym, ap, subst, _∙_, arith}
+use Rattle.numbers.{proofs.{Replies.{carried, onward}, Tests.{both}}, specs.{Lists.{zeros}, Reply.{Reply, given, refused}, declared.refusal.Refusal.{Refusal}}}
+use Rattle.writer.{proofs.Stores.{stored-length}, specs.inner.Stored.{Stored}}
+use Rattle.table.{proofs.Agreeing.{Gave, gave, refused-so}, specs.{Find.{isPrecision}, declared.rows.Row.{Row}, inner.Agreeing.{Agrees}}}
 use Rattle.header.specs.{Header.{headOf}, declared.header.Head.{Head}}
 use Rattle.index.proofs.{Keeping.{packed-length}, Stores.{read-below, read-above, over-zeros}, Tabling.{records-length}}
-use Rattle.writer.proofs.Stores.{stored-length}
 use Rattle.index.proofs.Whole.{read-stored, Holds, lists-of-rows, starts-length, lists-length, starts-fit, laid, index-length}
-use Rattle.index.specs.inner.Building.{listsIn, low, Listed, Recorded, Made}
 use Rattle.index.specs.Index.{recordsOf, wordsFor, keptOf, listsFrom, joined, startsFrom, tiles, recordsAt, listsAt, indexOf, indexWith, indexIn, indexed, indexedBy, indexedOf}
-use Rattle.index.specs.Table.{tableOf}
-use Rattle.numbers.proofs.Tests.{both}
+use Rattle.index.specs.{Table.{tableOf}, inner.Building.{listsIn, low, Listed, Recorded, Made}}
 
 pub precise : (precision : ℕ) → isPrecision precision ≡ true → (1 ≤ precision) × (precision ≤ 32)
 precise precision e = let h = both _ _ e in (leb-true _ _ (h .0), leb-true _ _ (h .1))
@@ -51,17 +44,11 @@ module _ (file : List ℕ) (head : Head) (i0 i1 i2 : List ℕ) (n begin : ℕ) (
     module _ (i3 i4 : List ℕ) (used : ℕ) (room : begin ≤ length i0) (h : i3 ≡ sets i2 0 (length file ∷ head .sections .metadata ∷ n ∷ []))
         (l : Listed i3 begin (listsIn i3 (head .preamble .precision) n tiles 0) i4 used) where
       recorded : Holds i3 rows 0
-      recorded i few =
-          let at : recordsAt + 7 * 0 + i ≡ recordsAt + i = omega arith in
-          let size = records-length rows in
-          let cut = k .place-after in
-          ap (λ (m : List ℕ). getD m (recordsAt + 7 * 0 + i) 0) h
-          ∙ read-above (length file ∷ head .sections .metadata ∷ n ∷ []) i2 0 (recordsAt + 7 * 0 + i) 0 (omega arith)
-          ∙ ap (λ (m : List ℕ). getD m (recordsAt + 7 * 0 + i) 0) (k .stored)
-          ∙ read-below (keptOf file (head .sections .metadata)) i1 (recordsAt + 7 * n) (recordsAt + 7 * 0 + i) 0 (omega (arith, t .fits .counted))
-          ∙ ap (λ (m : List ℕ). getD m (recordsAt + 7 * 0 + i) 0) (t .fits .stored)
-          ∙ ap (λ (j : ℕ). getD (sets i0 recordsAt (recordsOf rows)) j 0) at
-          ∙ read-stored (recordsOf rows) i0 recordsAt i 0 (omega (arith, size)) (omega (arith, size, cut, t .fits .counted, room))
+      recorded i few = let at : recordsAt + 7 * 0 + i ≡ recordsAt + i = omega arith in let size = records-length rows in let cut = k .place-after in
+          ap (λ (m : List ℕ). getD m (recordsAt + 7 * 0 + i) 0) h ∙ read-above (length file ∷ head .sections .metadata ∷ n ∷ []) i2 0 (recordsAt + 7 * 0 + i) 0
+          (omega arith) ∙ ap (λ (m : List ℕ). getD m (recordsAt + 7 * 0 + i) 0) (k .stored) ∙ read-below (keptOf file (head .sections .metadata)) i1
+          (recordsAt + 7 * n) (recordsAt + 7 * 0 + i) 0 (omega (arith, t .fits .counted)) ∙ ap (λ (m : List ℕ). getD m (recordsAt + 7 * 0 + i) 0) (t .fits .stored)
+          ∙ ap (λ (j : ℕ). getD (sets i0 recordsAt (recordsOf rows)) j 0) at ∙ read-stored (recordsOf rows) i0 recordsAt i 0 (omega (arith, size)) (omega (arith, size, cut, t .fits .counted, room))
 
       same-lists : listsIn i3 (head .preamble .precision) n tiles 0 ≡ lists
       same-lists = ap (λ (m : ℕ). listsIn i3 (head .preamble .precision) m tiles 0) (t .fits .counted) ∙ lists-of-rows i3 (head .preamble .precision) rows tiles 0 recorded
@@ -71,22 +58,14 @@ module _ (file : List ℕ) (head : Head) (i0 i1 i2 : List ℕ) (n begin : ℕ) (
 
       pub length-four : length i4 ≡ length i0
       length-four =
-          ap length (l .stored)
-          ∙ length-sets (sets i3 begin (joined (listsIn i3 (head .preamble .precision) n tiles 0))) 3 (map low (startsFrom begin (listsIn i3 (head .preamble .precision) n tiles 0)))
-          ∙ length-sets i3 begin (joined (listsIn i3 (head .preamble .precision) n tiles 0))
-          ∙ ap length h
-          ∙ length-sets i2 0 (length file ∷ head .sections .metadata ∷ n ∷ [])
-          ∙ length-two
+          ap length (l .stored) ∙ length-sets (sets i3 begin (joined (listsIn i3 (head .preamble .precision) n tiles 0))) 3
+          (map low (startsFrom begin (listsIn i3 (head .preamble .precision) n tiles 0))) ∙ length-sets i3 begin (joined (listsIn i3 (head .preamble .precision) n tiles 0))
+          ∙ ap length h ∙ length-sets i2 0 (length file ∷ head .sections .metadata ∷ n ∷ []) ∙ length-two
 
       pub made : i0 ≡ zeros (length i0) → used ≤ length i0 → used < 2 ^ 32 → Made (length i0) i4 words used
       unfolding indexOf
-      made z fits small =
-          let size = head .sections .metadata in
-          let front = length file ∷ size ∷ length rows ∷ [] in
-          let counted = t .fits .counted in
-          let starts = startsFrom begin lists in
-          let fit = starts-fit begin lists (omega (arith, long, used-is)) in
-          record {
+      made z fits small = let size = head .sections .metadata in let front = length file ∷ size ∷ length rows ∷ [] in let counted = t .fits .counted in
+          let starts = startsFrom begin lists in let fit = starts-fit begin lists (omega (arith, long, used-is)) in record {
             said = used-is;
             kept =
                 l .stored

@@ -1,10 +1,6 @@
 -- The bytes kept in the index. Assumes nothing.
-use Prim.Native.Nat.{ℕ, zero, suc, _+_, _-_, _/_, _<_, _≤_, min}
-use lib.ListN.{length, take, getD, length-take, List·getD-eq-default}
-use mathlib.Core.{List.{List, [], _∷_, _++_}, Path.{_≡_, refl, sym, ap}}
-use native.Mathlib.Omega.{arith}
-use Rattle.writer.specs.inner.Stored.{Stored}
-use Rattle.writer.proofs.Stores.{Left, left-all, left-step}
+use Rattle.numbers.proofs.Prelude.{ℕ, zero, suc, _+_, _-_, _/_, _≤_, _<_, min, length, take, getD, length-take, List·getD-eq-default, List, [], _∷_, _++_, _≡_, refl, sym, ap, arith}
+use Rattle.writer.{proofs.Stores.{Left, left-all, left-step}, specs.inner.Stored.{Stored}}
 use Rattle.index.specs.Index.{fourAt, packedFrom, keptOf}
 
 -- past the end there is none
@@ -33,21 +29,16 @@ pub record Keeping (file : List ℕ) (size : ℕ) (before : List ℕ) (from : �
 
 module _ {file : List ℕ} {size : ℕ} {before : List ℕ} {from : ℕ} where
   pub keeping-starts : Keeping file size before from before from 0
-  keeping-starts =
-      let z : size + 3 - 0 ≡ size + 3 = omega arith in
-      record { within = omega arith; few = omega arith; left = rw z left-all }
+  keeping-starts = let z : size + 3 - 0 ≡ size + 3 = omega arith in record { within = omega arith; few = omega arith; left = rw z left-all }
 
   pub keeping-step : {now after : List ℕ} {at next place : ℕ} → Keeping file size before from now at place → place < size → Stored now at (fourAt (take size file) place ∷ []) after next
       → Keeping file size before from after next (place + 4)
-  keeping-step {place = place} g h s =
-      let whole = packed-step (take size file) size place h in
-      record {
-        within = omega arith;
-        few = omega (arith, s .place-after, g .few);
-        left = left-step (fourAt (take size file) place ∷ []) (rw whole at (g .left)) s;
-      }
+  keeping-step {place = place} g h s = let whole = packed-step (take size file) size place h in record {
+    within = omega arith;
+    few = omega (arith, s .place-after, g .few);
+    left = left-step (fourAt (take size file) place ∷ []) (rw whole at (g .left)) s;
+  }
 
   pub keeping-ends : {now : List ℕ} {at place : ℕ} → Keeping file size before from now at place → size ≤ place → Stored before from (keptOf file size) now at
-  keeping-ends {place = place} g h =
-      let l = rw (packed-done (take size file) size place h) at (g .left) in
+  keeping-ends {place = place} g h = let l = rw (packed-done (take size file) size place h) at (g .left) in
       record { place-after = omega (arith, l .places); stored = l .same }

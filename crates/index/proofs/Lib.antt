@@ -5,7 +5,6 @@ pub mod Keeping
 pub mod Listing
 pub mod Tabling
 pub mod Whole
-pub mod Opened
 pub mod Filling
 pub mod Meeting
 pub mod Complete
@@ -15,7 +14,6 @@ pub mod TableInOrder
 pub mod Refusing
 pub mod BuiltIsTied
 pub mod SameReading
-pub mod SameHead
 pub mod SameIndex
 pub mod TiedSame
 pub mod Numbering

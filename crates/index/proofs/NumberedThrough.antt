@@ -1,19 +1,12 @@
 -- Which numbers a lookup through an index can be refused with, whatever the words are. Assumes nothing.
-use Prim.Native.Nat.{ℕ, zero, suc, _+_, _-_, _/_}
-use lib.{Dec.{ltb, leb, eqb}, ListN.{length}}
-use mathlib.Core.{Bool.{Bool, true, false}, List.{List, [], _∷_, _++_}, Path.{_≡_, refl, sym, _∙_}}
-use Rattle.numbers.proofs.Tests.{differ}
+use Rattle.numbers.proofs.{Prelude.{ℕ, _/_, ltb, length, Bool, true, false, List, [], _∷_, _++_, _≡_, refl, sym, _∙_}, Refusals.{Listed, still-listed, either}, Replies.{NumberedReply, answers}}
+use Rattle.numbers.{proofs.{Replies.{refuses, then-reply, then-with, and-then, demands, number-of}, Tests.{differ}}, specs.{Reply.{Reply, refused, plain, _>>=_}, declared.refusal.Refusal.{Refusal}}}
 use Rattle.border.specs.declared.place.Point.{Point}
-use Rattle.verdict.{proofs.Numbered.{NumberedJudgement, judged, unjudged, not-judged, judged-numbered}, specs.Verdict.{Judgement}}
-use Rattle.numbers.proofs.{Refusals.{Listed, still-listed, either}, Replies.{NumberedReply, answers, refuses, then-reply, and-then, demands, number-of}}
-use Rattle.numbers.specs.{Reply.{Reply, given, refused, plain, _>>=_}, declared.refusal.Refusal.{Refusal}}
-use Rattle.header.proofs.{Numbered.{headerNumbers, text-numbered, head-numbered}, StrictHead.{head-strict}}
-use Rattle.header.specs.{Field.{field, fieldAt}, Header.{headOf}, Text.{bytesOf}, declared.header.Head.{Head}}
-use Rattle.table.specs.{Find.{fixOf, isPrecision}, GivenRows.{rowAt, rowsBy, searchedListed, matchedListed}, Hits.{width}, Rows.{Rows, row}}
-use Rattle.table.specs.{Search.{kindOf, judgedTurn, rowTurn, Found, afterTurn, judgeIn, farthest}, Table.{holds}, Unstopped.{seekAll}}
-use Rattle.table.specs.declared.{hits.Hit.{Hit}, location.Location.{Location}, rows.Row.{Row}, search.Turn.{the-variants.{On, Met, Stopped, Refused}, Turn}}
-use Rattle.zones.proofs.NumberedLookup.{lookupNumbers}
-use Rattle.zones.specs.{Fields.{fieldsPlace, fieldsFrom, fieldsOf}, Lent.{Outcome, repliedOf}, Lookup.{zonesListed}}
+use Rattle.verdict.{proofs.Numbered.{NumberedJudgement, judged-numbered}, specs.Verdict.{Judgement}}
+use Rattle.header.{proofs.{Numbered.{headerNumbers, head-numbered}, StrictHead.{head-strict}}, specs.{Header.{headOf}, declared.header.Head.{Head}}}
+use Rattle.table.specs.{Find.{fixOf, isPrecision}, GivenRows.{rowAt, rowsBy, searchedListed, matchedListed}, Hits.{width}, Rows.{Rows, row}, Search.{judgeIn, farthest}, Unstopped.{seekAll}}
+use Rattle.table.specs.declared.{hits.Hit.{Hit}, location.Location.{Location}, rows.Row.{Row}}
+use Rattle.zones.{proofs.NumberedLookup.{lookupNumbers, row-turn, after-turn, replied-numbered, fields}, specs.Lookup.{zonesListed}}
 use Rattle.index.specs.{Through.{isInside, placeOf, zonesThrough, lookedThrough, lookedIndexed}, Tied.{isHeaded, isTied, tiedWith}, Tiles.{tileOf}}
 use Rattle.table.specs.Rows as T
 
@@ -37,37 +30,12 @@ module _ (file : List ℕ) (head : Head) (words : List ℕ) where
 
   pub place-numbered : (location : Location) → Numbered (placeOf (length file) head words location)
   unfolding placeOf
-  place-numbered location =
-      let precision = head .preamble .precision in
-      and-then (demands (isPrecision precision) (plain 16) refl)
-      (and-then (demands (isHeaded words (head .sections .metadata) (length file)) (plain 36) refl)
+  place-numbered location = let precision = head .preamble .precision in
+      and-then (demands (isPrecision precision) (plain 16) refl) (and-then (demands (isHeaded words (head .sections .metadata) (length file)) (plain 36) refl)
       (and-then (demands (isInside words (tileOf precision (fixOf location precision))) (plain 36) refl) answers))
 
 -- ---- the search of given rows
-data NumberedTurn : Turn → Type 0 where
-  on : {least : ℕ} → NumberedTurn (On least)
-  met : {hit : Hit} {least : ℕ} → NumberedTurn (Met hit least)
-  ends : {mark least : ℕ} → NumberedTurn (Stopped mark least)
-  stops : {n : ℕ} → Known n → NumberedTurn (Refused n)
-
-judged-turn : (r : Row) {judgement : Judgement} → NumberedJudgement Known judgement → NumberedTurn (judgedTurn r judgement)
-unfolding judgedTurn
-judged-turn r (judged {v = verdict}) = either NumberedTurn (eqb (kindOf verdict) 0) on met
-judged-turn r unjudged = ends
-judged-turn r (not-judged h) = stops h
-
-after-turn : {turn : Turn} (hits : List Hit) (room : ℕ) {go : ℕ → List Hit → Reply Found} → NumberedTurn turn
-    → ((least : ℕ) (hits : List Hit) → Numbered (go least hits)) → Numbered (afterTurn turn hits room go)
-after-turn hits room (on {least}) k = k least hits
-after-turn hits room (met {hit} {least}) k = either Numbered (ltb (length hits) room) (k least (hits ++ hit ∷ [])) (refuses refl)
-after-turn hits room ends k = answers
-after-turn hits room (stops h) k = refuses h
-
 module _ (judge : ℕ → ℕ → Judgement) (fix : Point) (judges : (place least : ℕ) → NumberedJudgement Known (judge place least)) where
-  row-turn : (r : Row) (least : ℕ) → NumberedTurn (rowTurn judge fix r least)
-  unfolding rowTurn
-  row-turn r least = either NumberedTurn (holds (r .bounds) fix) (judged-turn r (judges (r .polygon) least)) on
-
   -- whatever the hits before them are, the search of these rows has a number of the list
   abbrev Sought : ℕ → Rows → Type 0
   Sought room rows = (least : ℕ) (hits : List Hit) → Numbered (seekAll judge fix room rows least hits)
@@ -77,9 +45,8 @@ module _ (judge : ℕ → ℕ → Judgement) (fix : Point) (judges : (place leas
   unfolding rowsBy seekAll
   seeks rowOf room records [] = λ least hits. answers
   seeks rowOf room records (k ∷ numbers) =
-      either (Sought room) (ltb k (length records / 7)) {a = row (rowOf records k) (rowsBy rowOf records numbers)} {b = T.refused 36}
-      (λ least hits. after-turn hits room (row-turn (rowOf records k) least) (seeks rowOf room records numbers))
-      (λ least hits. refuses refl)
+      either (Sought room) (ltb k (length records / 7)) {a = row (rowOf records k) (rowsBy rowOf records numbers)} {b = T.refused 36} (λ least hits. after-turn
+      refl hits room (row-turn judge fix judges (rowOf records k) least) (seeks rowOf room records numbers)) (λ least hits. refuses refl)
 
 -- ---- a file that was read plainly: no number of it is 31
 module _ (file : List ℕ) (head : Head) (plainly : head .strict ≡ false) where
@@ -88,47 +55,20 @@ module _ (file : List ℕ) (head : Head) (plainly : head .strict ≡ false) wher
 
   matches : (location : Location) (asked : Bool) (records numbers : List ℕ) (room : ℕ) → Numbered (matchedListed file head location asked records numbers room)
   unfolding matchedListed searchedListed
-  matches location asked records numbers room =
-      let fix = fixOf location (head .preamble .precision) in
+  matches location asked records numbers room = let fix = fixOf location (head .preamble .precision) in
       and-then (demands (isPrecision (head .preamble .precision)) (plain 16) refl)
       (then-reply (seeks (judgeIn file head fix asked) fix (λ place least. judged-numbered refl refl file _ cut _ _ _ asked least) rowAt room records numbers farthest []) (λ found. answers))
-
-  field-numbered : (metadata place tag room : ℕ) → Numbered (fieldAt (head .strict) file metadata place tag room)
-  unfolding fieldAt
-  field-numbered metadata place tag room =
-      then-reply (text-numbered refl refl (head .strict) cut file metadata place _ refl)
-      (λ text. and-then (demands (leb (length (field tag (bytesOf file text))) room) (plain 18) refl) answers)
-
-  fields-from : (room more tag place : ℕ) (text : List ℕ) → Numbered (fieldsFrom file head room more tag place text)
-  unfolding fieldsFrom
-  fields-from room zero tag place text = answers
-  fields-from room (suc more) tag place text =
-      then-reply (field-numbered (head .sections .metadata) place tag (room - length text)) (λ field. fields-from room more (tag + 1) (field .next) (text ++ field .bytes))
-
-  pub fields : (room : ℕ) (matches : List Hit) (text : List ℕ) → Numbered (fieldsOf file head room matches text)
-  unfolding fieldsOf
-  fields room [] text = answers
-  fields room (match ∷ matches) text = then-reply (fields-from room (head .preamble .count) 0 (fieldsPlace head (match .metadata)) text) (fields room matches)
 
   listed : (location : Location) (asked : Bool) (records numbers : List ℕ) (n room : ℕ) → Numbered (zonesListed file head location asked records numbers n room)
   unfolding zonesListed
   listed location asked records numbers n room =
-      then-reply (matches location asked records numbers (n / width)) (λ found. then-reply (fields room (found .matches) []) (λ text. answers))
+      then-reply (matches location asked records numbers (n / width)) (λ found. then-reply (fields refl refl refl refl file head cut room (found .matches) []) (λ text. answers))
 
   zones-numbered : (words : List ℕ) (location : Location) (asked : Bool) (n room : ℕ) → Numbered (zonesThrough file head words location asked n room)
   unfolding zonesThrough
   zones-numbered words location asked n room = then-reply (place-numbered file head words location) (λ place. listed location asked _ _ n room)
 
 -- ---- the lookups
-pub replied-numbered : {A : Type 0} (n room : ℕ) {reply : Reply (Outcome A)} → Numbered reply → Numbered (repliedOf n room reply .reply)
-unfolding repliedOf
-replied-numbered n room answers = answers
-replied-numbered n room (refuses h) = refuses h
-
-then-with : {A B : Type 0} {reply : Reply A} {next : A → Reply B} → Numbered reply → ((a : A) → reply ≡ given a → Numbered (next a)) → Numbered (reply >>= next)
-then-with answers k = k _ refl
-then-with (refuses h) k = refuses h
-
 -- the file is opened first, plainly
 pub opened : {B : Type 0} (file : List ℕ) (next : Head → Reply B) → ((head : Head) → head .strict ≡ false → Numbered (next head)) → Numbered (headOf file >>= next)
 opened file next k = then-with (head-numbered known false differ file) (λ head e. k head (head-strict false file e))
@@ -137,13 +77,10 @@ module _ (file words : List ℕ) (location : Location) (asked : Bool) (n room : 
   -- A lookup through an index that is not answered is refused with one of these, whatever the words are,
   pub through-refusals : lookedThrough file words location asked n room .reply ≡ refused why → Listed throughNumbers (why .number)
   unfolding lookedThrough
-  through-refusals =
-      number-of (replied-numbered n room (opened file _ (λ head plainly. zones-numbered file head plainly words location asked n room)))
+  through-refusals = number-of (replied-numbered n room (opened file _ (λ head plainly. zones-numbered file head plainly words location asked n room)))
 
   -- and so is one that compares header and table first.
   pub indexed-refusals : lookedIndexed file words location asked n room .reply ≡ refused why → Listed throughNumbers (why .number)
   unfolding lookedIndexed
   indexed-refusals =
-      number-of
-      (replied-numbered n room
-      (opened file _ (λ head plainly. and-then (tie-numbered file head words) (zones-numbered file head plainly words location asked n room))))
+      number-of (replied-numbered n room (opened file _ (λ head plainly. and-then (tie-numbered file head words) (zones-numbered file head plainly words location asked n room))))

@@ -1,47 +1,14 @@
 -- The rows of a table that can be indexed are numbered from 0 up, and their boxes have the coordinates of an i32. Assumes nothing.
-use Prim.Native.Nat.{ℕ, zero, suc, _+_, _-_, _%_, _^_, _<_}
-use borrow.Author.Tests.{ltb-true, ltb-false, lt-ltb, le-ltb}
-use lib.{Dec.{ltb}, IntN.{ℤ, pos, negsuc, _-ℤ_}}
-use mathlib.Core.{Bool.{Bool, true, false}, List.{List, [], _∷_}, Path.{_≡_, refl, sym, ap, subst}}
-use mir.{Syntax.{w32}, Val.{SFits, ofZ}}
-use native.Mathlib.Omega.{arith}
-use Rattle.numbers.proofs.{Answers.{found-one}, Replies.{given-from, demanded}}
-use Rattle.numbers.specs.{Answer.{Answer, found, if_then_else_}, Point.{low32, readI32, halfOf, signedOf}, Reply.{given, plain}, Varint.{Numeral, readingOf}}
-use Rattle.table.proofs.TableRows.{Grows, reading-grows, row-less}
-use Rattle.table.specs.{Ordered.{lowest}, Rows.{tableEnd, after, startAt, rowsThen, rowBy, rowsWithin, rowsFrom, rowsIn}, Table.{stepsBy, entryBy}}
+use Rattle.numbers.proofs.Prelude.{ℕ, zero, suc, _+_, _-_, _%_, _^_, _<_, ltb-true, ltb, ℤ, Bool, true, false, List, [], _∷_, _≡_, refl, sym, ap, subst, w32, SFits, arith}
+use Rattle.numbers.proofs.{Answers.{found-one, found-from}, Coordinates.{signed-fits}, Readings.{Grows, reading-grows}, Replies.{given-from, demanded, given-one}}
+use Rattle.numbers.specs.{Answer.{Answer, found, if_then_else_}, Reply.{given, plain}, Varint.{Numeral, readingOf}}
+use Rattle.table.{proofs.TableRows.{row-less}, specs.{Ordered.{lowest}, Rows.{tableEnd, after, startAt, rowsThen, rowBy, rowsWithin, rowsFrom, rowsIn}, Table.{stepsBy, entryBy}}}
 use Rattle.table.specs.declared.{rows.{Cursor.{Cursor}, Row.{Row}}, table.{Bounds.{Bounds}, Entry.{Entry}}}
 use Rattle.header.specs.declared.header.Head.{Head}
-use Rattle.index.proofs.SameReading.{found-from}
 use Rattle.index.specs.Table.{isNext, tableFrom, bottom, tableOf}
-use Rattle.numbers.proofs.Replies.{given-one}
 use Rattle.numbers.specs.Answer as A
 
 -- ---- coordinates
-below : (n : ℕ) → n < 2 ^ 32 → pos n -ℤ pos (2 ^ 32) ≡ negsuc (2 ^ 32 - 1 - n)
-below n h = rw (lt-ltb n (2 ^ 32) h) (ap negsuc (omega arith))
-
--- a coordinate is known by its bits
-pub read-back : (z : ℤ) → SFits w32 z → readI32 (ofZ w32 z) ≡ z
-read-back (pos n) h = rw (lt-ltb n (2 ^ 31) (h .sfits))
-read-back (negsuc n) h =
-    let m = 2 ^ 32 - suc n in
-    rw (le-ltb m (2 ^ 31) (omega (arith, h .sfits)), below m (omega arith)) (ap negsuc (omega (arith, h .sfits)))
-
-read-fits : (bits : ℕ) → bits < 2 ^ 32 → SFits w32 (readI32 bits)
-read-fits bits h = go (ltb bits (2 ^ 31)) refl
-  where
-    go : (test : Bool) → ltb bits (2 ^ 31) ≡ test → SFits w32 (if test then pos bits else (pos bits -ℤ pos (2 ^ 32)))
-    go true e = record { sfits = ltb-true bits (2 ^ 31) e }
-    go false e = rw (below bits h) (record { sfits = omega (arith, ltb-false bits (2 ^ 31) e, h) })
-
-low-small : (z : ℤ) → low32 z < 2 ^ 32
-low-small (pos n) = omega arith
-low-small (negsuc n) = omega arith
-
-signed-fits : (value : ℕ) → SFits w32 (signedOf value)
-unfolding signedOf
-signed-fits value = read-fits (low32 (halfOf value)) (low-small (halfOf value))
-
 -- the coordinates of a box
 pub record Fitting (b : Bounds) : Type 0 where
   pub south : SFits w32 (b .«min_lat» .0)
@@ -57,21 +24,15 @@ pub data Sound : ℕ → List Row → Type 0 where
 module _ (read : ℕ → Answer Numeral) (grows : Grows read) (end : ℕ) where
   entry-fits : (place : ℕ) {entry : Entry} → found entry ≡ entryBy read place → Fitting (entry .bounds)
   unfolding entryBy stepsBy
-  entry-fits place e =
-      let a = found-from (read place) _ e in
-      let b = found-from (read (a .it .place)) _ (a .onto) in
-      let c = found-from (read (b .it .place)) _ (b .onto) in
-      let d = found-from (read (c .it .place)) _ (c .onto) in
-      let m = found-from (read (d .it .place)) _ (d .onto) in
-      let p = found-from (read (m .it .place)) _ (m .onto) in
+  entry-fits place e = let a = found-from (read place) _ e in let b = found-from (read (a .it .place)) _ (a .onto) in
+      let c = found-from (read (b .it .place)) _ (b .onto) in let d = found-from (read (c .it .place)) _ (c .onto) in
+      let m = found-from (read (d .it .place)) _ (d .onto) in let p = found-from (read (m .it .place)) _ (m .onto) in
       let form = ap (λ (x : Entry). x .bounds) (found-one (p .onto)) in
       subst Fitting (sym form) (record { south = signed-fits (a .it .value); west = signed-fits (b .it .value); north = signed-fits (c .it .value); east = signed-fits (d .it .value) })
 
   row-sound : (at : Cursor) {r : Row} → found r ≡ rowBy read at → (r .id ≡ at .id) × Fitting (r .bounds)
   unfolding rowBy
-  row-sound at {r} e =
-      let entry = found-from (entryBy read (at .place)) _ e in
-      let form = found-one (entry .onto) in
+  row-sound at {r} e = let entry = found-from (entryBy read (at .place)) _ e in let form = found-one (entry .onto) in
       (ap (λ (x : Row). x .id) form, subst Fitting (sym (ap (λ (x : Row). x .bounds) form)) (entry-fits (at .place) (entry .is)))
 
   abbrev Sounds : ℕ → Type 0
@@ -80,12 +41,9 @@ module _ (read : ℕ → Answer Numeral) (grows : Grows read) (end : ℕ) where
   turned : (more : ℕ) → Sounds more → (at : Cursor) (floor : ℤ) {rows : List Row} (answer : Answer Row) → answer ≡ rowBy read at → at .place < end → at .id + (end - at .place) < 2 ^ 32
       → given rows ≡ tableFrom end floor (rowsThen answer (rowsWithin read more end)) → Sound (at .id) rows
   unfolding tableFrom rowsThen
-  turned more rest at floor {rows} (found r) s here few e =
-      let asked = demanded (isNext end floor r) (plain 34) e in
+  turned more rest at floor {rows} (found r) s here few e = let asked = demanded (isNext end floor r) (plain 34) e in
       let others = given-from (tableFrom end (lowest r) (rowsWithin read more end (after r))) (λ (rows : List Row). given (r ∷ rows)) (asked .1) in
-      let shape : rows ≡ r ∷ others .it = given-one (others .onto) in
-      let sound = row-sound at s in
-      let less = row-less read grows {end = end} at here s refl in
+      let shape : rows ≡ r ∷ others .it = given-one (others .onto) in let sound = row-sound at s in let less = row-less read grows {end = end} at here s refl in
       let number : (r .id + 1) % 2 ^ 32 ≡ at .id + 1 = omega (arith, sound .0, few, less) in
       let behind = rest (after r) (lowest r) (others .it) (omega (arith, number, few, less)) (others .is) in
       subst (Sound (at .id)) (sym shape) (one (sound .0) (sound .1) (subst (λ (k : ℕ). Sound k (others .it)) number behind))
@@ -94,11 +52,10 @@ module _ (read : ℕ → Answer Numeral) (grows : Grows read) (end : ℕ) where
 
   step : (more : ℕ) → Sounds more → Sounds (suc more)
   unfolding rowsWithin tableFrom
-  step more rest at floor rows few e = choose (ltb (at .place) end) refl e
-    where
-      choose : (test : Bool) → ltb (at .place) end ≡ test → given rows ≡ tableFrom end floor (if test then rowsThen (rowBy read at) (rowsWithin read more end) else tableEnd) → Sound (at .id) rows
-      choose true t e = turned more rest at floor (rowBy read at) refl (ltb-true (at .place) end t) few e
-      choose false t e = subst (Sound (at .id)) (sym (given-one e)) none
+  step more rest at floor rows few e = choose (ltb (at .place) end) refl e where
+    choose : (test : Bool) → ltb (at .place) end ≡ test → given rows ≡ tableFrom end floor (if test then rowsThen (rowBy read at) (rowsWithin read more end) else tableEnd) → Sound (at .id) rows
+    choose true t e = turned more rest at floor (rowBy read at) refl (ltb-true (at .place) end t) few e
+    choose false t e = subst (Sound (at .id)) (sym (given-one e)) none
 
   all-sound : (more : ℕ) → Sounds more
   unfolding rowsWithin tableFrom

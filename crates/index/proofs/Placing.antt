@@ -1,11 +1,9 @@
 -- Where a tile's list stands, by how far the tests came. Assumes nothing.
-use Prim.Native.Nat.{ℕ, _+_}
-use mathlib.Core.{Bool.{true, false}, List.{List}, Path.{_≡_, sym, ap, _∙_}}
+use Rattle.numbers.{proofs.{Prelude.{ℕ, _+_, true, false, List, _≡_, sym, ap, _∙_}, Replies.{met, unmet}}, specs.Reply.{given, refused, plain}}
 use Rattle.border.specs.declared.place.Point.{Point}
-use Rattle.numbers.{proofs.Replies.{met, unmet}, specs.Reply.{given, refused, plain}}
 use Rattle.table.specs.{Find.{fixOf, isPrecision}, declared.location.Location.{Location}}
 use Rattle.header.specs.declared.header.Head.{Head}
-use Rattle.index.specs.{Tied.{wordAt, isHeaded}, Through.{startOf, isInside, placeOf}, Tiles.{tileOf}}
+use Rattle.index.specs.{Through.{startOf, isInside, placeOf}, Tied.{wordAt, isHeaded}, Tiles.{tileOf}}
 
 -- the tile that was worked out is the location's
 pub tile-same : (head : Head) (location : Location) {fix : Point} {t : ℕ} → fix ≡ fixOf location (head .preamble .precision) → t ≡ tileOf (head .preamble .precision) fix
@@ -40,7 +38,6 @@ module _ (length : ℕ) (head : Head) (words : List ℕ) (location : Location) w
 
         pub stands : isInside words t ≡ true → {from end : ℕ} → from ≡ wordAt words (3 + t) → end ≡ wordAt words (3 + (t + 1)) →
             given (record { from = from; end = end }) ≡ placeOf length head words location
-        stands i {from} {end} f e =
-            let first : from ≡ startOf words tile = f ∙ ap (startOf words) same in
+        stands i {from} {end} f e = let first : from ≡ startOf words tile = f ∙ ap (startOf words) same in
             let last : end ≡ startOf words (tile + 1) = e ∙ ap (λ (k : ℕ). startOf words (k + 1)) same in
             (λ i. given (record { from = first i; end = last i })) ∙ placed (ap (isInside words) (sym same) ∙ i)

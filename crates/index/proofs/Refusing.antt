@@ -1,15 +1,10 @@
 -- Which numbers building and tying can be refused with, and that a refused building leaves zeros. Assumes nothing.
-use Prim.Native.Nat.{ℕ}
-use lib.{IntN.{ℤ}, ListN.{length}}
-use mathlib.Core.{Bool.{false}, List.{List, [], _∷_, _++_}, Path.{_≡_, refl}}
-use native.Mathlib.Omega.{arith}
-use Rattle.numbers.proofs.Tests.{differ}
-use Rattle.numbers.proofs.{Refusals.{Listed, still-listed}, Replies.{NumberedReply, answers, refuses, then-reply, and-then, demands, number-of}}
-use Rattle.numbers.specs.{Lists.{zeros}, Reply.{Reply, given, refused, plain}, declared.refusal.Refusal.{Refusal}}
+use Rattle.numbers.proofs.{Prelude.{ℕ, ℤ, length, false, List, [], _∷_, _++_, _≡_, refl, arith}, Refusals.{Listed, still-listed}, Replies.{NumberedReply, answers, refuses, then-reply, and-then}}
+use Rattle.numbers.{proofs.{Replies.{demands, number-of}, Tests.{differ}}, specs.{Lists.{zeros}, Reply.{Reply, given, refused, plain}, declared.refusal.Refusal.{Refusal}}}
 use Rattle.header.{proofs.Numbered.{headerNumbers, head-numbered}, specs.declared.header.Head.{Head}}
 use Rattle.table.specs.{Find.{isPrecision}, Ordered.{lowest}, Rows.{Rows, row, tableEnd, unreadable, rowsIn}}
-use Rattle.table.specs.Rows as T
 use Rattle.index.specs.{Index.{indexOf, hasRoom, indexWith, indexIn, indexedBy, indexedOf}, Table.{isNext, tableFrom, bottom, tableOf}, Tied.{isTied, tiedOf}}
+use Rattle.table.specs.Rows as T
 
 -- opening's, and: precision 16, table 34, room 35
 abbrev pub buildingNumbers : List ℕ
@@ -30,8 +25,7 @@ table-numbered end floor (T.refused n) = refuses refl
 words-numbered : (file : List ℕ) (head : Head) (room : ℕ) → NumberedReply (Listed buildingNumbers) (indexWith file head room)
 unfolding indexWith tableOf
 words-numbered file head room =
-    and-then (demands (isPrecision (head .preamble .precision)) (plain 16) refl)
-    (then-reply (table-numbered (head .sections .metadata) bottom (rowsIn file head))
+    and-then (demands (isPrecision (head .preamble .precision)) (plain 16) refl) (then-reply (table-numbered (head .sections .metadata) bottom (rowsIn file head))
     (λ rows. and-then (demands (hasRoom room (length (indexOf file head rows))) (plain 35) refl) answers))
 
 pub replied-numbered : (n : ℕ) {reply : Reply (List ℕ)} → NumberedReply (Listed buildingNumbers) reply → NumberedReply (Listed buildingNumbers) (indexedBy n reply .reply)
@@ -60,6 +54,5 @@ index-refusal-zeroes file n = no-words n (indexIn file n)
 pub tied-refusals : (file words : List ℕ) (why : Refusal) → tiedOf file words ≡ refused why → Listed tyingNumbers (why .number)
 unfolding tiedOf
 tied-refusals file words why =
-    number-of
-    (then-reply (head-numbered (still-listed headerNumbers (16 ∷ 36 ∷ [])) false differ file)
-    (λ head. and-then (demands (isPrecision (head .preamble .precision)) (plain 16) refl) (demands (isTied file head words) (plain 36) refl)))
+    number-of (then-reply (head-numbered (still-listed headerNumbers (16 ∷ 36 ∷ [])) false differ file) (λ head. and-then (demands (isPrecision (head .preamble .precision))
+    (plain 16) refl) (demands (isTied file head words) (plain 36) refl)))

@@ -1,7 +1,5 @@
 -- What the promises fix: two replies that one permits are equal, with all lent words; of the lookups `same-looked` of crate zones says it. Assumes nothing.
-use Prim.Native.Nat.{ℕ}
-use mathlib.Core.{List.{List}, Path.{_≡_, refl, sym, ap, _∙_}}
-use Rattle.numbers.specs.Reply.{Reply, given, refused}
+use Rattle.numbers.{proofs.Prelude.{ℕ, List, _≡_, refl, sym, ap, _∙_}, specs.Reply.{Reply, given, refused}}
 use Rattle.index.specs.{Index.{Indexed, indexed, toldBuilt}, Tied.{toldTied}, declared.{build.Built.{Built}, tied.Tied.{Tied}}}
 use Rattle.index.specs.declared.build.Built.the-variants as B
 use Rattle.index.specs.declared.tied.Tied.the-variants as T
@@ -25,8 +23,7 @@ tied-again T.Yes = refl
 tied-again (T.Refused why) = refl
 
 pub same-built : {promised : Indexed} (r r′ : Built) (ws ws′ : List ℕ) → indexed (toldBuilt r) ws ≡ promised → indexed (toldBuilt r′) ws′ ≡ promised → (r ≡ r′) × (ws ≡ ws′)
-same-built r r′ ws ws′ e e′ =
-    let same = e ∙ sym e′ in
+same-built r r′ ws ws′ e e′ = let same = e ∙ sym e′ in
     (sym (built-again r) ∙ ap (λ (x : Indexed). builtBack (x .reply)) same ∙ built-again r′, ap (λ (x : Indexed). x .words) same)
 
 pub same-tie : {promised : Reply (Unit {0})} (r r′ : Tied) → toldTied r ≡ promised → toldTied r′ ≡ promised → r ≡ r′

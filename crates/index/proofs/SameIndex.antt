@@ -1,14 +1,11 @@
 -- `same-index`: files with the same header, the same length and the same bytes up to the metadata have the same index. Assumes nothing.
-use Prim.Native.Nat.{ℕ, suc, _-_}
-use lib.{IntN.{ℤ}, ListN.{length, take}}
-use mathlib.Core.{Bool.{Bool, true, false}, List.{List, _∷_}, Path.{_≡_, refl, sym, ap, _∙_}}
-use Rattle.numbers.{proofs.Replies.{onward}, specs.{Reply.{Reply, given, refused, plain, demand, _>>=_, _>>_}, Varint.{readingOf}}}
-use Rattle.table.proofs.TableRows.{reading-grows}
+use Rattle.numbers.proofs.Prelude.{ℕ, suc, _-_, ℤ, length, take, Bool, true, false, List, _∷_, _≡_, refl, sym, ap, _∙_}
+use Rattle.numbers.{proofs.{ReadAlike.{reading-alike}, Readings.{reading-grows}, Replies.{onward, after}}, specs.{Reply.{Reply, given, refused, plain, demand, _>>=_, _>>_}, Varint.{readingOf}}}
 use Rattle.table.specs.{Find.{isPrecision}, Ordered.{lowest}, Rows.{Rows, row, tableEnd, unreadable, startAt, rowsFrom, rowsIn}, declared.rows.Row.{Row}}
 use Rattle.header.specs.{Header.{headOf}, declared.header.Head.{Head}}
-use Rattle.table.specs.Rows as T
-use Rattle.index.proofs.SameReading.{reading-alike, table-alike}
+use Rattle.index.proofs.SameReading.{table-alike}
 use Rattle.index.specs.{Index.{indexOf, hasRoom, indexWith, indexIn, indexedBy, indexedOf}, Table.{isNext, tableFrom, bottom, tableOf}}
+use Rattle.table.specs.Rows as T
 
 -- ---- a table is a list or 34
 pub data Settled : Reply (List Row) → Type 0 where
@@ -17,12 +14,11 @@ pub data Settled : Reply (List Row) → Type 0 where
 
 pub settled : (end : ℕ) (floor : ℤ) (table : Rows) → Settled (tableFrom end floor table)
 unfolding tableFrom
-settled end floor (row r table) = go (isNext end floor r) (settled end (lowest r) table)
-  where
-    go : (test : Bool) {reply : Reply (List Row)} → Settled reply → Settled (demand test (plain 34) >> (reply >>= λ rest. given (r ∷ rest)))
-    go true lists = lists
-    go true bad = bad
-    go false s = bad
+settled end floor (row r table) = go (isNext end floor r) (settled end (lowest r) table) where
+  go : (test : Bool) {reply : Reply (List Row)} → Settled reply → Settled (demand test (plain 34) >> (reply >>= λ rest. given (r ∷ rest)))
+  go true lists = lists
+  go true bad = bad
+  go false s = bad
 settled end floor tableEnd = lists
 settled end floor unreadable = bad
 settled end floor (T.refused n) = bad
@@ -41,10 +37,6 @@ module _ (file file′ : List ℕ) (head : Head) (long : length file ≡ length 
       (λ place number. reading-alike file file′ (head .sections .metadata) long bytes (head .strict) place {number = number})
       (suc (head .sections .metadata - head .sections .table)) (startAt (head .sections .table)) bottom rows e
 
-chosen-alike : {A B : Type 0} (reply : Reply A) (k k′ : A → Reply B) → ((a : A) → k a ≡ k′ a) → (reply >>= k) ≡ (reply >>= k′)
-chosen-alike (given a) k k′ e = e a
-chosen-alike (refused why) k k′ e = refl
-
 module _ (file file′ : List ℕ) (head : Head) (long : length file ≡ length file′) (bytes : take (head .sections .metadata) file ≡ take (head .sections .metadata) file′) where
   same-table : tableOf file head ≡ tableOf file′ head
   unfolding tableOf
@@ -58,11 +50,9 @@ module _ (file file′ : List ℕ) (head : Head) (long : length file ≡ length 
 
   same-with : (n : ℕ) → indexWith file head n ≡ indexWith file′ head n
   unfolding indexWith
-  same-with n =
-      let k : List ℕ → Reply (List ℕ) = λ words. demand (hasRoom n (length words)) (plain 35) >> given words in
+  same-with n = let k : List ℕ → Reply (List ℕ) = λ words. demand (hasRoom n (length words)) (plain 35) >> given words in
       let precise : Reply (List ℕ) → Reply (List ℕ) = λ reply. demand (isPrecision (head .preamble .precision)) (plain 16) >> reply in
-      ap (λ (table : Reply (List Row)). precise (table >>= λ rows. k (indexOf file head rows))) same-table
-      ∙ ap precise (chosen-alike (tableOf file′ head) (λ rows. k (indexOf file head rows)) (λ rows. k (indexOf file′ head rows)) (λ rows. ap k (same-words rows)))
+      ap (λ (table : Reply (List Row)). precise (table >>= λ rows. k (indexOf file head rows))) same-table ∙ ap precise (after (tableOf file′ head) (λ rows. ap k (same-words rows)))
 
   -- Two files that open with the same header, are of one length and have the same bytes up to the metadata have the same index, or the same refusal.
   pub same-index : given head ≡ headOf file → given head ≡ headOf file′ → (n : ℕ) → indexedOf file n ≡ indexedOf file′ n

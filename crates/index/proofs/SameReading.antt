@@ -1,129 +1,32 @@
--- Numbers, rows and tables that end inside bytes that two files share are the same in both. Assumes nothing.
-use Prim.Native.Nat.{ℕ, zero, suc, _+_, _-_, _*_, _%_, _<_, _≤_, min}
-use borrow.Author.Tests.{leb-true}
-use lib.{Dec.{leb, ltb}, IntN.{ℤ}, ListN.{length, take, drop, length-drop}, Signed.{leZ}}
-use mathlib.Core.{Bool.{Bool, true, false}, List.{List, [], _∷_}, Path.{_≡_, refl, ap, _∙_}}
-use native.Mathlib.Omega.{arith}
-use Rattle.numbers.proofs.{Answers.{found-one, not-failed, not-refused, All, goes}, Replies.{given-from, demanded, met, onward}}
-use Rattle.numbers.specs.{Answer.{Answer, found, if_then_else_, _>>=_}, Reply.{given, plain}}
-use Rattle.numbers.specs.Varint.{Numeral, isLast, valueOf, sizeOf, tooLong, forwardAt, isComplete, wholeOf, readingOf}
-use Rattle.table.{proofs.TableRows.{Grows}, specs.{Ordered.{lowest}, Rows.{tableEnd, after, rowsThen, rowBy, rowsWithin}, Table.{stepsBy, entryBy}}}
-use Rattle.table.specs.declared.{rows.{Cursor.{Cursor}, Row.{Row}}, table.Entry.{Entry}}
-use Rattle.numbers.proofs.Tests.{both}
+-- Rows and tables that end inside bytes that two files share are the same in both. Assumes nothing.
+use Rattle.numbers.proofs.{Answers.{found-one, found-from, all-found, goes}, Prelude.{ℕ, zero, suc, _≤_, _<_, leb-true, ltb, leb, ℤ, leZ, Bool, true, false, List, _∷_, _≡_, refl, ap, _∙_, arith}}
+use Rattle.numbers.{proofs.{Readings.{Grows}, Replies.{given-from, demanded, met, onward}, Tests.{both}}, specs.{Answer.{Answer, found, if_then_else_}, Reply.{given, plain}, Varint.{Numeral}}}
+use Rattle.table.specs.{Ordered.{lowest}, Rows.{tableEnd, after, rowsThen, rowBy, rowsWithin}, Table.{stepsBy, entryBy}, declared.{rows.{Cursor.{Cursor}, Row.{Row}}, table.Entry.{Entry}}}
 use Rattle.index.specs.Table.{isNext, tableFrom}
 use Rattle.numbers.specs.Answer as A
 
--- ---- a number, by its bytes
-number-alike : (m : ℕ) (bs bs′ : List ℕ) → take m bs ≡ take m bs′ → sizeOf bs ≤ m → (sizeOf bs ≡ sizeOf bs′) × (valueOf bs ≡ valueOf bs′)
-unfolding sizeOf valueOf
-number-alike zero [] bs′ e h = absurd (omega arith)
-number-alike zero (b ∷ bs) bs′ e h = absurd (omega arith)
-number-alike (suc m) [] [] e h = (refl, refl)
-number-alike (suc m) [] (b ∷ bs′) e h = let z : _≡_ {A = ℕ} 0 1 = cc in absurd (omega arith)
-number-alike (suc m) (b ∷ bs) [] e h = let z : _≡_ {A = ℕ} 0 1 = cc in absurd (omega arith)
-number-alike (suc m) (b ∷ bs) (b′ ∷ bs′) e h = rw first (go (isLast b′) (rw first at h) (number-alike m bs bs′ rest))
-  where
-    first : b ≡ b′
-    first = cc
-
-    rest : take m bs ≡ take m bs′
-    rest = cc
-
-    go : (last : Bool) → 1 + (if last then 0 else sizeOf bs) ≤ suc m → (sizeOf bs ≤ m → (sizeOf bs ≡ sizeOf bs′) × (valueOf bs ≡ valueOf bs′))
-        → (1 + (if last then 0 else sizeOf bs) ≡ 1 + (if last then 0 else sizeOf bs′)) × (b′ % 128 + 128 * (if last then 0 else valueOf bs) ≡ b′ % 128 + 128 * (if last then 0 else valueOf bs′))
-    go true h k = (refl, refl)
-    go false h k = let same = k (omega arith) in (rw (same .0), rw (same .1))
-
-behind : (place end : ℕ) (l l′ : List ℕ) → take end l ≡ take end l′ → take (end - place) (drop place l) ≡ take (end - place) (drop place l′)
-behind zero end l l′ e = let z : end - 0 ≡ end = omega arith in rw z e
-behind (suc place) zero l l′ e = let z : 0 - suc place ≡ 0 = omega arith in rw z
-behind (suc place) (suc end) [] [] e = refl
-behind (suc place) (suc end) [] (y ∷ l′) e = let z : _≡_ {A = ℕ} 0 1 = cc in absurd (omega arith)
-behind (suc place) (suc end) (x ∷ l) [] e = let z : _≡_ {A = ℕ} 0 1 = cc in absurd (omega arith)
-behind (suc place) (suc end) (x ∷ l) (y ∷ l′) e =
-    let z : suc end - suc place ≡ end - place = omega arith in
-    let rest : take end l ≡ take end l′ = cc in
-    rw z (behind place end l l′ rest)
-
-complete-one : {number m : Numeral} (test : Bool) → found number ≡ (if test then found m else A.refused 31) → (test ≡ true) × (number ≡ m)
-complete-one true e = (refl, found-one e)
-complete-one false e = let z : _≡_ {A = ℕ} 0 1 = cc in absurd (omega arith)
-
-module _ (file file′ : List ℕ) (end : ℕ) (long : length file ≡ length file′) (bytes : take end file ≡ take end file′) where
-  forward-alike : (place : ℕ) {number : Numeral} → found number ≡ forwardAt file place → number .place ≤ end → found number ≡ forwardAt file′ place
-  unfolding forwardAt tooLong
-  forward-alike place {number} e h =
-      let bs = drop place file in
-      let bs′ = drop place file′ in
-      let here = not-failed (ltb place (length file)) e in
-      let short = not-refused 12 (ltb 10 (min (sizeOf bs) (length bs))) (here .1) in
-      let ends : number .place ≡ place + sizeOf bs = ap (λ (n : Numeral). n .place) (found-one (short .1)) in
-      let same = number-alike (end - place) bs bs′ (behind place end file file′ bytes) (omega (arith, ends, h)) in
-      let size : length bs ≡ length bs′ = omega (arith, length-drop place file, length-drop place file′, long) in
-      rw (← long, ← size, ← (same .0), ← (same .1)) e
-
-  -- read strictly or not
-  pub reading-alike : (strict : Bool) (place : ℕ) {number : Numeral} → found number ≡ readingOf strict file place → number .place ≤ end → found number ≡ readingOf strict file′ place
-  unfolding readingOf wholeOf
-  reading-alike false place e h = forward-alike place e h
-  reading-alike true place {number} e h = go (forwardAt file place) refl e
-    where
-      go : (answer : Answer Numeral) → answer ≡ forwardAt file place → found number ≡ wholeOf file answer → found number ≡ wholeOf file′ (forwardAt file′ place)
-      go (found m) s e =
-          let parts = complete-one (isComplete file m) e in
-          let there = forward-alike place s (rw (parts .1) at h) in
-          let still : isComplete file′ m ≡ true = rw (← long) (parts .0) in
-          rw (← there, still, parts .1)
-      go A.failed s e = let z : _≡_ {A = ℕ} 0 1 = cc in absurd (omega arith)
-      go (A.refused n) s e = let z : _≡_ {A = ℕ} 0 1 = cc in absurd (omega arith)
-
 -- ---- rows
-pub record Found {A B : Type 0} (answer : Answer A) (next : A → Answer B) (b : B) : Type 0 where
-  pub it : A
-  pub is : found it ≡ answer
-  pub onto : found b ≡ next it
-
-pub found-from : {A B : Type 0} {b : B} (answer : Answer A) (next : A → Answer B) → found b ≡ (answer >>= next) → Found answer next b
-found-from (found a) next e = record { it = a; is = refl; onto = e }
-found-from A.failed next e = let z : _≡_ {A = ℕ} 0 1 = cc in absurd (omega arith)
-found-from (A.refused n) next e = let z : _≡_ {A = ℕ} 0 1 = cc in absurd (omega arith)
-
 module _ (read read′ : ℕ → Answer Numeral) (grows : Grows read) (end : ℕ) (same : (place : ℕ) (number : Numeral) → found number ≡ read place → number .place ≤ end → found number ≡ read′ place) where
   past : (place : ℕ) {number : Numeral} → found number ≡ read place → place < number .place
-  past place {number} e = go (read place) e (grows place)
-    where
-      go : (answer : Answer Numeral) → found number ≡ answer → All (λ (n : Numeral). place < n .place) answer → place < number .place
-      go (found m) e h = let s : number ≡ m = found-one e in rw s h
-      go A.failed e h = let z : _≡_ {A = ℕ} 0 1 = cc in absurd (omega arith)
-      go (A.refused n) e h = let z : _≡_ {A = ℕ} 0 1 = cc in absurd (omega arith)
+  past place e = all-found (λ (n : Numeral). place < n .place) (read place) e (grows place)
 
   entry-alike : (place : ℕ) {entry : Entry} → found entry ≡ entryBy read place → entry .next ≤ end → found entry ≡ entryBy read′ place
   unfolding entryBy stepsBy
-  entry-alike place {entry} e h =
-      let a = found-from (read place) _ e in
-      let b = found-from (read (a .it .place)) _ (a .onto) in
-      let c = found-from (read (b .it .place)) _ (b .onto) in
-      let d = found-from (read (c .it .place)) _ (c .onto) in
-      let m = found-from (read (d .it .place)) _ (d .onto) in
-      let p = found-from (read (m .it .place)) _ (m .onto) in
+  entry-alike place {entry} e h = let a = found-from (read place) _ e in let b = found-from (read (a .it .place)) _ (a .onto) in
+      let c = found-from (read (b .it .place)) _ (b .onto) in let d = found-from (read (c .it .place)) _ (c .onto) in
+      let m = found-from (read (d .it .place)) _ (d .onto) in let p = found-from (read (m .it .place)) _ (m .onto) in
       let p-in : p .it .place ≤ end = omega (arith, h, ap (λ (x : Entry). x .next) (found-one (p .onto))) in
       let m-in : m .it .place ≤ end = omega (arith, p-in, past (m .it .place) (p .is)) in
       let d-in : d .it .place ≤ end = omega (arith, m-in, past (d .it .place) (m .is)) in
       let c-in : c .it .place ≤ end = omega (arith, d-in, past (c .it .place) (d .is)) in
       let b-in : b .it .place ≤ end = omega (arith, c-in, past (b .it .place) (c .is)) in
       let a-in : a .it .place ≤ end = omega (arith, b-in, past (a .it .place) (b .is)) in
-      p .onto
-      ∙ goes (same (m .it .place) (p .it) (p .is) p-in) _
-      ∙ goes (same (d .it .place) (m .it) (m .is) m-in) _
-      ∙ goes (same (c .it .place) (d .it) (d .is) d-in) _
-      ∙ goes (same (b .it .place) (c .it) (c .is) c-in) _
-      ∙ goes (same (a .it .place) (b .it) (b .is) b-in) _
-      ∙ goes (same place (a .it) (a .is) a-in) _
+      p .onto ∙ goes (same (m .it .place) (p .it) (p .is) p-in) _ ∙ goes (same (d .it .place) (m .it) (m .is) m-in) _ ∙ goes (same (c .it .place) (d .it) (d .is) d-in) _
+      ∙ goes (same (b .it .place) (c .it) (c .is) c-in) _ ∙ goes (same (a .it .place) (b .it) (b .is) b-in) _ ∙ goes (same place (a .it) (a .is) a-in) _
 
   row-alike : (at : Cursor) {r : Row} → found r ≡ rowBy read at → r .next ≤ end → found r ≡ rowBy read′ at
   unfolding rowBy
-  row-alike at {r} e h =
-      let entry = found-from (entryBy read (at .place)) _ e in
+  row-alike at {r} e h = let entry = found-from (entryBy read (at .place)) _ e in
       let ends : r .next ≡ entry .it .next = ap (λ (x : Row). x .next) (found-one (entry .onto)) in
       entry .onto ∙ goes (entry-alike (at .place) (entry .is) (omega (arith, ends, h))) _
 
@@ -134,26 +37,21 @@ module _ (read read′ : ℕ → Answer Numeral) (grows : Grows read) (end : ℕ
   turned : (more : ℕ) → Same more → (at : Cursor) (floor : ℤ) {rows : List Row} (answer : Answer Row) → answer ≡ rowBy read at
       → given rows ≡ tableFrom end floor (rowsThen answer (rowsWithin read more end)) → given rows ≡ tableFrom end floor (rowsThen (rowBy read′ at) (rowsWithin read′ more end))
   unfolding tableFrom rowsThen
-  turned more rest at floor (found r) s e =
-      let asked = demanded (isNext end floor r) (plain 34) e in
-      let inside = leb-true (r .next) end (both (leb (r .next) end) (leZ floor (lowest r)) (asked .0) .0) in
-      let here = row-alike at s inside in
+  turned more rest at floor (found r) s e = let asked = demanded (isNext end floor r) (plain 34) e in
+      let inside = leb-true (r .next) end (both (leb (r .next) end) (leZ floor (lowest r)) (asked .0) .0) in let here = row-alike at s inside in
       let others = given-from (tableFrom end (lowest r) (rowsWithin read more end (after r))) (λ (rows : List Row). given (r ∷ rows)) (asked .1) in
-      others .onto
-      ∙ onward (rest (after r) (lowest r) (others .it) (others .is)) (λ (rows : List Row). given (r ∷ rows))
-      ∙ met (asked .0) (plain 34) _
+      others .onto ∙ onward (rest (after r) (lowest r) (others .it) (others .is)) (λ (rows : List Row). given (r ∷ rows)) ∙ met (asked .0) (plain 34) _
       ∙ ap (λ (a : Answer Row). tableFrom end floor (rowsThen a (rowsWithin read′ more end))) here
   turned more rest at floor A.failed s e = let z : _≡_ {A = ℕ} 0 1 = cc in absurd (omega arith)
   turned more rest at floor (A.refused n) s e = let z : _≡_ {A = ℕ} 0 1 = cc in absurd (omega arith)
 
   step : (more : ℕ) → Same more → Same (suc more)
   unfolding rowsWithin
-  step more rest at floor rows e = choose (ltb (at .place) end) e
-    where
-      choose : (test : Bool) → given rows ≡ tableFrom end floor (if test then rowsThen (rowBy read at) (rowsWithin read more end) else tableEnd)
-          → given rows ≡ tableFrom end floor (if test then rowsThen (rowBy read′ at) (rowsWithin read′ more end) else tableEnd)
-      choose true e = turned more rest at floor (rowBy read at) refl e
-      choose false e = e
+  step more rest at floor rows e = choose (ltb (at .place) end) e where
+    choose : (test : Bool) → given rows ≡ tableFrom end floor (if test then rowsThen (rowBy read at) (rowsWithin read more end) else tableEnd)
+        → given rows ≡ tableFrom end floor (if test then rowsThen (rowBy read′ at) (rowsWithin read′ more end) else tableEnd)
+    choose true e = turned more rest at floor (rowBy read at) refl e
+    choose false e = e
 
   pub table-alike : (more : ℕ) → Same more
   unfolding rowsWithin

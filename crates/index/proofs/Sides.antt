@@ -1,8 +1,7 @@
 -- Sizes of tiles. Assumes nothing.
-use Prim.Native.Nat.{ℕ, _+_, _*_, _-_, _/_, _^_, _≤_, _<_, min}
-use lib.Pow.{pow-pos, pow-mono, shl-lt}
-use mathlib.Core.{Bool.{Bool, true, false, _&&_}, Path.{_≡_, sym, ap, _∙_}}
-use native.Mathlib.{Nat.{lt-of-lt-of-le, zero-div}, Omega.{arith}}
+use Rattle.numbers.proofs.Prelude.{ℕ, _+_, _-_, _*_, _/_, _^_, _≤_, _<_, min, pow-pos, pow-mono, Bool, true, false, _&&_, _≡_, sym, ap, _∙_, lt-of-lt-of-le, arith}
+use lib.Pow.{shl-lt}
+use native.Mathlib.Nat.{zero-div}
 use Rattle.index.specs.Tiles.{tileAlong}
 
 pub half-small : (precision : ℕ) → precision ≤ 32 → 2 ^ (precision - 1) ≤ 2 ^ 31
@@ -24,8 +23,7 @@ second-least a b h = omega arith
 
 pub before-grid : (power precision x : ℕ) → x < 2 ^ 31 - 2 ^ (precision - 1) → 0 ≡ tileAlong power precision x
 unfolding tileAlong
-before-grid power precision x h =
-    let z : x - (2 ^ 31 - 2 ^ (precision - 1)) ≡ 0 = omega (arith, h) in
+before-grid power precision x h = let z : x - (2 ^ 31 - 2 ^ (precision - 1)) ≡ 0 = omega (arith, h) in
     second-least (2 ^ power - 1) 0 (omega arith) ∙ ap (min (2 ^ power - 1)) (sym (ap (λ (d : ℕ). d / 2 ^ (precision - power)) z ∙ zero-div (2 ^ (precision - power))))
 
 module _ (power precision x : ℕ) {half many more : ℕ} (h : half ≡ 2 ^ (precision - 1)) (m : many ≡ 2 ^ power) (k : more ≡ precision - power) where

@@ -1,11 +1,8 @@
 -- Words that go into a lent buffer one after another, and stores that do not meet. Assumes nothing.
-use Prim.Native.Nat.{ℕ, suc, _+_, _<_, _≤_}
-use lib.{ListN.{length, set, drop, getD, length-replicate}, Seq.{sets, sets-eq, set-comm, getD-set-other}}
-use mathlib.Core.{List.{List, [], _∷_, _++_}, Path.{_≡_, refl, sym, ap, subst, _∙_}}
-use native.Mathlib.Omega.{arith}
-use Rattle.writer.specs.inner.Stored.{Stored}
+use Rattle.numbers.proofs.Prelude.{ℕ, suc, _+_, _≤_, _<_, length, drop, getD, set, length-replicate, sets, sets-eq, getD-set-other, List, [], _∷_, _++_, _≡_, refl, sym, ap, subst, _∙_, arith}
 use Rattle.numbers.{proofs.Lists.{zeros-drop}, specs.Lists.{zeros, padded}}
-use Rattle.writer.proofs.Stores.{Left}
+use lib.Seq.{set-comm}
+use Rattle.writer.{proofs.Stores.{Left}, specs.inner.Stored.{Stored}}
 
 -- ---- stores that do not meet
 -- a word before others
@@ -31,9 +28,7 @@ left-below {before} {all} {now} {rest} {from} {at} l h i k = sym (read-below res
 
 -- ---- over zeros
 pub over-zeros : (n : ℕ) (xs : List ℕ) → length xs ≤ n → sets (zeros n) 0 xs ≡ padded n xs
-over-zeros n xs h =
-    let z : 0 + length xs ≡ length xs = omega arith in
-    let l : length (zeros n) ≡ n = length-replicate {A = ℕ} n 0 in
+over-zeros n xs h = let z : 0 + length xs ≡ length xs = omega arith in let l : length (zeros n) ≡ n = length-replicate {A = ℕ} n 0 in
     sets-eq xs (zeros n) 0 (omega (arith, l)) ∙ ap (λ (k : ℕ). xs ++ drop k (zeros n)) z ∙ ap (λ (r : List ℕ). xs ++ r) (zeros-drop (length xs) n)
 
 -- a word by another name

@@ -1,26 +1,16 @@
 -- The table as it goes into the index, row by row; and that it is in order. Assumes nothing.
-use Prim.Native.Nat.{ℕ, _+_, _*_, _-_, _^_, _<_, _≤_}
-use borrow.Author.Tests.{ltb-true, ltb-false, lt-leb, le-leb}
-use lib.{IntN.{ℤ, pos, negsuc}, ListN.{length, length-append}, Seq.{sets, append-snoc}, Signed.{ltZ, leZ}}
-use mathlib.Core.{Bool.{Bool, true, false}, List.{List, [], _∷_, _++_, append-nil, append-assoc}, Path.{_≡_, refl, sym, ap, _∙_}}
-use native.Mathlib.Omega.{arith}
+use Rattle.numbers.proofs.{Answers.{found-one}, Lists.{sets-append}, Prelude.{ℕ, _+_, _-_, _*_, _^_, _≤_, _<_, le-leb, ltb-false, ℤ, pos, negsuc, length, length-append, sets, ltZ, leZ, Bool, true}}
+use Rattle.numbers.{proofs.{Prelude.{false, List, [], _∷_, _++_, append-assoc, append-nil, _≡_, refl, sym, ap, _∙_, arith}, Readings.{reading-grows}}, specs.{Answer.{Answer, found}, Reply.{Reply}}}
+use Rattle.numbers.specs.{Reply.{given, refused, plain, demand, _>>=_, _>>_}, Varint.{readingOf}}
+use lib.Seq.{append-snoc}
 use Rattle.writer.specs.inner.Stored.{Stored}
-use Rattle.numbers.{proofs.Answers.{found-one}, specs.{Answer.{Answer, found}, Reply.{Reply, given, refused, plain, demand, _>>=_, _>>_}, Varint.{readingOf}}}
-use Rattle.numbers.specs.Answer as A
-use Rattle.table.proofs.TableRows.{reading-grows, at-end, at-row, at-unreadable, at-refused, row-less}
-use Rattle.table.specs.{Ordered.{lowest}, Rows.{Rows, rowOf, after, startAt, rowBy, rowsFrom, rowsIn}, Table.{entryBy}}
-use Rattle.table.specs.declared.{table.Entry.{Entry}, rows.{Cursor.{Cursor}, Row.{Row}}}
+use Rattle.table.{proofs.TableRows.{at-end, at-row, at-unreadable, at-refused, row-less}, specs.{Ordered.{lowest}, Rows.{Rows, rowOf, after, startAt, rowBy, rowsFrom, rowsIn}, Table.{entryBy}}}
+use Rattle.table.specs.declared.{rows.{Cursor.{Cursor}, Row.{Row}}, table.Entry.{Entry}}
 use Rattle.header.specs.declared.header.Head.{Head}
-use Rattle.writer.proofs.Stores.{sets-append}
-use Rattle.index.specs.{inner.Building.{Recorded}, Index.{recordOf, recordsAt, recordsOf}, Table.{isNext, tableFrom, bottom, tableOf}}
+use Rattle.index.specs.{Index.{recordOf, recordsAt, recordsOf}, Table.{isNext, tableFrom, bottom, tableOf}, inner.Building.{Recorded}}
+use Rattle.numbers.specs.Answer as A
 
 -- ---- order
-pub above-not : (a b : ℤ) → ltZ a b ≡ true → leZ b a ≡ false
-above-not (pos a) (pos b) h = lt-leb b a (ltb-true a b h)
-above-not (pos a) (negsuc b) h = let z : _≡_ {A = ℕ} 0 1 = cc in absurd (omega arith)
-above-not (negsuc a) (pos b) h = refl
-above-not (negsuc a) (negsuc b) h = lt-leb a b (ltb-true b a h)
-
 pub above-so : (a b : ℤ) → ltZ a b ≡ false → leZ b a ≡ true
 above-so (pos a) (pos b) h = le-leb b a (ltb-false a b h)
 above-so (pos a) (negsuc b) h = refl
@@ -50,12 +40,11 @@ bind-snoc done r (refused why) = refl
 -- a row's place is its cursor's
 pub row-place : (strict : Bool) (file : List ℕ) (at : Cursor) {r : Row} → found r ≡ rowBy (readingOf strict file) at → r .place ≡ at .place
 unfolding rowBy
-row-place strict file at {r} e = go (entryBy (readingOf strict file) (at .place)) e
-  where
-    go : (answer : Answer Entry) → found r ≡ (A._>>=_ answer (λ entry. found (rowOf at entry))) → r .place ≡ at .place
-    go (found entry) e = ap (λ (x : Row). x .place) (found-one e)
-    go A.failed e = let z : _≡_ {A = ℕ} 0 1 = cc in absurd (omega arith)
-    go (A.refused n) e = let z : _≡_ {A = ℕ} 0 1 = cc in absurd (omega arith)
+row-place strict file at {r} e = go (entryBy (readingOf strict file) (at .place)) e where
+  go : (answer : Answer Entry) → found r ≡ (A._>>=_ answer (λ entry. found (rowOf at entry))) → r .place ≡ at .place
+  go (found entry) e = ap (λ (x : Row). x .place) (found-one e)
+  go A.failed e = let z : _≡_ {A = ℕ} 0 1 = cc in absurd (omega arith)
+  go (A.refused n) e = let z : _≡_ {A = ℕ} 0 1 = cc in absurd (omega arith)
 
 -- ---- the loop over the rows
 module _ (strict : Bool) (file : List ℕ) (end : ℕ) (start : Cursor) (bottom : ℤ) (before : List ℕ) where
@@ -115,10 +104,8 @@ module _ (strict : Bool) (file : List ℕ) (end : ℕ) (start : Cursor) (bottom 
 
         pub tabling-next : {next : Cursor} {after′ : List ℕ} {place′ : ℕ} → isNext end floor r ≡ true → next ≡ after r → Stored now place (recordOf r) after′ place′ →
             Tabling after′ next (lowest r) place′ (n + 1)
-        tabling-next {next} {after′} {place′} is m s =
-            let long = records-length (g .done) in
-            let at-place : place ≡ recordsAt + length (recordsOf (g .done)) = omega (arith, g .here, g .counted, long) in
-            record {
+        tabling-next {next} {after′} {place′} is m s = let long = records-length (g .done) in
+            let at-place : place ≡ recordsAt + length (recordsOf (g .done)) = omega (arith, g .here, g .counted, long) in record {
               done = g .done ++ (r ∷ []);
               counted = omega (arith, g .counted, length-append (g .done) (r ∷ []));
               few = omega (arith, g .few, tabling-less m);

@@ -1,15 +1,9 @@
 -- The rows that a tile's list leaves out do not hold a fix of that tile. Assumes nothing.
-use Prim.Native.Nat.{ℕ, _+_, _*_, _/_, _<_, _≤_}
-use borrow.Author.Tests.{lt-ltb}
-use lib.{Dec.{ltb}, ListN.{length, getD}, Seq.{getD-append-add}}
-use mathlib.Core.{Bool.{Bool, true, false}, List.{List, _∷_, _++_}, Path.{_≡_, refl, sym, ap, _∙_}}
-use mir.{Syntax.{w32}, Val.{SFits}}
-use native.Mathlib.Omega.{arith}
+use Rattle.numbers.proofs.Prelude.{ℕ, _+_, _*_, _/_, _≤_, _<_, lt-ltb, ltb, length, getD, getD-append-add, Bool, true, false, List, _∷_, _++_, _≡_, refl, sym, ap, _∙_, w32, SFits, arith}
+use Rattle.numbers.{proofs.Coordinates.{read-back}, specs.{Answer.{if_then_else_}, Point.{readI32}}}
 use Rattle.border.specs.declared.place.Point.{Point}
-use Rattle.numbers.specs.{Answer.{if_then_else_}, Point.{readI32}}
-use Rattle.table.specs.{GivenRows.{rowAt, rowsBy, rowsListed}, Ordered.{followedAt, Thinned, done, kept, left}, Rows.{row}, Table.{holds}, declared.rows.Row.{Row}}
-use Rattle.index.proofs.{Complete.{holding-meets}, Numbering.{read-back, Fitting, Sound, none, one}, Tabling.{records-length}}
-use Rattle.table.specs.Rows.{asRows}
+use Rattle.table.specs.{GivenRows.{rowAt, rowsBy, rowsListed}, Ordered.{followedAt, Thinned, done, kept, left}, Rows.{row, asRows}, Table.{holds}, declared.rows.Row.{Row}}
+use Rattle.index.proofs.{Complete.{holding-meets}, Numbering.{Fitting, Sound, none, one}, Tabling.{records-length}}
 use Rattle.index.specs.{Index.{recordOf, recordsOf, listFrom, listOf}, Tiles.{wordOf, tileOf, tileAt, meets}, declared.tiles.Tile.{Tile}}
 
 module _ (precision : ℕ) (fix : Point) (flat : SFits w32 (fix .lat .0)) (flon : SFits w32 (fix .lon .0)) (records : List ℕ) where
@@ -21,13 +15,12 @@ module _ (precision : ℕ) (fix : Point) (flat : SFits w32 (fix .lat .0)) (flon 
 
   -- a box that does not meet the tile does not hold the fix
   not-met : (r : Row) → Fitting (r .bounds) → isIn r ≡ false → holds (r .bounds) fix ≡ false
-  not-met r f out = go (holds (r .bounds) fix) refl
-    where
-      go : (test : Bool) → holds (r .bounds) fix ≡ test → test ≡ false
-      go false e = refl
-      go true e =
-          let met = holding-meets precision fix (r .bounds) (record { south = f .south; west = f .west; north = f .north; east = f .east; lat = flat; lon = flon }) e in
-          sym met ∙ out
+  not-met r f out = go (holds (r .bounds) fix) refl where
+    go : (test : Bool) → holds (r .bounds) fix ≡ test → test ≡ false
+    go false e = refl
+    go true e =
+        let met = holding-meets precision fix (r .bounds) (record { south = f .south; west = f .west; north = f .north; east = f .east; lat = flat; lon = flon }) e in
+        sym met ∙ out
 
   -- the records of these rows stand from a number on, and end with the last
   record Standing (rows : List Row) (k : ℕ) : Type 0 where
@@ -48,9 +41,7 @@ module _ (precision : ℕ) (fix : Point) (flat : SFits w32 (fix .lat .0)) (flon 
   unfolding recordsOf
   record-row r rows k s number f =
       let word : (i : ℕ) → i < 7 → getD records (7 * k + i) 0 ≡ getD (recordOf r ++ recordsOf rows) i 0 = λ i l. s .there i (omega (arith, l)) in
-      let place = word 0 (omega arith) in
-      let metadata = word 1 (omega arith) in
-      let polygon = word 2 (omega arith) in
+      let place = word 0 (omega arith) in let metadata = word 1 (omega arith) in let polygon = word 2 (omega arith) in
       let south = ap readI32 (word 3 (omega arith)) ∙ read-back (r .bounds .«min_lat» .0) (f .south) in
       let west = ap readI32 (word 4 (omega arith)) ∙ read-back (r .bounds .«min_lon» .0) (f .west) in
       let north = ap readI32 (word 5 (omega arith)) ∙ read-back (r .bounds .«max_lat» .0) (f .north) in
@@ -67,14 +58,12 @@ module _ (precision : ℕ) (fix : Point) (flat : SFits w32 (fix .lat .0)) (flon 
   thinned-from : (k : ℕ) {rows : List Row} → Sound k rows → Standing rows k → Thinned fix (asRows rows) (rowsListed records (listFrom tile k rows))
   unfolding asRows rowsBy listFrom
   thinned-from k none s = done
-  thinned-from k (one {r = r} {rows = rows} number f later) s = choose (isIn r) refl (thinned-from (k + 1) later (standing-rest r rows k s))
-    where
-      choose : (test : Bool) → isIn r ≡ test → Thinned fix (asRows rows) (rowsListed records (listFrom tile (k + 1) rows))
-          → Thinned fix (row r (asRows rows)) (rowsListed records (if test then k ∷ listFrom tile (k + 1) rows else listFrom tile (k + 1) rows))
-      choose true e rest =
-          let small : ltb k (length records / 7) ≡ true = lt-ltb k (length records / 7) (omega (arith, s .room)) in
-          rw (small, record-row r rows k s number f) (kept 0 rest)
-      choose false e rest = left (not-met r f e) rest
+  thinned-from k (one {r = r} {rows = rows} number f later) s = choose (isIn r) refl (thinned-from (k + 1) later (standing-rest r rows k s)) where
+    choose : (test : Bool) → isIn r ≡ test → Thinned fix (asRows rows) (rowsListed records (listFrom tile (k + 1) rows))
+        → Thinned fix (row r (asRows rows)) (rowsListed records (if test then k ∷ listFrom tile (k + 1) rows else listFrom tile (k + 1) rows))
+    choose true e rest = let small : ltb k (length records / 7) ≡ true = lt-ltb k (length records / 7) (omega (arith, s .room)) in
+        rw (small, record-row r rows k s number f) (kept 0 rest)
+    choose false e rest = left (not-met r f e) rest
 
 -- The rows that a tile's list has of a table that can be indexed: those left out do not hold a fix of the tile.
 pub thinned : (precision : ℕ) (fix : Point) → SFits w32 (fix .lat .0) → SFits w32 (fix .lon .0) → {rows : List Row} → Sound 0 rows

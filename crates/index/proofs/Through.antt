@@ -1,35 +1,24 @@
 -- Lookups through an index, by how far the code came. Assumes nothing.
-use Prim.Native.Nat.{ℕ, _+_, _*_, _≤_}
-use borrow.Author.Tests.{leb-true}
-use lib.{Dec.{leb}, ListN.{length}}
-use mathlib.Core.{Bool.{Bool, _&&_}, List.{List}, Path.{_≡_, ap, _∙_}}
-use native.Mathlib.Omega.{arith}
+use Rattle.numbers.proofs.Prelude.{ℕ, _+_, _*_, _≤_, leb-true, leb, length, Bool, _&&_, List, _≡_, ap, _∙_, arith}
+use Rattle.numbers.{proofs.{Replies.{carried, onward, demanded, given-one}, Tests.{both}}, specs.{Lists.{zeros}, Reply.{Reply, given, refused, plain, _>>_}, declared.refusal.Refusal.{Refusal}}}
 use Rattle.header.specs.{Header.{headOf}, declared.header.Head.{Head}}
-use Rattle.numbers.{proofs.Replies.{carried, onward, demanded}, specs.{Lists.{zeros}, Reply.{Reply, given, refused, plain, _>>_}, declared.refusal.Refusal.{Refusal}}}
 use Rattle.table.specs.{Find.{fixOf, isPrecision}, declared.location.Location.{Location}}
 use Rattle.zones.specs.{Lent.{Outcome, replied, repliedOf}, Lookup.{zonesListed, lookedListed}, declared.lookup.Zones.{Zones}}
-use Rattle.numbers.proofs.{Tests.{both}, Replies.{given-one}}
 use Rattle.index.proofs.Tying.{begin-inside, end-inside}
-use Rattle.index.specs.{Index.{tiles, recordsAt}, Through.{startOf, isInside, placeOf, recordsIn, numbersIn, zonesThrough, lookedThrough, lookedIndexed}}
-use Rattle.index.specs.{Tied.{wordAt, isHeaded, tiedWith}, Tiles.{tileOf}, declared.place.Place.{Place}}
+use Rattle.index.specs.{Index.{tiles, recordsAt}, Through.{startOf, isInside, placeOf, recordsIn, numbersIn, zonesThrough, lookedThrough, lookedIndexed}, Tied.{wordAt, isHeaded, tiedWith}}
+use Rattle.index.specs.{Tiles.{tileOf}, declared.place.Place.{Place}}
 
 -- ---- a list that stands, stands inside the words, and so do the records
 pub place-inside : (long : ℕ) (head : Head) (words : List ℕ) (location : Location) {place : Place} → given place ≡ placeOf long head words location
     → (recordsAt ≤ length words) × (recordsAt + 7 * wordAt words 2 ≤ length words) × (place .from ≤ place .end) × (place .end ≤ length words)
 unfolding placeOf
-place-inside long head words location {place} e =
-    let precision = head .preamble .precision in
-    let size = head .sections .metadata in
-    let tile = tileOf precision (fixOf location precision) in
-    let a = demanded (isPrecision precision) (plain 16) e in
-    let b = demanded (isHeaded words size long) (plain 36) (a .1) in
-    let c = demanded (isInside words tile) (plain 36) (b .1) in
-    let begin = begin-inside words size long (b .0) in
-    let end = end-inside words size long (b .0) in
+place-inside long head words location {place} e = let precision = head .preamble .precision in let size = head .sections .metadata in
+    let tile = tileOf precision (fixOf location precision) in let a = demanded (isPrecision precision) (plain 16) e in
+    let b = demanded (isHeaded words size long) (plain 36) (a .1) in let c = demanded (isInside words tile) (plain 36) (b .1) in
+    let begin = begin-inside words size long (b .0) in let end = end-inside words size long (b .0) in
     let first = both (leb (startOf words 0) (startOf words tile)) (leb (startOf words tile) (startOf words (tile + 1)) && leb (startOf words (tile + 1)) (startOf words tiles)) (c .0) in
     let second = both (leb (startOf words tile) (startOf words (tile + 1))) (leb (startOf words (tile + 1)) (startOf words tiles)) (first .1) in
-    let form = given-one (c .1) in
-    let from : place .from ≡ startOf words tile = ap (λ (p : Place). p .from) form in
+    let form = given-one (c .1) in let from : place .from ≡ startOf words tile = ap (λ (p : Place). p .from) form in
     let to : place .end ≡ startOf words (tile + 1) = ap (λ (p : Place). p .end) form in (
       begin .0,
       omega (arith, begin .1),

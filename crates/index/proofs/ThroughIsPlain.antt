@@ -1,19 +1,13 @@
 -- `through-is-plain`, `indexed-is-plain`: a lookup through an index that building gave is the plain lookup. Assumes nothing.
-use Prim.Native.Nat.{ℕ, _-_, _/_}
-use lib.ListN.{length}
-use mathlib.Core.{Bool.{Bool, true}, List.{List, [], _++_}, Path.{_≡_, refl, sym, ap, _∙_}}
-use mir.{Syntax.{w32}, Val.{SFits}}
+use Rattle.numbers.{proofs.{Laws.{cut32-fits}, Prelude.{ℕ, _-_, _/_, length, Bool, true, List, [], _++_, _≡_, refl, sym, ap, _∙_, w32, SFits}, Replies.{given-from, onward}}, specs.Float.{fixedPoint}}
+use Rattle.numbers.specs.{Lists.{zeros}, Reply.{Reply, given, refused, plain, demand, _>>=_, _>>_}, declared.refusal.Refusal.{Refusal}}
 use Rattle.border.specs.declared.place.Point.{Point}
-use Rattle.header.specs.{Header.{headOf}, declared.header.Head.{Head}}
-use Rattle.numbers.proofs.{Laws.{cut32-fits}, Replies.{given-from, onward}}
-use Rattle.numbers.specs.{Float.{fixedPoint}, Lists.{zeros}, Reply.{Reply, given, refused, plain, demand, _>>=_, _>>_}, declared.refusal.Refusal.{Refusal}}
-use Rattle.table.proofs.InOrder.{early-stop-loses-nothing, rows-left-out}
-use Rattle.table.specs.{Find.{fixOf, isPrecision, Matched, matchedWith}, GivenRows.{searchedListed, matchedListed}, Hits.{width}, Merge.{merged}}
-use Rattle.table.specs.{Rows.{Rows}, Search.{Found, judgeIn, farthest, searched}, Unstopped.{seekAll}, declared.{location.Location.{Location}, rows.Row.{Row}}}
+use Rattle.header.{proofs.SameHead.{same-head, metadata-small}, specs.{Header.{headOf}, declared.header.Head.{Head}}}
+use Rattle.table.{proofs.InOrder.{early-stop-loses-nothing, rows-left-out}, specs.{Find.{fixOf, isPrecision, Matched, matchedWith}, GivenRows.{searchedListed, matchedListed}, Hits.{width}}}
+use Rattle.table.specs.{Merge.{merged}, Rows.{Rows}, Search.{Found, judgeIn, farthest, searched}, Unstopped.{seekAll}, declared.{location.Location.{Location}, rows.Row.{Row}}}
 use Rattle.zones.{proofs.RefusalZeroes.{both-zero}, specs.{Lent.{repliedOf}, Lookup.{zonesFrom, zonesWith, zonesIn, zonesListed, lookedUp}}}
-use Rattle.index.proofs.{BuiltIsTied.{index-is-tied}, LaidOut.{records-there, list-stands, list-of-tile}, Numbering.{table-sound}}
-use Rattle.index.proofs.{SameHead.{same-head, metadata-small}, SameIndex.{same-index}, TableInOrder.{table-in-order}, Thinning.{thinned}}
-use Rattle.index.proofs.{Through.{through-opened, indexed-tied}, TiedSame.{built-from, tied-same}, Tying.{with-so}}
+use Rattle.index.proofs.{BuiltIsTied.{index-is-tied}, LaidOut.{records-there, list-stands, list-of-tile}, Numbering.{table-sound}, SameIndex.{same-index}, TableInOrder.{table-in-order}}
+use Rattle.index.proofs.{Thinning.{thinned}, Through.{through-opened, indexed-tied}, TiedSame.{built-from, tied-same}, Tying.{with-so}}
 use Rattle.index.specs.{Complete.{Bytes, SameFront}, Index.{recordsOf, listOf, indexOf, Indexed, indexedOf}, Table.{tableOf}}
 use Rattle.index.specs.{Through.{recordsIn, numbersIn, zonesThrough, lookedThrough, lookedIndexed}, Tied.{tiedWith, tiedOf}, Tiles.{tileOf}, declared.place.Place.{Place}}
 
@@ -44,13 +38,9 @@ module _ (file : List ℕ) (head : Head) (rows : List Row) (rest : List ℕ) (op
   -- the search of the tile's list finds what that of the table finds
   same-search : (room : ℕ) → searchedListed file head fix asked (recordsOf rows) numbers room ≡ searched file head fix asked room
   unfolding searchedListed searched
-  same-search room =
-      let order = table-in-order file head listed in
-      let sound = table-sound file head (metadata-small _ file opened) listed in
+  same-search room = let order = table-in-order file head listed in let sound = table-sound file head (metadata-small _ file opened) listed in
       let judge = judgeIn file head fix asked in
-      sym
-      (early-stop-loses-nothing (head .sections .metadata) fix judge room (order .1) farthest []
-      ∙ ap (λ (table : Rows). seekAll judge fix room table farthest []) (order .0)
+      sym (early-stop-loses-nothing (head .sections .metadata) fix judge room (order .1) farthest [] ∙ ap (λ (table : Rows). seekAll judge fix room table farthest []) (order .0)
       ∙ rows-left-out judge fix room (thinned precision fix (lat-fits location precision) (lon-fits location precision) sound) farthest [])
 
   pub same-matched : (room : ℕ) → matchedListed file head location asked (recordsOf rows) numbers room ≡ matchedWith file head location asked room
@@ -84,14 +74,12 @@ module _ (file : List ℕ) (lent : ℕ) {used : ℕ} (e : indexedOf file lent .r
   given-words = indexedOf file lent .words
 
   pub own-through : lookedThrough file given-words location asked n room ≡ lookedUp file location asked n room
-  own-through =
-      let b = built-from file lent e in
+  own-through = let b = built-from file lent e in
       ap (λ (w : List ℕ). lookedThrough file w location asked n room) (b .whole) ∙
       through-plainly file (b .head) (b .rows) (zeros (lent - length (indexOf file (b .head) (b .rows)))) (b .opened) (b .precise) (b .listed) location asked n room
 
   pub own-indexed : lookedIndexed file given-words location asked n room ≡ lookedUp file location asked n room
-  own-indexed =
-      let b = built-from file lent e in
+  own-indexed = let b = built-from file lent e in
       ap (λ (w : List ℕ). lookedIndexed file w location asked n room) (b .whole) ∙
       indexed-plainly file (b .head) (b .rows) (zeros (lent - length (indexOf file (b .head) (b .rows)))) (b .opened) (b .precise) (b .listed) location asked n room
 
@@ -99,8 +87,7 @@ module _ (file : List ℕ) (lent : ℕ) {used : ℕ} (e : indexedOf file lent .r
 module _ (file file′ : List ℕ) (lent : ℕ) {used : ℕ} (e : indexedOf file lent .reply ≡ given used) {head head′ : Head} (opened : given head ≡ headOf file) (opened′ : given head′ ≡ headOf file′)
     (same : SameFront (head .sections .metadata) file file′) where
   index-there : indexedOf file lent ≡ indexedOf file′ lent
-  index-there =
-      let one : head ≡ head′ = same-head _ file file′ opened opened′ (same .long) (same .bytes) in
+  index-there = let one : head ≡ head′ = same-head _ file file′ opened opened′ (same .long) (same .bytes) in
       same-index file file′ head (same .long) (same .bytes) opened (ap given one ∙ opened′) lent
 
   given-there : indexedOf file′ lent .reply ≡ given used
@@ -120,9 +107,7 @@ module _ (file file′ : List ℕ) (lent : ℕ) {used : ℕ} (e : indexedOf file
 pub through-is-plain : (file file′ : List ℕ) (lent : ℕ) {used : ℕ} → indexedOf file lent .reply ≡ given used → Bytes file → Bytes file′ → given tt ≡ tiedOf file′ (indexedOf file lent .words)
     → (location : Location) (asked : Bool) (n room : ℕ) → lookedThrough file′ (indexedOf file lent .words) location asked n room ≡ lookedUp file′ location asked n room
 unfolding tiedOf
-through-is-plain file file′ lent e bytes bytes′ tied =
-    let b = built-from file lent e in
-    let there = given-from (headOf file′) _ tied in
+through-is-plain file file′ lent e bytes bytes′ tied = let b = built-from file lent e in let there = given-from (headOf file′) _ tied in
     alike-through file file′ lent e (b .opened) (there .is) (tied-same file file′ lent e (b .opened) (there .is) bytes bytes′ tied)
 
 -- Every file shares its own front: an index of the file itself is one of these.

@@ -1,13 +1,8 @@
 -- Words held against a file. Assumes nothing.
-use Prim.Native.Nat.{ℕ, suc, _+_, _-_, _/_, _<_, _≤_}
-use borrow.Author.Tests.{leb-true, lt-leb, le-leb, eq-eqb, ne-eqb}
-use lib.{Dec.{leb, eqb}, ListN.{length}}
-use mathlib.Core.{Bool.{Bool, true, false, _&&_}, List.{List}, Path.{_≡_, sym, ap, _∙_}}
-use native.Mathlib.Omega.{arith}
-use Rattle.numbers.{proofs.Replies.{carried, onward, met, unmet}, specs.{Answer.{if_then_else_}, Reply.{given, refused, plain, demand}, declared.refusal.Refusal.{Refusal}}}
+use Rattle.numbers.proofs.Prelude.{ℕ, suc, _+_, _-_, _/_, _≤_, _<_, eq-eqb, ne-eqb, le-leb, leb-true, lt-leb, eqb, leb, length, Bool, true, false, _&&_, List, _≡_, sym, ap, _∙_, arith}
+use Rattle.numbers.{proofs.{Replies.{carried, onward, met, unmet}, Tests.{both}}, specs.{Answer.{if_then_else_}, Reply.{given, refused, plain, demand}, declared.refusal.Refusal.{Refusal}}}
 use Rattle.table.specs.Find.{isPrecision}
 use Rattle.header.specs.{Header.{headOf}, declared.header.Head.{Head}}
-use Rattle.numbers.proofs.Tests.{both}
 use Rattle.index.specs.{Index.{fourAt, wordsFor, recordsAt}, Tied.{wordAt, beginOf, isHeaded, keepsFrom, isTied, tiedWith, tiedOf}}
 
 -- ---- the head
@@ -47,34 +42,19 @@ module _ (words : List ℕ) (size n : ℕ) where
           )
 
 first-and-fifth : (a b c d e f : Bool) → (a && (b && (c && (d && (e && f))))) ≡ true → (a ≡ true) × (e ≡ true)
-first-and-fifth a b c d e f h =
-    let one = both a (b && (c && (d && (e && f)))) h in
-    let two = both b (c && (d && (e && f))) (one .1) in
-    let three = both c (d && (e && f)) (two .1) in
-    let four = both d (e && f) (three .1) in
-    (one .0, both e f (four .1) .0)
+first-and-fifth a b c d e f h = let one = both a (b && (c && (d && (e && f)))) h in
+    (one .0, both e f (both d (e && f) (both c (d && (e && f)) (both b (c && (d && (e && f))) (one .1) .1) .1) .1) .0)
 
 -- what a head that goes with a file says of the room
 pub begin-inside : (words : List ℕ) (size n : ℕ) → isHeaded words size n ≡ true → (recordsAt ≤ length words) × (beginOf words size ≤ length words)
 begin-inside words size n h =
-    let parts =
-    first-and-fifth
-    (leb recordsAt (length words))
-    (eqb (wordAt words 0) n)
-    (eqb (wordAt words 1) size)
-    (eqb (wordAt words 3) (beginOf words size))
-    (leb (beginOf words size) (length words))
-    (leb (wordAt words 2051) (length words))
-    h in
-    (leb-true _ _ (parts .0), leb-true _ _ (parts .1))
+    let parts = first-and-fifth (leb recordsAt (length words)) (eqb (wordAt words 0) n) (eqb (wordAt words 1) size) (eqb (wordAt words 3) (beginOf words size))
+    (leb (beginOf words size) (length words)) (leb (wordAt words 2051) (length words)) h in (leb-true _ _ (parts .0), leb-true _ _ (parts .1))
 
 -- the lists end inside
 pub end-inside : (words : List ℕ) (size n : ℕ) → isHeaded words size n ≡ true → wordAt words 2051 ≤ length words
-end-inside words size n h =
-    let one = both (leb recordsAt (length words)) _ h in
-    let two = both (eqb (wordAt words 0) n) _ (one .1) in
-    let three = both (eqb (wordAt words 1) size) _ (two .1) in
-    let four = both (eqb (wordAt words 3) (beginOf words size)) _ (three .1) in
+end-inside words size n h = let one = both (leb recordsAt (length words)) _ h in
+    let four = both (eqb (wordAt words 3) (beginOf words size)) _ (both (eqb (wordAt words 1) size) _ (both (eqb (wordAt words 0) n) _ (one .1) .1) .1) in
     leb-true (wordAt words 2051) (length words) (both (leb (beginOf words size) (length words)) (leb (wordAt words 2051) (length words)) (four .1) .1)
 
 -- ---- the loop over the kept bytes
@@ -88,9 +68,7 @@ module _ (words : List ℕ) (from : ℕ) (bytes : List ℕ) (size : ℕ) where
     pub same : whole ≡ keepsFrom words at bytes ((size + 3 - place) / 4) place
 
   pub comparing-starts : Comparing from 0
-  comparing-starts =
-      let z : size + 3 - 0 ≡ size + 3 = omega arith in
-      record { within = omega arith; places = omega arith; same = rw z }
+  comparing-starts = let z : size + 3 - 0 ≡ size + 3 = omega arith in record { within = omega arith; places = omega arith; same = rw z }
 
   module _ {at place : ℕ} (g : Comparing at place) where
     pub comparing-ends : size ≤ place → true ≡ whole

@@ -1,27 +1,20 @@
 -- The index as a whole: its lists are those of the rows, and its parts stand one after the other. Assumes nothing.
-use Prim.Native.Nat.{ℕ, zero, suc, _+_, _*_, _-_, _%_, _^_, _<_, _≤_}
-use borrow.Author.Tests.{le-leb, lt-leb, lt-ltb, le-ltb}
-use lib.{Dec.{leb}, ListN.{length, set, take, getD, length-append}, Seq.{sets, length-sets, getD-set-same, getD-append-add}}
-use mathlib.Core.{Bool.{Bool, true, false, _&&_}, List.{List, [], _∷_, _++_, map, append-assoc}, Path.{_≡_, refl, sym, ap, _∙_}}
-use native.Mathlib.Omega.{arith}
-use Rattle.numbers.{proofs.Replies.{carried, onward, met, unmet}, specs.{Answer.{if_then_else_}, Reply.{given, refused, plain}, declared.refusal.Refusal.{Refusal}}}
+use Rattle.numbers.proofs.Prelude.{ℕ, zero, suc, _+_, _*_, _%_, _^_, _≤_, _<_, lt-ltb, le-leb, le-ltb, lt-leb, leb, length, take, getD, set, length-append, sets, length-sets, getD-append-add}
+use Rattle.numbers.proofs.Prelude.{getD-set-same, Bool, true, false, _&&_, List, [], _∷_, _++_, map, append-assoc, _≡_, refl, sym, ap, _∙_, arith}
+use Rattle.numbers.{proofs.{Lists.{sets-append}, Replies.{carried, onward, met, unmet}}, specs.{Answer.{if_then_else_}, Reply.{given, refused, plain}, declared.refusal.Refusal.{Refusal}}}
 use Rattle.table.specs.{Find.{isPrecision}, declared.rows.Row.{Row}}
 use Rattle.header.specs.declared.header.Head.{Head}
 use Rattle.index.proofs.{Keeping.{packed-length}, Stores.{sets-before, read-below}, Tabling.{records-length}}
-use Rattle.writer.proofs.Stores.{sets-append}
-use Rattle.index.specs.inner.Building.{isMetIn, listIn, listsIn, low}
-use Rattle.index.specs.Index.{recordOf, recordsOf, wordsFor, keptOf, listFrom, listsFrom, joined, startsFrom, tiles, recordsAt, listsAt, indexOf, hasRoom, indexWith}
-use Rattle.index.specs.{Table.{tableOf}, Tiles.{wordOf, tileAt, meets}, declared.tiles.Tile.{Tile}}
+use Rattle.index.specs.{Index.{recordOf, recordsOf, wordsFor, keptOf, listFrom, listsFrom, joined, startsFrom, tiles, recordsAt, listsAt, indexOf, hasRoom, indexWith}, Table.{tableOf}}
+use Rattle.index.specs.{Tiles.{wordOf, tileAt, meets}, declared.tiles.Tile.{Tile}, inner.Building.{isMetIn, listIn, listsIn, low}}
+use mathlib.Core.Bool.{and-false}
 
 -- ---- what was stored can be read
 pub read-stored : (vs l : List ℕ) (i k d : ℕ) → k < length vs → i + length vs ≤ length l → getD (sets l i vs) (i + k) d ≡ getD vs k d
 read-stored [] l i k d h room = absurd (omega arith)
-read-stored (v ∷ vs) l i zero d h room =
-    let e : i + 0 ≡ i = omega arith in
+read-stored (v ∷ vs) l i zero d h room = let e : i + 0 ≡ i = omega arith in
     ap (λ (j : ℕ). getD (sets (set l i v) (suc i) vs) j d) e ∙ read-below vs (set l i v) (suc i) i d (omega arith) ∙ getD-set-same l i v d (omega arith)
-read-stored (v ∷ vs) l i (suc k) d h room =
-    let e : i + suc k ≡ suc i + k = omega arith in
-    let size = length-sets l i (v ∷ []) in
+read-stored (v ∷ vs) l i (suc k) d h room = let e : i + suc k ≡ suc i + k = omega arith in let size = length-sets l i (v ∷ []) in
     ap (λ (j : ℕ). getD (sets (set l i v) (suc i) vs) j d) e ∙ read-stored vs (set l i v) (suc i) k d (omega arith) (omega (arith, size))
 
 -- ---- a tile's list by the records is that of the rows
@@ -32,33 +25,28 @@ module _ (words : List ℕ) where
 
   pub holds-rest : (r : Row) (rows : List Row) (k : ℕ) → Holds (r ∷ rows) k → Holds rows (k + 1)
   unfolding recordsOf
-  holds-rest r rows k h i l =
-      let e : recordsAt + 7 * (k + 1) + i ≡ recordsAt + 7 * k + (7 + i) = omega arith in
+  holds-rest r rows k h i l = let e : recordsAt + 7 * (k + 1) + i ≡ recordsAt + 7 * k + (7 + i) = omega arith in
       ap (λ (j : ℕ). getD words j 0) e ∙ h (7 + i) (omega arith) ∙ getD-append-add (recordOf r) (recordsOf rows) i 0
 
   pub list-of-rows : (tile : Tile) (rows : List Row) (k : ℕ) → Holds rows k → listIn words tile (length rows) k ≡ listFrom tile k rows
   unfolding listIn listFrom recordsOf
   list-of-rows tile [] k h = refl
-  list-of-rows tile (r ∷ rows) k h = go (list-of-rows tile rows (k + 1) (holds-rest r rows k h))
-    where
-      same : isMetIn words tile k ≡ meets tile (wordOf (r .bounds .«min_lat» .0)) (wordOf (r .bounds .«min_lon» .0)) (wordOf (r .bounds .«max_lat» .0)) (wordOf (r .bounds .«max_lon» .0))
-      same = rw (h 3 (omega arith), h 4 (omega arith), h 5 (omega arith), h 6 (omega arith))
+  list-of-rows tile (r ∷ rows) k h = go (list-of-rows tile rows (k + 1) (holds-rest r rows k h)) where
+    same : isMetIn words tile k ≡ meets tile (wordOf (r .bounds .«min_lat» .0)) (wordOf (r .bounds .«min_lon» .0)) (wordOf (r .bounds .«max_lat» .0)) (wordOf (r .bounds .«max_lon» .0))
+    same = rw (h 3 (omega arith), h 4 (omega arith), h 5 (omega arith), h 6 (omega arith))
 
-      go : listIn words tile (length rows) (k + 1) ≡ listFrom tile (k + 1) rows
-          → (if isMetIn words tile k then k ∷ listIn words tile (length rows) (k + 1) else listIn words tile (length rows) (k + 1))
-          ≡ (if meets tile (wordOf (r .bounds .«min_lat» .0)) (wordOf (r .bounds .«min_lon» .0)) (wordOf (r .bounds .«max_lat» .0)) (wordOf (r .bounds .«max_lon» .0))
-          then k ∷ listFrom tile (k + 1) rows
-          else listFrom tile (k + 1) rows)
-      go e = rw (same, e)
+    go : listIn words tile (length rows) (k + 1) ≡ listFrom tile (k + 1) rows → (if isMetIn words tile k then k ∷ listIn words tile (length rows)
+        (k + 1) else listIn words tile (length rows) (k + 1)) ≡ (if meets tile (wordOf (r .bounds .«min_lat» .0)) (wordOf (r .bounds .«min_lon» .0))
+        (wordOf (r .bounds .«max_lat» .0)) (wordOf (r .bounds .«max_lon» .0)) then k ∷ listFrom tile (k + 1) rows else listFrom tile (k + 1) rows)
+    go e = rw (same, e)
 
   pub lists-of-rows : (precision : ℕ) (rows : List Row) (more t : ℕ) → Holds rows 0 → listsIn words precision (length rows) more t ≡ listsFrom precision rows more t
   unfolding listsIn listsFrom
   lists-of-rows precision rows zero t h = refl
-  lists-of-rows precision rows (suc more) t h = go (lists-of-rows precision rows more (t + 1) h)
-    where
-      go : listsIn words precision (length rows) more (t + 1) ≡ listsFrom precision rows more (t + 1)
-          → listIn words (tileAt precision t) (length rows) 0 ∷ listsIn words precision (length rows) more (t + 1) ≡ listFrom (tileAt precision t) 0 rows ∷ listsFrom precision rows more (t + 1)
-      go e = rw (list-of-rows (tileAt precision t) rows 0 h, e)
+  lists-of-rows precision rows (suc more) t h = go (lists-of-rows precision rows more (t + 1) h) where
+    go : listsIn words precision (length rows) more (t + 1) ≡ listsFrom precision rows more (t + 1)
+        → listIn words (tileAt precision t) (length rows) 0 ∷ listsIn words precision (length rows) more (t + 1) ≡ listFrom (tileAt precision t) 0 rows ∷ listsFrom precision rows more (t + 1)
+    go e = rw (list-of-rows (tileAt precision t) rows 0 h, e)
 
 -- ---- lengths
 pub lists-length : (precision : ℕ) (rows : List Row) (more t : ℕ) → length (listsFrom precision rows more t) ≡ more
@@ -75,43 +63,32 @@ starts-length at (list ∷ lists) = omega (arith, starts-length (at + length lis
 pub starts-fit : (at : ℕ) (lists : List (List ℕ)) → at + length (joined lists) < 2 ^ 32 → map low (startsFrom at lists) ≡ startsFrom at lists
 unfolding startsFrom joined
 starts-fit at [] h = let e : at % 2 ^ 32 ≡ at = omega arith in rw e
-starts-fit at (list ∷ lists) h = go (starts-fit (at + length list) lists (omega (arith, length-append list (joined lists))))
-  where
-    e : at % 2 ^ 32 ≡ at
-    e = omega (arith, length-append list (joined lists))
+starts-fit at (list ∷ lists) h = go (starts-fit (at + length list) lists (omega (arith, length-append list (joined lists)))) where
+  e : at % 2 ^ 32 ≡ at
+  e = omega (arith, length-append list (joined lists))
 
-    go : map low (startsFrom (at + length list) lists) ≡ startsFrom (at + length list) lists → (at % 2 ^ 32) ∷ map low (startsFrom (at + length list) lists) ≡ at ∷ startsFrom (at + length list) lists
-    go s = rw (e, s)
+  go : map low (startsFrom (at + length list) lists) ≡ startsFrom (at + length list) lists → (at % 2 ^ 32) ∷ map low (startsFrom (at + length list) lists) ≡ at ∷ startsFrom (at + length list) lists
+  go s = rw (e, s)
 
 -- ---- five parts that were stored in another order
 pub laid : (z a b c d e : List ℕ) (k l : ℕ) → length a ≡ 3 → length b ≡ 2049 → k ≡ recordsAt + length c → l ≡ k + length d
     → sets (sets (sets (sets (sets z recordsAt c) k d) 0 a) l e) 3 b ≡ sets z 0 (a ++ (b ++ (c ++ (d ++ e))))
-laid z a b c d e k l la lb lk ll =
-    let cd = c ++ d in
+laid z a b c d e k l la lb lk ll = let cd = c ++ d in
     let joint : sets (sets z recordsAt c) k d ≡ sets z recordsAt cd = ap (λ (n : ℕ). sets (sets z recordsAt c) n d) lk ∙ sym (sets-append c d z recordsAt) in
     let first : sets (sets z recordsAt cd) 0 a ≡ sets (sets z 0 a) recordsAt cd = sets-before a cd z 0 recordsAt (omega (arith, la)) in
     let end : l ≡ recordsAt + length cd = omega (arith, ll, lk, length-append c d) in
-    let last : sets (sets (sets z 0 a) recordsAt cd) l e ≡ sets (sets z 0 a) recordsAt (cd ++ e) =
-    ap (λ (n : ℕ). sets (sets (sets z 0 a) recordsAt cd) n e) end ∙ sym (sets-append cd e (sets z 0 a) recordsAt) in
+    let last : sets (sets (sets z 0 a) recordsAt cd) l e ≡ sets (sets z 0 a) recordsAt (cd ++ e) = ap (λ (n : ℕ). sets (sets (sets z 0 a) recordsAt cd) n e) end
+    ∙ sym (sets-append cd e (sets z 0 a) recordsAt) in
     let places : sets (sets (sets z 0 a) recordsAt (cd ++ e)) 3 b ≡ sets (sets (sets z 0 a) 3 b) recordsAt (cd ++ e) = sets-before b (cd ++ e) (sets z 0 a) 3 recordsAt (omega (arith, lb)) in
     let three : 3 ≡ 0 + length a = omega (arith, la) in
     let ab : sets (sets z 0 a) 3 b ≡ sets z 0 (a ++ b) = ap (λ (n : ℕ). sets (sets z 0 a) n b) three ∙ sym (sets-append a b z 0) in
     let head : recordsAt ≡ 0 + length (a ++ b) = omega (arith, la, lb, length-append a b) in
     let all : sets (sets z 0 (a ++ b)) recordsAt (cd ++ e) ≡ sets z 0 ((a ++ b) ++ (cd ++ e)) = ap (λ (n : ℕ). sets (sets z 0 (a ++ b)) n (cd ++ e)) head ∙ sym (sets-append (a ++ b) (cd ++ e) z 0) in
     let shape : (a ++ b) ++ (cd ++ e) ≡ a ++ (b ++ (c ++ (d ++ e))) = append-assoc a b (cd ++ e) ∙ ap (λ (x : List ℕ). a ++ (b ++ x)) (append-assoc c d e) in
-    ap (λ (m : List ℕ). sets (sets (sets m 0 a) l e) 3 b) joint
-    ∙ ap (λ (m : List ℕ). sets (sets m l e) 3 b) first
-    ∙ ap (λ (m : List ℕ). sets m 3 b) last
-    ∙ places
-    ∙ ap (λ (m : List ℕ). sets m recordsAt (cd ++ e)) ab
-    ∙ all
-    ∙ ap (λ (x : List ℕ). sets z 0 x) shape
+    ap (λ (m : List ℕ). sets (sets (sets m 0 a) l e) 3 b) joint ∙ ap (λ (m : List ℕ). sets (sets m l e) 3 b) first ∙ ap (λ (m : List ℕ). sets m 3 b) last
+    ∙ places ∙ ap (λ (m : List ℕ). sets m recordsAt (cd ++ e)) ab ∙ all ∙ ap (λ (x : List ℕ). sets z 0 x) shape
 
 -- ---- the reply
-hasRoom-not : (a b : Bool) → b ≡ false → (a && b) ≡ false
-hasRoom-not true b e = e
-hasRoom-not false b e = refl
-
 module _ (file : List ℕ) (head : Head) (room : ℕ) where
   -- where the precision is bad
   pub bad-precision : isPrecision (head .preamble .precision) ≡ false → refused (plain 16) ≡ indexWith file head room
@@ -132,9 +109,7 @@ module _ (file : List ℕ) (head : Head) (room : ℕ) where
 
       pub index-length : length (indexOf file head rows) ≡ begin + length (joined lists)
       unfolding indexOf
-      index-length =
-          let size = head .sections .metadata in
-          let kept = keptOf file size in
+      index-length = let size = head .sections .metadata in let kept = keptOf file size in
           omega (
             arith,
             length-append (startsFrom begin lists) (recordsOf rows ++ (kept ++ joined lists)),
@@ -158,7 +133,7 @@ module _ (file : List ℕ) (head : Head) (room : ℕ) where
       no-room h = without (rw (lt-leb _ _ h))
 
       pub too-large : 2 ^ 32 ≤ length (indexOf file head rows) → refused (plain 35) ≡ indexWith file head room
-      too-large h = without (hasRoom-not (leb (length (indexOf file head rows)) room) _ (le-ltb _ _ h))
+      too-large h = without (ap (λ (t : Bool). leb (length (indexOf file head rows)) room && t) (le-ltb _ _ h) ∙ and-false (leb (length (indexOf file head rows)) room))
 
       pub has-room : length (indexOf file head rows) ≤ room → length (indexOf file head rows) < 2 ^ 32 → given (indexOf file head rows) ≡ indexWith file head room
       has-room h k = with-room (rw (le-leb _ _ h, lt-ltb _ _ k))

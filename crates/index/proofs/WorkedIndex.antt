@@ -1,17 +1,15 @@
 -- Document 01's printed file: it opens, its index is built, and a lookup through that is the plain one; through no words it is refused. Its table has one row, whose box, (2,2) to (10,10), is in the
 -- list of the tile of (5,5) and in no other. Assumes nothing.
-use Prim.Native.Nat.{ℕ}
-use lib.IntN.{pos}
-use mathlib.Core.{Bool.{Bool, false}, List.{List, [], _∷_}, Path.{_≡_, refl, sym, ap}}
-use Rattle.border.specs.declared.place.Point.{Point}
+use Rattle.numbers.proofs.Prelude.{ℕ, pos, Bool, false, List, [], _∷_, _≡_, refl, sym, ap}
 use Rattle.numbers.specs.{Point.{signedOf}, Reply.{given, refused, plain}, Varint.{readingOf, forwardAt, valueOf, sizeOf, tooLong}}
+use Rattle.border.specs.declared.place.Point.{Point}
 use Rattle.table.specs.{Rows.{rowsThen, rowBy, rowsWithin, rowsFrom, rowsIn}, Table.{stepsBy, entryBy}, declared.{location.Location.{Location}, rows.Row.{Row}}}
-use Rattle.header.specs.{Header.{preambleOf, textsFrom, sectionsFrom, sectionsAt, contentsBy, headBy, headOf}, declared.header.Head.{Head}}
-use Rattle.header.specs.{Text.{within, remoteAt, stringAt, bytesOf, textAt}, Utf8.{characters, startedBy, begunBy, followed, goesOn, isUtf8}}
+use Rattle.header.specs.{Header.{preambleOf, textsFrom, sectionsFrom, sectionsAt, contentsBy, headBy, headOf}, Text.{within, remoteAt, stringAt, bytesOf, textAt}}
+use Rattle.header.specs.{Utf8.{characters, startedBy, begunBy, followed, goesOn, isUtf8}, declared.header.Head.{Head}}
 use Rattle.zones.specs.{Lent.{Replied, repliedOf}, Lookup.{lookedUp}, declared.lookup.Zones.{Zones}}
 use Rattle.index.proofs.{Owned.{built-is-index}, Through.{through-opened, indexed-untied}, ThroughIsPlain.{indexed-is-plain, own-front}}
-use Rattle.index.specs.Index.{recordsOf, packedFrom, listFrom, listOf, listsFrom, joined, startsFrom, indexOf, indexWith, indexIn, indexedBy, indexedOf}
-use Rattle.index.specs.{Own.{isIndexOf}, Table.{tableFrom, tableOf}, Through.{placeOf, zonesThrough, lookedThrough, lookedIndexed}, Tied.{isTied}, Tiles.{spanOf, tileAlong, tileOf, meets}}
+use Rattle.index.specs.{Index.{recordsOf, packedFrom, listFrom, listOf, listsFrom, joined, startsFrom, indexOf, indexWith, indexIn, indexedBy, indexedOf}, Own.{isIndexOf}}
+use Rattle.index.specs.{Table.{tableFrom, tableOf}, Through.{placeOf, zonesThrough, lookedThrough, lookedIndexed}, Tied.{isTied}, Tiles.{spanOf, tileAlong, tileOf, meets}}
 
 abbrev pub printed : List ℕ
 printed =
@@ -32,8 +30,8 @@ only = record {
 }
 
 pub printed-opens : given head ≡ headOf printed
-unfolding readingOf forwardAt valueOf sizeOf tooLong signedOf preambleOf textsFrom sectionsFrom sectionsAt contentsBy headBy within remoteAt stringAt bytesOf textAt characters startedBy
-    begunBy followed goesOn isUtf8
+unfolding readingOf forwardAt valueOf sizeOf tooLong signedOf preambleOf textsFrom sectionsFrom sectionsAt contentsBy headBy within remoteAt stringAt bytesOf
+    textAt characters startedBy begunBy followed goesOn isUtf8
 printed-opens = refl
 
 pub printed-table : given (only ∷ []) ≡ tableOf printed head
@@ -54,9 +52,9 @@ printed-lists = refl
 
 -- the index has 2,066 words
 pub printed-index : indexedOf printed 2066 .reply ≡ given 2066
-unfolding readingOf forwardAt valueOf sizeOf tooLong signedOf preambleOf textsFrom sectionsFrom sectionsAt contentsBy headBy within remoteAt stringAt bytesOf textAt characters startedBy
-    begunBy followed goesOn isUtf8 stepsBy entryBy rowsThen rowBy rowsWithin rowsFrom rowsIn tableFrom tableOf listsFrom listFrom joined meets spanOf recordsOf packedFrom startsFrom indexOf
-    indexWith indexIn indexedBy indexedOf
+unfolding readingOf forwardAt valueOf sizeOf tooLong signedOf preambleOf textsFrom sectionsFrom sectionsAt contentsBy headBy within remoteAt stringAt bytesOf
+    textAt characters startedBy begunBy followed goesOn isUtf8 stepsBy entryBy rowsThen rowBy rowsWithin rowsFrom rowsIn tableFrom tableOf listsFrom listFrom
+    joined meets spanOf recordsOf packedFrom startsFrom indexOf indexWith indexIn indexedBy indexedOf
 printed-index = refl
 
 -- so `is_index` says 0 of them,

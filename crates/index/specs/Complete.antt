@@ -1,10 +1,7 @@
 -- What the theorems speak of: a row by its number, a number in a list, coordinates that fit an i32; files that are alike, and words that building gave.
-use Prim.Native.Nat.{ℕ, _+_, _<_}
-use lib.ListN.{length, take, getD}
-use mathlib.Core.{Bool.{true}, List.{List, _∷_}, Path.{_≡_}}
-use mir.{Syntax.{w32}, Val.{SFits}}
+use Rattle.numbers.specs.{Lists.{padded}, Prelude.{ℕ, _+_, _<_, length, take, getD, true, List, _∷_, _≡_, w32}, Reply.{given}}
+use mir.Val.{SFits}
 use Rattle.border.specs.declared.place.Point.{Point}
-use Rattle.numbers.specs.{Lists.{padded}, Reply.{given}}
 use Rattle.table.specs.{Find.{isPrecision}, declared.{rows.Row.{Row}, table.Bounds.{Bounds}}}
 use Rattle.header.specs.{Header.{headOf}, declared.header.Head.{Head}}
 use Rattle.index.specs.{Index.{indexOf}, Table.{tableOf}}

@@ -1,7 +1,5 @@
 -- The index of a file, as words: head, where each tile's list begins, a record for each row, the file's bytes up to the metadata, and the lists.
-use Prim.Native.Nat.{ℕ, zero, suc, _+_, _*_, _/_, _^_}
-use lib.{Dec.{ltb, leb}, ListN.{length, take, getD}}
-use mathlib.Core.{Bool.{Bool, _&&_}, List.{List, [], _∷_, _++_}}
+use Rattle.numbers.specs.Prelude.{ℕ, zero, suc, _+_, _*_, _/_, _^_, ltb, leb, length, take, getD, Bool, _&&_, List, [], _∷_, _++_}
 use Rattle.numbers.specs.{Answer.{if_then_else_}, Lists.{zeros, padded}, Reply.{Reply, given, refused, plain, demand, _>>=_, _>>_}}
 use Rattle.table.specs.{Find.{isPrecision}, declared.{rows.Row.{Row}, table.Bounds.{Bounds}}}
 use Rattle.header.specs.{Header.{headOf}, declared.header.Head.{Head}}

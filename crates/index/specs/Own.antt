@@ -1,8 +1,5 @@
 -- When words are the index that building gives for a file, whoever wrote them.
-use Prim.Native.Nat.{ℕ}
-use lib.{Dec.{eqb}, ListN.{length}}
-use mathlib.Core.{Bool.{Bool, true, false, _&&_}, List.{List, [], _∷_}}
-use Rattle.numbers.specs.{Answer.{if_then_else_}, Reply.{Reply, given, refused, plain, demand}}
+use Rattle.numbers.specs.{Answer.{if_then_else_}, Prelude.{ℕ, eqb, length, Bool, true, false, _&&_, List, [], _∷_}, Reply.{Reply, given, refused, plain, demand}}
 use Rattle.index.specs.Index.{indexedOf}
 
 -- the same words, and as many

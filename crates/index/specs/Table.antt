@@ -1,8 +1,5 @@
 -- The table of a file that can be indexed: every row can be read, none runs past the table's end, and they are in order.
-use Prim.Native.Nat.{ℕ, _^_, _-_}
-use lib.{Dec.{leb}, IntN.{ℤ, negsuc}, Signed.{leZ}}
-use mathlib.Core.{Bool.{Bool, _&&_}, List.{List, [], _∷_}}
-use Rattle.numbers.specs.Reply.{Reply, given, refused, plain, demand, _>>=_, _>>_}
+use Rattle.numbers.specs.{Prelude.{ℕ, _-_, _^_, leb, ℤ, negsuc, leZ, Bool, _&&_, List, [], _∷_}, Reply.{Reply, given, refused, plain, demand, _>>=_, _>>_}}
 use Rattle.table.specs.{Ordered.{lowest}, Rows.{Rows, row, tableEnd, unreadable, rowsIn}, declared.rows.Row.{Row}}
 use Rattle.header.specs.declared.header.Head.{Head}
 use Rattle.table.specs.Rows as T

@@ -1,12 +1,9 @@
 -- Lookup through an index, as request Q-11 has it: the rows in the list of the fix's tile are looked at, and no other.
-use Prim.Native.Nat.{ℕ, _+_, _-_, _*_}
-use lib.{Dec.{leb}, ListN.{length, take, drop}}
-use mathlib.Core.{Bool.{Bool, _&&_}, List.{List}}
-use Rattle.numbers.specs.Reply.{Reply, given, refused, plain, demand, _>>=_, _>>_}
+use Rattle.numbers.specs.{Prelude.{ℕ, _+_, _-_, _*_, leb, length, take, drop, Bool, _&&_, List}, Reply.{Reply, given, refused, plain, demand, _>>=_, _>>_}}
 use Rattle.table.specs.{Find.{fixOf, isPrecision}, declared.location.Location.{Location}}
-use Rattle.header.specs.{declared.header.Head.{Head}, Header.{headOf}}
+use Rattle.header.specs.{Header.{headOf}, declared.header.Head.{Head}}
 use Rattle.zones.specs.{Lent.{Outcome, Replied, repliedOf}, Lookup.{zonesListed}, declared.lookup.Zones.{Zones}}
-use Rattle.index.specs.{Index.{tiles, recordsAt}, Tied.{wordAt, isHeaded, tiedWith}, Tiles.{tileOf}, declared.place.{Place.{Place}, Listing.{Listing}}}
+use Rattle.index.specs.{Index.{tiles, recordsAt}, Tied.{wordAt, isHeaded, tiedWith}, Tiles.{tileOf}, declared.place.{Listing.{Listing}, Place.{Place}}}
 use Rattle.index.specs.declared.place.Listing.the-variants as L
 
 -- where the list of a tile begins; that of the next begins where it ends

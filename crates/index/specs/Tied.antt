@@ -1,7 +1,5 @@
 -- When an index goes with a file, as request Q-11 has it: by length, and by a full comparison of header and table.
-use Prim.Native.Nat.{ℕ, zero, suc, _+_, _*_}
-use lib.{Dec.{leb, eqb}, ListN.{length, take, getD}}
-use mathlib.Core.{Bool.{Bool, true, false, _&&_}, List.{List}}
+use Rattle.numbers.specs.Prelude.{ℕ, zero, suc, _+_, _*_, eqb, leb, length, take, getD, Bool, true, false, _&&_, List}
 use Rattle.numbers.specs.{Answer.{if_then_else_}, Reply.{Reply, given, refused, plain, demand, _>>=_, _>>_}}
 use Rattle.table.specs.Find.{isPrecision}
 use Rattle.header.specs.{Header.{headOf}, declared.header.Head.{Head}}

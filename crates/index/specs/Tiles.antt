@@ -1,10 +1,6 @@
 -- The tiles of the fixed grid, as request Q-11 has them: 32 by latitude, 64 by longitude, and which boxes meet them.
-use Prim.Native.Nat.{ℕ, _+_, _-_, _*_, _/_, _%_, _^_, min}
-use lib.{Dec.{ltb, leb, eqb}, IntN.{ℤ}}
-use mathlib.Core.Bool.{Bool, _&&_}
-use mir.{Syntax.{w32}, Val.{ofZ}}
+use Rattle.numbers.specs.{Answer.{if_then_else_}, Prelude.{ℕ, _+_, _-_, _*_, _/_, _%_, _^_, min, eqb, ltb, leb, ℤ, Bool, _&&_, w32, ofZ}}
 use Rattle.border.specs.declared.place.Point.{Point}
-use Rattle.numbers.specs.Answer.{if_then_else_}
 use Rattle.index.specs.declared.tiles.{Span.{Span}, Tile.{Tile}}
 
 -- a fixed coordinate as a word: its 32 bits

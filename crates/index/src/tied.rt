@@ -2,6 +2,7 @@
 ghost use mathlib.Core.Path.{_≡_};
 ghost use Prim.Native.Nat.{_+_, _*_, _/_, _^_, _≤_, _<_};
 ghost use lib.ListN.{length, take};
+ghost use Rattle.numbers.specs.Spoken.{saidOf, noValues};
 ghost use Rattle.index.specs.{Index.{wordsFor}, Tied.{isHeaded, keepsFrom, isTied, tiedWith, tiedOf, toldTied}};
 use crate::build::RECORDS_AT;
 use crate::kept::four_at;
@@ -10,6 +11,8 @@ use header::header::Headed;
 use header::header::head_of;
 use numbers::refusal::Refusal;
 use numbers::refusal::plain;
+use numbers::said::Said;
+use numbers::said::say_refused;
 use table::codes::BAD_PRECISION;
 use table::find::is_precision;
 
@@ -19,6 +22,19 @@ pub const OTHER_INDEX: u8 = 36;
 pub enum Tied {
     Yes,
     Refused(Refusal),
+}
+
+// What is said of it to C.
+pub fn say_tied(tied: Tied) -> Said
+    ensures { λ r. ⌜ r ≡ saidOf noValues (toldTied tied) ⌝ }
+{
+    match tied {
+        Tied::Yes => Said {
+            number: 0,
+            words: [0; 5],
+        },
+        Tied::Refused(why) => say_refused(why),
+    }
 }
 
 pub fn wide(word: u32) -> usize

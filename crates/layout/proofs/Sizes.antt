@@ -1,9 +1,5 @@
 -- The size of a varint: it never falls, and its bounds. Assumes nothing.
-use Prim.Native.Nat.{ℕ, zero, suc, _^_, _/_, _≤_, _<_}
-use borrow.Author.Tests.{ltb-false, le-ltb}
-use lib.{Dec.{ltb}, ListN.{length}}
-use mathlib.Core.{Bool.{Bool, true, false}, Path.{_≡_, refl}}
-use native.Mathlib.{Nat.{le-refl, pow-suc}, Omega.{arith}}
+use Rattle.numbers.proofs.Prelude.{ℕ, zero, suc, _/_, _^_, _≤_, _<_, le-ltb, ltb-false, ltb, length, Bool, true, false, _≡_, refl, le-refl, pow-suc, arith}
 use Rattle.numbers.specs.{Answer.{if_then_else_}, Spelling.{digitsOf, varintOf}}
 
 -- one step, by the test
@@ -15,11 +11,10 @@ step k n false e = rw e
 least : (k n : ℕ) → 1 ≤ length (digitsOf k n)
 unfolding digitsOf
 least zero n = le-refl 1
-least (suc k) n = go (ltb n 128) refl
-  where
-    go : (small : Bool) → ltb n 128 ≡ small → 1 ≤ length (digitsOf (suc k) n)
-    go true e = omega (arith, step k n true e)
-    go false e = omega (arith, step k n false e)
+least (suc k) n = go (ltb n 128) refl where
+  go : (small : Bool) → ltb n 128 ≡ small → 1 ≤ length (digitsOf (suc k) n)
+  go true e = omega (arith, step k n true e)
+  go false e = omega (arith, step k n false e)
 
 -- a greater number is no shorter
 rises-step : (k m n : ℕ) (small : Bool) → ltb m 128 ≡ small → m ≤ n → length (digitsOf k (m / 128)) ≤ length (digitsOf k (n / 128)) → length (digitsOf (suc k) m) ≤ length (digitsOf (suc k) n)

@@ -1,28 +1,24 @@
 -- Stepping to the least length that fits; there always is one, and its section is the shortest. Assumes nothing.
-use Prim.Native.Nat.{ℕ, zero, suc, _+_, _*_, _≤_, _<_}
-use lib.{Dec.{eqb}, ListN.{length}}
-use mathlib.Core.{Bool.{Bool, true, false}, List.{List, [], _∷_}, Logic.{_⊎_, ⊎-elim, inl, inr}, Path.{_≡_, ap, sym}}
-use native.Mathlib.{Nat.{le-refl, eq-or-lt-of-le}, Omega.{arith}}
+use Rattle.numbers.proofs.Prelude.{ℕ, zero, suc, _+_, _*_, _≤_, _<_, eqb, length, Bool, true, false, List, [], _∷_, _⊎_, inl, inr, ⊎-elim, _≡_, sym, ap, le-refl, arith}
 use Rattle.numbers.{proofs.Spelling.{varint-few}, specs.{Answer.{if_then_else_}, Spelling.{varintOf}}}
+use native.Mathlib.Nat.{eq-or-lt-of-le}
 use Rattle.layout.proofs.Sizes.{size-rises}
 use Rattle.layout.specs.inner.Layout.{wordSize, wordsSize, next, Fits, Least, after}
 
 -- longer records make no word shorter
 word-rises : (word a b : ℕ) → a ≤ b → wordSize word a ≤ wordSize word b
 unfolding wordSize
-word-rises word a b h = go (eqb word 0)
-  where
-    go : (none : Bool) → (if none then 0 else length (varintOf (255 + a + word))) ≤ (if none then 0 else length (varintOf (255 + b + word)))
-    go true = le-refl 0
-    go false = size-rises (255 + a + word) (255 + b + word) (omega arith)
+word-rises word a b h = go (eqb word 0) where
+  go : (none : Bool) → (if none then 0 else length (varintOf (255 + a + word))) ≤ (if none then 0 else length (varintOf (255 + b + word)))
+  go true = le-refl 0
+  go false = size-rises (255 + a + word) (255 + b + word) (omega arith)
 
 word-few : (word a : ℕ) → wordSize word a ≤ 10
 unfolding wordSize
-word-few word a = go (eqb word 0)
-  where
-    go : (none : Bool) → (if none then 0 else length (varintOf (255 + a + word))) ≤ 10
-    go true = omega arith
-    go false = varint-few (255 + a + word)
+word-few word a = go (eqb word 0) where
+  go : (none : Bool) → (if none then 0 else length (varintOf (255 + a + word))) ≤ 10
+  go true = omega arith
+  go false = varint-few (255 + a + word)
 
 pub words-rise : (words : List ℕ) (a b : ℕ) → a ≤ b → wordsSize words a ≤ wordsSize words b
 unfolding wordsSize
@@ -79,10 +75,7 @@ module _ (inline : ℕ) (words : List ℕ) where
   -- where no step passes this many bytes more, that many steps suffice
   pub reached : (most : ℕ) → ((n : ℕ) → after inline words n ≤ inline + most) → Least inline words (after inline words most)
   unfolding Fits after
-  reached most bound = record {
-    fits = ⊎-elim (λ e. sym e) (λ h. absurd (omega (arith, bound (suc most)))) (stays-or-grows most);
-    least = after-under most;
-  }
+  reached most bound = record { fits = ⊎-elim (λ e. sym e) (λ h. absurd (omega (arith, bound (suc most)))) (stays-or-grows most); least = after-under most }
 
   bound : (n : ℕ) → after inline words n ≤ inline + 10 * length words
   unfolding after next
@@ -108,11 +101,9 @@ pub record Shorter (words : List ℕ) (records other : ℕ) : Type 0 where
   pub strictly : (texts : ℕ) → (records ≡ other → ⊥) → records + texts < other + texts
 
 pub shortest : (inline : ℕ) (words : List ℕ) (records other : ℕ) → Least inline words records → Fits inline words other → Shorter words records other
-shortest inline words records other l fits =
-    let under = l .least other fits in
-    record {
-      numbers = λ more. size-rises _ _ (omega arith);
-      stretches = λ some. words-rise some records other under;
-      section = λ texts. omega arith;
-      strictly = λ texts differ. omega arith;
-    }
+shortest inline words records other l fits = let under = l .least other fits in record {
+  numbers = λ more. size-rises _ _ (omega arith);
+  stretches = λ some. words-rise some records other under;
+  section = λ texts. omega arith;
+  strictly = λ texts differ. omega arith;
+}

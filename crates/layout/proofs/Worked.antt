@@ -1,9 +1,7 @@
 -- Worked cases: two words for one text that lies right behind the records; an order. Assumes nothing.
-use Prim.Native.Nat.{ℕ}
-use mathlib.Core.{List.{List, [], _∷_}, Path.{_≡_, refl}}
-use Rattle.numbers.specs.Spelling.{digitsOf, varintOf}
+use Rattle.numbers.{proofs.Prelude.{ℕ, List, [], _∷_, _≡_, refl}, specs.Spelling.{digitsOf, varintOf}}
 use Rattle.layout.proofs.Steps.{least-layout}
-use Rattle.layout.specs.{inner.Layout.{wordSize, wordsSize, next, Fits, Least, after}, Order.{insertBy, sortedBy, keyOf}}
+use Rattle.layout.specs.{Order.{insertBy, sortedBy, keyOf}, inner.Layout.{wordSize, wordsSize, next, Fits, Least, after}}
 
 abbrev two : List ℕ
 two = 1 ∷ 1 ∷ []

@@ -1,9 +1,6 @@
 -- A number's decimal digits, as `io::decimal` has them. Assumes nothing.
-use Prim.Native.Nat.{ℕ, zero, suc, _+_, _-_, _/_, _%_, _^_, _≤_, _<_}
-use native.Mathlib.{Nat.{pow-suc}, Omega.{arith}}
-use mathlib.Core.{Bool.{Bool, true, false, cond}, Path.{_≡_, refl, sym, ap, _∙_, subst}, List.{List, [], _∷_, _++_}}
-use lib.{Dec.{ltb}, ListN.{length, length-append}}
-use borrow.Author.Tests.{lt-ltb, le-ltb}
+use Rattle.numbers.proofs.Prelude.{ℕ, zero, suc, _-_, _/_, _%_, _^_, _≤_, _<_, lt-ltb, le-ltb, ltb, length, length-append, Bool, true, false, cond, List, [], _∷_, _++_, _≡_, refl, sym, ap, subst}
+use Rattle.numbers.proofs.Prelude.{_∙_, pow-suc, arith}
 use Rattle.io.specs.Digits.{glyph, digits, Fewest}
 use Rattle.line.specs.Put.{digit, decimalOf, decimal}
 
@@ -25,8 +22,7 @@ fewest k zero n fits some small large = absurd (omega arith)
 fewest k (suc zero) n fits some small large = ap (λ (d : ℕ). d ∷ []) (glyph-digit n) ∙ sym (few k n (omega (arith, pow-suc 10 0)))
 fewest zero (suc (suc r)) n fits some small large =
     let ten : 10 ^ suc r ≤ n = subst (λ (e : ℕ). 10 ^ e ≤ n) (let e : suc (suc r) - 1 ≡ suc r = omega arith in e) (large (omega arith)) in
-    let some : 1 ≤ 10 ^ r = omega arith in
-    absurd (omega (arith, pow-suc 10 r, pow-suc 10 0, ten, some, fits))
+    let some : 1 ≤ 10 ^ r = omega arith in absurd (omega (arith, pow-suc 10 r, pow-suc 10 0, ten, some, fits))
 fewest (suc k) (suc (suc r)) n fits some small large =
     let ten : 10 ^ suc r ≤ n = subst (λ (e : ℕ). 10 ^ e ≤ n) (let e : suc (suc r) - 1 ≡ suc r = omega arith in e) (large (omega arith)) in
     let some : 1 ≤ 10 ^ r = omega arith in
@@ -44,11 +40,10 @@ in-digits n r fits f = fewest 19 r n (omega (arith, fits)) (f .0) (f .1) (f .2)
 digits-few : (k n : ℕ) → length (decimalOf k n) ≤ suc k
 unfolding decimalOf
 digits-few zero n = omega arith
-digits-few (suc k) n = go (ltb n 10) (digits-few k (n / 10))
-  where
-    go : (t : Bool) → length (decimalOf k (n / 10)) ≤ suc k → length (cond t (digit n ∷ []) (decimalOf k (n / 10) ++ (digit n ∷ []))) ≤ suc (suc k)
-    go true h = omega arith
-    go false h = omega (arith, h, length-append (decimalOf k (n / 10)) (digit n ∷ []))
+digits-few (suc k) n = go (ltb n 10) (digits-few k (n / 10)) where
+  go : (t : Bool) → length (decimalOf k (n / 10)) ≤ suc k → length (cond t (digit n ∷ []) (decimalOf k (n / 10) ++ (digit n ∷ []))) ≤ suc (suc k)
+  go true h = omega arith
+  go false h = omega (arith, h, length-append (decimalOf k (n / 10)) (digit n ∷ []))
 
 -- twenty at most
 pub decimal-short : (n : ℕ) → length (decimal n) ≤ 20

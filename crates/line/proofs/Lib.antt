@@ -2,3 +2,4 @@
 pub mod Puts
 pub mod Decimals
 pub mod Shown
+pub mod Signs

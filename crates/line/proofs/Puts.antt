@@ -1,27 +1,15 @@
 -- Bytes that go into a lent buffer one after another. Assumes nothing.
-use Prim.Native.Nat.{ℕ, suc, _+_, _≤_, _<_, min, max}
-use native.Mathlib.{Nat.{add-zero}, Numerals.{add-one}, Omega.{arith}}
-use mathlib.Core.{Path.{_≡_, refl, sym, ap, _∙_, subst}, Bool.{Bool, true, false}, List.{List, [], _∷_, _++_}}
-use lib.{Dec.{leb}, ListN.{length, set, getD, take, drop, length-append}, Seq.{sets, length-sets, set-out, sets-eq, take-suc, take-at}}
-use borrow.Author.Tests.{leb-true, leb-false}
+use Rattle.numbers.proofs.{Lists.{sets-append, sets-past}, Prelude.{ℕ, _+_, _≤_, _<_, min, leb-true, leb-false, leb, length, take, drop, getD, length-append, sets, take-at, take-suc, length-sets}}
+use Rattle.numbers.proofs.Prelude.{sets-eq, set-out, Bool, true, false, List, [], _∷_, _++_, _≡_, refl, sym, ap, subst, _∙_, add-one, arith}
+use Prim.Native.Nat.{max}
 use Rattle.line.specs.Put.{far, Put}
-
-sets-append : (xs ys before : List ℕ) (at : ℕ) → sets before at (xs ++ ys) ≡ sets (sets before at xs) (at + length xs) ys
-sets-append [] ys before at = ap (λ (n : ℕ). sets before n ys) (sym (add-zero at))
-sets-append (x ∷ xs) ys before at = sets-append xs ys (set before at x) (suc at) ∙ ap (λ (n : ℕ). sets (sets (set before at x) (suc at) xs) n ys) (omega arith)
-
--- nothing is stored behind the end
-sets-out : (ys before : List ℕ) (at : ℕ) → length before ≤ at → sets before at ys ≡ before
-sets-out [] before at h = refl
-sets-out (y ∷ ys) before at h = ap (λ (xs : List ℕ). sets xs (suc at) ys) (set-out before at y h) ∙ sets-out ys before (suc at) (omega arith)
 
 -- from the place that was answered as from the place behind all bytes
 from-there : (ys now : List ℕ) (next far : ℕ) → next ≤ far → (next < length now → next ≡ far) → sets now next ys ≡ sets now far ys
-from-there ys now next far le e = go (leb (length now) next) refl
-  where
-    go : (t : Bool) → leb (length now) next ≡ t → sets now next ys ≡ sets now far ys
-    go true l = let h = leb-true (length now) next l in sets-out ys now next h ∙ sym (sets-out ys now far (omega (arith, h, le)))
-    go false l = ap (λ (n : ℕ). sets now n ys) (e (leb-false (length now) next l))
+from-there ys now next far le e = go (leb (length now) next) refl where
+  go : (t : Bool) → leb (length now) next ≡ t → sets now next ys ≡ sets now far ys
+  go true l = let h = leb-true (length now) next l in sets-past ys now next h ∙ sym (sets-past ys now far (omega (arith, h, le)))
+  go false l = ap (λ (n : ℕ). sets now n ys) (e (leb-false (length now) next l))
 
 module _ {before bytes after : List ℕ} {at next : ℕ} (p : Put before at bytes after next) where
   pub put-length : length after ≡ length before
@@ -63,22 +51,23 @@ put-then {before} {middle} {after} {at} {next} {end} xs ys p q =
     }
 
 -- one more of a list
-pub put-next : {before now after : List ℕ} {at next end : ℕ} (bytes : List ℕ) (i : ℕ) → i < length bytes → Put before at (take i bytes) now next → Put now next (getD bytes i 0 ∷ []) after end → Put before at (take (i + 1) bytes) after end
-put-next {before} {now} {after} {at} {next} {end} bytes i h p q = subst (λ (bs : List ℕ). Put before at bs after end) (sym (ap (λ (k : ℕ). take k bytes) (add-one i) ∙ take-suc bytes i 0 h)) (put-then (take i bytes) (getD bytes i 0 ∷ []) p q)
+pub put-next : {before now after : List ℕ} {at next end : ℕ} (bytes : List ℕ) (i : ℕ) → i < length bytes → Put before at (take i bytes) now next →
+    Put now next (getD bytes i 0 ∷ []) after end → Put before at (take (i + 1) bytes) after end
+put-next {before} {now} {after} {at} {next} {end} bytes i h p q =
+    subst (λ (bs : List ℕ). Put before at bs after end) (sym (ap (λ (k : ℕ). take k bytes) (add-one i) ∙ take-suc bytes i 0 h)) (put-then (take i bytes) (getD bytes i 0 ∷ []) p q)
 
 -- the whole length, as far as places go; what ends inside the buffer stands there whole
 pub put-size : {before bytes after : List ℕ} {next : ℕ} → Put before 0 bytes after next → length before ≤ far → next ≡ min (length bytes) far
 put-size p h = omega (arith, p .place-after)
 
-pub put-whole : {before bytes after : List ℕ} {next : ℕ} → Put before 0 bytes after next → length before < far → next ≤ length before → (next ≡ length bytes) × (after ≡ bytes ++ drop (length bytes) before)
-put-whole {before} {bytes} {after} {next} p short fits =
-    let n : next ≡ length bytes = omega (arith, p .place-after) in
+pub put-whole : {before bytes after : List ℕ} {next : ℕ} → Put before 0 bytes after next → length before < far → next ≤ length before →
+    (next ≡ length bytes) × (after ≡ bytes ++ drop (length bytes) before)
+put-whole {before} {bytes} {after} {next} p short fits = let n : next ≡ length bytes = omega (arith, p .place-after) in
     (n, p .stored ∙ sets-eq bytes before 0 (omega arith) ∙ ap (λ (k : ℕ). bytes ++ drop k before) (let e : 0 + length bytes ≡ length bytes = omega arith in e))
 
 -- what stands at the front, whole
 pub put-front : {before bytes after : List ℕ} {next : ℕ} → Put before 0 bytes after next → length bytes ≤ length before → (next ≡ length bytes) × (take next after ≡ bytes)
-put-front {before} {bytes} {after} {next} p h =
-    let n : next ≡ length bytes = omega (arith, p .place-after) in
+put-front {before} {bytes} {after} {next} p h = let n : next ≡ length bytes = omega (arith, p .place-after) in
     (n, ap (λ (xs : List ℕ). take next xs) (p .stored ∙ sets-eq bytes before 0 (omega arith)) ∙ take-at bytes (drop (0 + length bytes) before) next (sym n))
 
 -- two outcomes that the promise of a function that puts bytes permits are equal: the place after them and all of the buffer

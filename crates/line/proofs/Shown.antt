@@ -1,9 +1,8 @@
 -- A text as it is printed. Assumes nothing.
-use Prim.Native.Nat.{ℕ, _+_, _*_, _≤_, _<_}
-use borrow.Author.Tests.{lt-ltb, le-ltb, eq-eqb, ne-eqb}
-use lib.{Bits.{bitXor, xor-zero-r}, ListN.{length, getD, take, drop-of-length-le}, Seq.{take-suc}}
-use mathlib.Core.{List.{List, [], _∷_, _++_, map, map-append}, Path.{_≡_, refl, ap, sym, _∙_}}
-use native.Mathlib.{Numerals.{add-one}, Omega.{arith}}
+use Rattle.numbers.proofs.Prelude.{ℕ, _+_, _*_, _≤_, _<_, eq-eqb, ne-eqb, lt-ltb, le-ltb, length, take, getD, drop-of-length-le, take-suc, List, [], _∷_, _++_, map, _≡_, refl, sym, ap, _∙_, add-one}
+use Rattle.numbers.proofs.Prelude.{arith}
+use lib.Bits.{bitXor, xor-zero-r}
+use mathlib.Core.List.{map-append}
 use Rattle.line.specs.{Clock.{weekdays, weekdayText, hoursText, secondsText, shown}, Put.{decimal, twoDigits}}
 
 -- ---- one byte

@@ -1,7 +1,5 @@
 -- Numbers in bytes, low byte first.
-use Prim.Native.Nat.{ℕ, _+_, _*_}
-use lib.ListN.{getD}
-use mathlib.Core.List.{List}
+use Rattle.numbers.specs.Prelude.{ℕ, _+_, _*_, getD, List}
 
 -- four bytes, low byte first
 abbrev pub wordAt : List ℕ → ℕ → ℕ

@@ -1,10 +1,7 @@
 -- What a clock shows, and texts, as they are printed.
-use Prim.Native.Nat.{ℕ, suc, _*_, _/_, _%_}
-use lib.{Dec.{eqb, ltb}, IntN.{ℤ, pos, negsuc}, ListN.{take, drop}}
-use mathlib.Core.{Bool.{_&&_}, List.{List, [], _∷_, _++_}}
+use Rattle.numbers.specs.{Answer.{if_then_else_}, Prelude.{ℕ, suc, _*_, _/_, _%_, eqb, ltb, ℤ, pos, negsuc, take, drop, _&&_, List, [], _∷_, _++_}}
 use Rattle.calendar.specs.declared.civil.Reading.{Reading}
 use Rattle.line.specs.Put.{decimal, twoDigits}
-use Rattle.numbers.specs.Answer.{if_then_else_}
 
 -- `Sun` to `Sat`
 abbrev pub weekdays : List ℕ

@@ -1,7 +1,6 @@
 -- Bytes that stand in a lent buffer, and numbers as they are printed.
-use Prim.Native.Nat.{ℕ, zero, suc, _+_, _-_, _/_, _%_, _^_, min, max}
-use lib.{Dec.{ltb}, ListN.{length}, Seq.{sets}}
-use mathlib.Core.{Bool.{cond}, List.{List, [], _∷_, _++_}, Path.{_≡_}}
+use Rattle.numbers.specs.Prelude.{ℕ, zero, suc, _+_, _-_, _/_, _%_, _^_, min, ltb, length, sets, cond, List, [], _∷_, _++_, _≡_}
+use Prim.Native.Nat.{max}
 
 -- the largest place; no buffer is longer
 abbrev pub far : ℕ

@@ -1,16 +1,13 @@
 -- Which numbers a call can be refused with. Assumes nothing.
-use Prim.Native.Nat.{ℕ}
-use lib.{Dec.{ltb, eqb}, IntN.{ℤ}}
-use mathlib.Core.{List.{List, [], _∷_, _++_}, Path.{_≡_, refl}}
+use Rattle.numbers.proofs.{Prelude.{ℕ, eqb, ltb, ℤ, List, [], _∷_, _++_, _≡_, refl}, Refusals.{Listed, still-listed}}
 use Rattle.localtime.specs.{Local.{askIn, orSixty, stringIn, rulesIn, isRuled, byRule, answerBy, answerAt, localTimeBy, localTime}, declared.rule.Rules.{Rules}}
+use Rattle.tzif.{proofs.Numbered.{NumberedReply, answers, refuses, then-reply, and-then, demands, either, zone-numbered, of-lent, localNumbers}, specs.{Header.{rfc9636}, Number.{lift}}}
+use Rattle.tzif.specs.{Reply.{Reply}, declared.{block.Block.{Block}, local.Answer.{Answer}, refusal.Refusal.{Refusal}, zone.Zone.{Zone}}}
+use Rattle.tzrule.specs.{String.{stringOf}, declared.{ask.Asked.{Asked}, rule.Tz.{Tz}}}
 use Rattle.localtime.specs.declared.rule.Rules.the-variants as R
-use Rattle.numbers.proofs.Refusals.{Listed, still-listed}
-use Rattle.tzif.proofs.Numbered.{NumberedReply, answers, refuses, then-reply, and-then, demands, either, zone-numbered, of-lent, localNumbers}
-use Rattle.tzif.specs.{Header.{rfc9636}, Number.{lift}, Reply.{Reply}, declared.{block.Block.{Block}, local.Answer.{Answer}, refusal.Refusal.{Refusal}, zone.Zone.{Zone}}}
 use Rattle.tzif.specs.declared.local.Answer.the-variants as A
 use Rattle.tzif.specs.declared.local.LocalTime.the-variants as L
 use Rattle.tzrule.specs.Answer as T
-use Rattle.tzrule.specs.{String.{stringOf}, declared.{ask.Asked.{Asked}, rule.Tz.{Tz}}}
 use Rattle.tzrule.specs.declared.ask.Asked.the-variants as K
 
 -- those of Q-9, and 60 for the string, 61 for the year
@@ -26,11 +23,10 @@ wider (refuses {why = why} h) = refuses (still-listed localNumbers (60 ∷ 61 �
 
 string-numbered : (file : List ℕ) (zone : Zone) → Mine (stringIn file zone)
 unfolding stringIn orSixty
-string-numbered file zone = go (stringOf (ltb 50 (zone .version)) file (zone .string))
-  where
-    go : (a : T.Answer Tz) → Mine (orSixty a)
-    go (T.read tz next) = answers
-    go (T.fault place) = refuses refl
+string-numbered file zone = go (stringOf (ltb 50 (zone .version)) file (zone .string)) where
+  go : (a : T.Answer Tz) → Mine (orSixty a)
+  go (T.read tz next) = answers
+  go (T.fault place) = refuses refl
 
 rules-numbered : (file : List ℕ) (zone : Zone) → Mine (rulesIn file zone)
 unfolding rulesIn

@@ -1,24 +1,19 @@
 -- An offset that is found is a number of 32 bits, in a table of a file as by its string. Assumes nothing.
-use Prim.Native.Nat.{ℕ, suc, _+_, _-_, _*_, _^_, _≤_, _<_}
-use borrow.Author.Tests.{ltb-true, ltb-false}
-use lib.{Dec.{ltb, eqb}, IntN.{ℤ, pos, negsuc}, Signed.{mag}}
-use mathlib.Core.{Bool.{Bool, true, false}, List.{List}, Path.{_≡_, refl, sym, subst}}
-use mir.{Syntax.{w32}, Val.{SFits, sel, toZ}}
-use native.Mathlib.Omega.{arith}
+use Rattle.numbers.proofs.Prelude.{ℕ, suc, _+_, _-_, _*_, _^_, _≤_, _<_, ltb-true, ltb-false, eqb, ltb, ℤ, pos, negsuc, mag, Bool, true, false, List, _≡_, refl, sym, subst, w32, SFits, toZ, arith}
+use Rattle.numbers.{proofs.Refusals.{either}, specs.Answer.{if_then_else_}}
+use mir.Val.{sel}
 use Rattle.localtime.proofs.found.Ways.{east-small}
 use Rattle.localtime.specs.{Found.{foundOf}, Local.{askIn, orSixty, stringIn, rulesIn, agrees, isRuled, byRule, answerBy, answerAt}, declared.rule.Rules.{Rules}}
-use Rattle.localtime.specs.declared.rule.Rules.the-variants as R
-use Rattle.numbers.proofs.Refusals.{either}
-use Rattle.numbers.specs.Answer.{if_then_else_}
 use Rattle.tzif.specs.{Check.{typePlace}, Header.{Rfc}, Local.{typeIn, isAfterLast, byTable}, Number.{be32, lift}, Reply.{Reply, given, refused, demand, _>>=_, _>>_}, Zone.{readZoneBy}}
 use Rattle.tzif.specs.declared.{block.Block.{Block}, local.{Answer.{Answer}, Found.{Found}}, refusal.Refusal.{Refusal}, zone.Zone.{Zone}}
+use Rattle.tzrule.specs.{Ask.{clockAt, inYears, ask, since}, Grammar.{sixty, ranged, numberOf, secondsOf, minutesOf}, Names.{nameOf}, String.{dayHours, summerOf, changeOf, changingOf, stringOf}}
+use Rattle.tzrule.specs.{Summer.{isSummer}, Text.{digitsOf, byteAt}, declared.{ask.Time.{Time}, number.{Digits.{Digits}, Shape.{Shape}}, rule.{Clock.{Clock}, Tz.{Tz}}}}
+use Rattle.tzrule.specs.declared.rule.Tz.the-variants.{Fixed, Changing}
+use Rattle.localtime.specs.declared.rule.Rules.the-variants as R
 use Rattle.tzif.specs.declared.local.Answer.the-variants as A
-use Rattle.tzrule.specs.{Ask.{clockAt, inYears, ask, since}, Grammar.{sixty, ranged, numberOf, secondsOf, minutesOf}, Names.{nameOf}}
-use Rattle.tzrule.specs.{String.{dayHours, summerOf, changeOf, changingOf, stringOf}, Summer.{isSummer}, Text.{digitsOf, byteAt}}
 use Rattle.tzrule.specs.Answer as T
 use Rattle.tzrule.specs.Grammar as G
 use Rattle.tzrule.specs.String as S
-use Rattle.tzrule.specs.declared.{ask.Time.{Time}, number.{Digits.{Digits}, Shape.{Shape}}, rule.{Clock.{Clock}, Tz.{Tz, the-variants.{Fixed, Changing}}}}
 use Rattle.tzrule.specs.declared.ask.Asked.the-variants as K
 
 -- ---- what was read has a property
@@ -42,14 +37,13 @@ number-reads : (shape : Shape) (text : List ℕ) (at : ℕ) → Reads (λ n. n �
 unfolding numberOf ranged
 number-reads shape text at =
     either (Reads (λ n. n ≤ shape .high)) (ltb (digits .next) (at + shape .least)) faults
-    (either (Reads (λ n. n ≤ shape .high)) (ltb (digits .value) (shape .low)) faults (last (ltb (shape .high) (digits .value)) refl))
-  where
-    digits : Digits
-    digits = digitsOf (shape .most) text at 0
+    (either (Reads (λ n. n ≤ shape .high)) (ltb (digits .value) (shape .low)) faults (last (ltb (shape .high) (digits .value)) refl)) where
+      digits : Digits
+      digits = digitsOf (shape .most) text at 0
 
-    last : (t : Bool) → ltb (shape .high) (digits .value) ≡ t → Reads (λ n. n ≤ shape .high) (if t then T.fault at else T.read (digits .value) (digits .next))
-    last true e = faults
-    last false e = reads (ltb-false (shape .high) (digits .value) e)
+      last : (t : Bool) → ltb (shape .high) (digits .value) ≡ t → Reads (λ n. n ≤ shape .high) (if t then T.fault at else T.read (digits .value) (digits .next))
+      last true e = faults
+      last false e = reads (ltb-false (shape .high) (digits .value) e)
 
 seconds-reads : (text : List ℕ) (sum most at : ℕ) → sum ≤ most → Reads (λ n. n ≤ most + 59) (secondsOf text sum at)
 unfolding secondsOf
@@ -59,11 +53,9 @@ seconds-reads text sum most at h =
 minutes-reads : (text : List ℕ) (sum most at : ℕ) → sum ≤ most → Reads (λ n. n ≤ most + 3599) (minutesOf text sum at)
 unfolding minutesOf
 minutes-reads text sum most at h =
-    either (Reads (λ n. n ≤ most + 3599)) (eqb (byteAt text at) 58)
-    (then-reads (number-reads sixty text (at + 1))
-    (λ n next k. subst (λ (m : ℕ). Reads (λ x. x ≤ m) (secondsOf text (sum + 60 * n) next)) (let e : most + 3540 + 59 ≡ most + 3599 = omega arith in e)
-    (seconds-reads text (sum + 60 * n) (most + 3540) next (omega (arith, h, k)))))
-    (reads (omega (arith, h)))
+    either (Reads (λ n. n ≤ most + 3599)) (eqb (byteAt text at) 58) (then-reads (number-reads sixty text (at + 1)) (λ n next k. subst
+    (λ (m : ℕ). Reads (λ x. x ≤ m) (secondsOf text (sum + 60 * n) next)) (let e : most + 3540 + 59 ≡ most + 3599 = omega arith in e) (seconds-reads text
+    (sum + 60 * n) (most + 3540) next (omega (arith, h, k))))) (reads (omega (arith, h)))
 
 -- hours to 24
 time-reads : (text : List ℕ) (at : ℕ) → Reads (λ n. n ≤ 89999) (G.clockOf dayHours text at)
@@ -76,9 +68,8 @@ Near west = west ≤ 1209600
 signed-reads : (text : List ℕ) (at : ℕ) → Reads Near (G.signedOf dayHours text at)
 unfolding G.signedOf G.earlierOf G.laterOf
 signed-reads text at =
-    either (Reads Near) (eqb (byteAt text at) 45) (then-reads (time-reads text (at + 1)) (λ n next k. reads (omega (arith, k))))
-    (either (Reads Near) (eqb (byteAt text at) 43) (then-reads (time-reads text (at + 1)) (λ n next k. reads (omega (arith, k))))
-    (then-reads (time-reads text at) (λ n next k. reads (omega (arith, k)))))
+    either (Reads Near) (eqb (byteAt text at) 45) (then-reads (time-reads text (at + 1)) (λ n next k. reads (omega (arith, k)))) (either (Reads Near)
+    (eqb (byteAt text at) 43) (then-reads (time-reads text (at + 1)) (λ n next k. reads (omega (arith, k)))) (then-reads (time-reads text at) (λ n next k. reads (omega (arith, k)))))
 
 abbrev NearClock : Clock → Type 0
 NearClock clock = Near (clock .west)
@@ -98,9 +89,8 @@ NearTz (Changing rule) = NearClock (rule .standard) × NearClock (rule .daylight
 changing-reads : (wide : Bool) (standard : Clock) (text : List ℕ) (at : ℕ) → NearClock standard → Reads NearTz (changingOf wide standard text at)
 unfolding changingOf NearTz
 changing-reads wide standard text at h =
-    then-reads (clock-reads (summerOf (standard .west) text) text at (λ at. summer-reads (standard .west) text at h))
-    (λ daylight next k. then-reads (anyhow (changeOf wide text next))
-    (λ start next u. then-reads (anyhow (changeOf wide text next)) (λ end next u. either (Reads NearTz) (eqb (byteAt text next) 10) (reads (h, k)) faults)))
+    then-reads (clock-reads (summerOf (standard .west) text) text at (λ at. summer-reads (standard .west) text at h)) (λ daylight next k. then-reads
+    (anyhow (changeOf wide text next)) (λ start next u. then-reads (anyhow (changeOf wide text next)) (λ end next u. either (Reads NearTz) (eqb (byteAt text next) 10) (reads (h, k)) faults)))
 
 string-reads : (wide : Bool) (text : List ℕ) (at : ℕ) → Reads NearTz (stringOf wide text at)
 unfolding stringOf NearTz
@@ -140,11 +130,10 @@ NearRules (R.By tz) = NearTz tz
 
 -- four bytes, whatever they are
 signed-narrow : (n : ℕ) → mag (toZ w32 n) < 2 ^ 31
-signed-narrow n = go (ltb n (2 ^ 31)) refl
-  where
-    go : (t : Bool) → ltb n (2 ^ 31) ≡ t → mag (sel t (pos n) (negsuc (2 ^ 32 - suc n))) < 2 ^ 31
-    go true e = ltb-true n (2 ^ 31) e
-    go false e = omega (arith, ltb-false n (2 ^ 31) e)
+signed-narrow n = go (ltb n (2 ^ 31)) refl where
+  go : (t : Bool) → ltb n (2 ^ 31) ≡ t → mag (sel t (pos n) (negsuc (2 ^ 32 - suc n))) < 2 ^ 31
+  go true e = ltb-true n (2 ^ 31) e
+  go false e = omega (arith, ltb-false n (2 ^ 31) e)
 
 type-fits : (file : List ℕ) (block : Block) (type : ℕ) → SFits w32 (typeIn file block type .offset)
 unfolding typeIn
@@ -161,24 +150,22 @@ clock-near (Changing rule) u h = either (λ (time : Time). NearClock (time .cloc
 
 asked-gives : (tz : Tz) (u : ℕ) → NearTz tz → Gives FitsAnswer (byRule (ask tz u))
 unfolding ask byRule FitsAnswer foundOf
-asked-gives tz u h = go (inYears u)
-  where
-    fits : FitsAnswer (A.Found (foundOf (clockAt tz u)))
-    fits = record { sfits = east-small (clockAt tz u .clock .west) (clock-near tz u h) }
+asked-gives tz u h = go (inYears u) where
+  fits : FitsAnswer (A.Found (foundOf (clockAt tz u)))
+  fits = record { sfits = east-small (clockAt tz u .clock .west) (clock-near tz u h) }
 
-    go : (t : Bool) → Gives FitsAnswer (byRule (if t then K.Holds (clockAt tz u) else K.Outside))
-    go true = gives fits
-    go false = stops
+  go : (t : Bool) → Gives FitsAnswer (byRule (if t then K.Holds (clockAt tz u) else K.Outside))
+  go true = gives fits
+  go false = stops
 
 rules-give : (file : List ℕ) (zone : Zone) → Gives NearRules (rulesIn file zone)
 unfolding rulesIn stringIn NearRules orSixty
 rules-give file zone =
     either (Gives NearRules) (eqb (zone .size) 0) (gives tt)
-    (then-gives (string (string-reads (ltb 50 (zone .version)) file (zone .string))) (λ tz h. behind-test (agrees file (zone .block) tz) _ (gives h)))
-  where
-    string : {answer : T.Answer Tz} → Reads NearTz answer → Gives NearTz (orSixty answer)
-    string (reads h) = gives h
-    string faults = stops
+    (then-gives (string (string-reads (ltb 50 (zone .version)) file (zone .string))) (λ tz h. behind-test (agrees file (zone .block) tz) _ (gives h))) where
+      string : {answer : T.Answer Tz} → Reads NearTz answer → Gives NearTz (orSixty answer)
+      string (reads h) = gives h
+      string faults = stops
 
 by-gives : (file : List ℕ) (block : Block) (rules : Rules) (instant : ℕ) → NearRules rules → Gives FitsAnswer (answerBy file block rules instant)
 unfolding answerBy NearRules askIn
@@ -192,7 +179,6 @@ at-gives rfc file instant = then-gives (anything (readZoneBy rfc file)) (λ zone
 -- an offset that is found fits 32 bits
 pub offset-fits : (rfc : Rfc) (file : List ℕ) (instant : ℤ) {found : Found} → given (A.Found found) ≡ answerAt rfc file instant → SFits w32 (found .offset)
 unfolding FitsAnswer
-offset-fits rfc file instant {found} e = last (subst (Gives FitsAnswer) (sym e) (at-gives rfc file instant))
-  where
-    last : Gives FitsAnswer (given (A.Found found)) → SFits w32 (found .offset)
-    last (gives h) = h
+offset-fits rfc file instant {found} e = last (subst (Gives FitsAnswer) (sym e) (at-gives rfc file instant)) where
+  last : Gives FitsAnswer (given (A.Found found)) → SFits w32 (found .offset)
+  last (gives h) = h

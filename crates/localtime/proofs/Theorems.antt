@@ -1,30 +1,21 @@
 -- What Q-10 keeps of Q-9, and what it adds, by name. Assumes nothing.
-use Prim.Native.Nat.{ℕ, _-_, _<_}
-use borrow.Author.Tests.{eq-eqb, ne-eqb, lt-ltb}
-use lib.{Dec.{eqb}, IntN.{ℤ}, Signed.{ltZ}}
-use mathlib.Core.{Bool.{Bool, true, false}, List.{List}, Path.{_≡_, refl, ap, sym, _∙_}}
-use mir.{Syntax.{w64}, Val.{SFits}}
-use native.Mathlib.Omega.{arith}
+use Rattle.numbers.{proofs.Prelude.{ℕ, _-_, _<_, eq-eqb, ne-eqb, lt-ltb, eqb, ℤ, ltZ, Bool, true, false, List, _≡_, refl, sym, ap, _∙_, w64, SFits, arith}, specs.Answer.{if_then_else_}}
 use Rattle.localtime.proofs.local.Ways.{no-transitions, after-last}
-use Rattle.localtime.specs.Found.{foundOf}
-use Rattle.localtime.specs.Local.{askIn, rulesIn, isRuled, byRule, answerBy, answerAt, localTimeBy, localTime, scaleIn, scaleOr, scaleBy, scaleAt}
+use Rattle.localtime.specs.{Found.{foundOf}, Local.{askIn, rulesIn, isRuled, byRule, answerBy, answerAt, localTimeBy, localTime, scaleIn, scaleOr, scaleBy, scaleAt}}
 use Rattle.localtime.specs.declared.{local.Timed.{Timed}, rule.Rules.{Rules}, scale.Scale.{Scale}}
+use Rattle.tzif.specs.{Check.{correctionAt}, Last.{Octets, transitionTime}, Local.{isAfterLast, byTable, lent, named, replied, Replied}, Number.{raised, lift}, Reply.{Reply, given, refused, _>>=_}}
+use Rattle.tzif.specs.{Zone.{readZone}, declared.{block.Block.{Block}, local.{Found.{Found}, Local.{Local}}, refusal.Refusal.{Refusal}, zone.Zone.{Zone}}}
+use Rattle.tzrule.specs.{Ask.{corrected, inYears, clockAt, ask}, declared.rule.Tz.{Tz}}
 use Rattle.localtime.specs.declared.rule.Rules.the-variants as R
-use Rattle.tzif.specs.{Reply.{Reply, given, refused, _>>=_, _>>_}, Check.{correctionAt}, Local.{isAfterLast, byTable, lent, named, replied, Replied}, Number.{raised, lift}, Zone.{readZone}}
-use Rattle.numbers.specs.Answer.{if_then_else_}
-use Rattle.tzif.specs.declared.{block.Block.{Block}, local.{Found.{Found}, Local.{Local}, LocalTime.{LocalTime}}, refusal.Refusal.{Refusal}, zone.Zone.{Zone}}
 use Rattle.tzif.specs.declared.local.LocalTime.the-variants as L
-use Rattle.tzif.specs.Last.{Octets, transitionTime}
 use Rattle.tzif.proofs.Theorems as last
 use Rattle.tzif.specs.Local as plain
-use Rattle.tzrule.specs.{Ask.{corrected, inYears, clockAt, ask}, declared.rule.Tz.{Tz}}
 use Rattle.tzif.specs.declared.local.Answer.the-variants as A
 
 -- two replies that the promise of `local_time` permits are equal, with all of the lent text and the scale
 pub same-local-time : (file : List ℕ) (instant : ℤ) (room : ℕ) (r q : Timed) (s t : List ℕ) → (replied (r .time) s ≡ localTime file instant room) × (r .scale ≡ scaleAt file instant)
     → (replied (q .time) t ≡ localTime file instant room) × (q .scale ≡ scaleAt file instant) → (r ≡ q) × (s ≡ t)
-same-local-time file instant room r q s t p e =
-    let same = p .0 ∙ sym (e .0) in
+same-local-time file instant room r q s t p e = let same = p .0 ∙ sym (e .0) in
     ((λ i. record { time = ap (λ (x : Replied). x .reply) same i; scale = (p .1 ∙ sym (e .1)) i }), ap (λ (x : Replied). x .text) same)
 
 -- ---- the scale
@@ -52,29 +43,27 @@ module _ (file : List ℕ) (instant : ℤ) where
 
   in-known : (zone : Zone) → Known (scaleIn file (zone .block) (lift instant) .kind)
   unfolding scaleIn
-  in-known zone = go (eqb (zone .block .leapcnt) 0)
-    where
-      kindOf : Scale → ℕ
-      kindOf scale = scale .kind
+  in-known zone = go (eqb (zone .block .leapcnt) 0) where
+    kindOf : Scale → ℕ
+    kindOf scale = scale .kind
 
-      go : (t : Bool) → Known (kindOf (if t then record { kind = 1; correction = 0 } else record { kind = 2; correction = raised (correctionAt file (zone .block) (lift instant)) }))
-      go true = unix
-      go false = own
+    go : (t : Bool) → Known (kindOf (if t then record { kind = 1; correction = 0 } else record { kind = 2; correction = raised (correctionAt file (zone .block) (lift instant)) }))
+    go true = unix
+    go false = own
 
   -- where local time is known, so is the scale
   pub known-scale : (room : ℕ) {local : Local} → localTime file instant room .reply ≡ L.Local local → Known (scaleAt file instant .kind)
   unfolding localTimeBy answerAt scaleBy scaleOr lent _>>=_
-  known-scale room {local} e = zones (readZone file) e
-    where
-      rest : (zone : Zone) (rules : Reply Rules) → lent file room (rules >>= λ by. answerBy file (zone .block) by (lift instant)) .reply ≡ L.Local local
-          → Known (scaleOr (rules >>= λ by. given (scaleIn file (zone .block) (lift instant))) .kind)
-      rest zone (given by) e = in-known zone
-      rest zone (refused why) e = let z : _≡_ {A = ℕ} 0 1 = cc in absurd (omega arith)
+  known-scale room {local} e = zones (readZone file) e where
+    rest : (zone : Zone) (rules : Reply Rules) → lent file room (rules >>= λ by. answerBy file (zone .block) by (lift instant)) .reply ≡ L.Local local
+        → Known (scaleOr (rules >>= λ by. given (scaleIn file (zone .block) (lift instant))) .kind)
+    rest zone (given by) e = in-known zone
+    rest zone (refused why) e = let z : _≡_ {A = ℕ} 0 1 = cc in absurd (omega arith)
 
-      zones : (read : Reply Zone) → lent file room (read >>= λ zone. rulesIn file zone >>= λ by. answerBy file (zone .block) by (lift instant)) .reply ≡ L.Local local
-          → Known (scaleOr (read >>= λ zone. rulesIn file zone >>= λ by. given (scaleIn file (zone .block) (lift instant))) .kind)
-      zones (given zone) e = rest zone (rulesIn file zone) e
-      zones (refused why) e = let z : _≡_ {A = ℕ} 0 1 = cc in absurd (omega arith)
+    zones : (read : Reply Zone) → lent file room (read >>= λ zone. rulesIn file zone >>= λ by. answerBy file (zone .block) by (lift instant)) .reply ≡ L.Local local
+        → Known (scaleOr (read >>= λ zone. rulesIn file zone >>= λ by. given (scaleIn file (zone .block) (lift instant))) .kind)
+    zones (given zone) e = rest zone (rulesIn file zone) e
+    zones (refused why) e = let z : _≡_ {A = ℕ} 0 1 = cc in absurd (omega arith)
 
 -- ---- what stays of Q-9
 
@@ -86,14 +75,14 @@ q10-refuses file instant room e = simp e
 -- an instant that the transitions answer is not after the last
 listed : (file : List ℕ) (block : Block) (instant : ℕ) {found : Found} → byTable file block instant ≡ A.Found found → isAfterLast file block instant ≡ false
 unfolding byTable
-listed file block instant {found} e = go (isAfterLast file block instant) refl
-  where
-    go : (t : Bool) → isAfterLast file block instant ≡ t → t ≡ false
-    go true a = let z : _≡_ {A = ℕ} 0 1 = cc (let un : A.Unknown ≡ A.Found found = simp a at e in un) in absurd (omega arith)
-    go false a = refl
+listed file block instant {found} e = go (isAfterLast file block instant) refl where
+  go : (t : Bool) → isAfterLast file block instant ≡ t → t ≡ false
+  go true a = let z : _≡_ {A = ℕ} 0 1 = cc (let un : A.Unknown ≡ A.Found found = simp a at e in un) in absurd (omega arith)
+  go false a = refl
 
 module _ (file : List ℕ) (instant : ℤ) (room : ℕ) {zone : Zone} (z : readZone file ≡ given zone) where
-  same-answer : {rules : Rules} → rulesIn file zone ≡ given rules → answerBy file (zone .block) rules (lift instant) ≡ given (byTable file (zone .block) (lift instant)) → localTime file instant room ≡ plain.localTime file instant room
+  same-answer : {rules : Rules} → rulesIn file zone ≡ given rules → answerBy file (zone .block) rules (lift instant) ≡ given (byTable file (zone .block) (lift instant)) →
+      localTime file instant room ≡ plain.localTime file instant room
   unfolding localTimeBy answerAt plain.localTimeBy _>>=_
   same-answer r a = simp (z, r, a)
 
@@ -106,15 +95,16 @@ module _ (file : List ℕ) (instant : ℤ) (room : ℕ) {zone : Zone} (z : readZ
   unfolding answerBy
   q10-without e = same-answer (no-string e) refl
 
-  by-cases : (rules : Rules) → (zone .block .timecnt ≡ 0 → rules ≡ R.Without) → isAfterLast file (zone .block) (lift instant) ≡ false → answerBy file (zone .block) rules (lift instant) ≡ given (byTable file (zone .block) (lift instant))
+  by-cases : (rules : Rules) → (zone .block .timecnt ≡ 0 → rules ≡ R.Without) → isAfterLast file (zone .block) (lift instant) ≡ false →
+      answerBy file (zone .block) rules (lift instant) ≡ given (byTable file (zone .block) (lift instant))
   unfolding answerBy isRuled
   by-cases R.Without h a = refl
-  by-cases (R.By tz) h a =
-      let some : zone .block .timecnt ≡ 0 → ⊥ = λ e. (let clash : _≡_ {A = ℕ} 0 1 = cc (h e) in omega arith) in
+  by-cases (R.By tz) h a = let some : zone .block .timecnt ≡ 0 → ⊥ = λ e. (let clash : _≡_ {A = ℕ} 0 1 = cc (h e) in omega arith) in
       simp (ne-eqb (zone .block .timecnt) 0 some, a)
 
   -- where Q-9 answers and the file is not refused 60 the answer stays, unless it has a string and no transitions
-  pub q10-extends : {rules : Rules} {found : Found} → rulesIn file zone ≡ given rules → (zone .block .timecnt ≡ 0 → zone .size ≡ 0) → byTable file (zone .block) (lift instant) ≡ A.Found found → localTime file instant room ≡ plain.localTime file instant room
+  pub q10-extends : {rules : Rules} {found : Found} → rulesIn file zone ≡ given rules → (zone .block .timecnt ≡ 0 → zone .size ≡ 0) →
+      byTable file (zone .block) (lift instant) ≡ A.Found found → localTime file instant room ≡ plain.localTime file instant room
   q10-extends {rules} r h f =
       let none : zone .block .timecnt ≡ 0 → rules ≡ R.Without = λ e. (let same : given rules ≡ given R.Without = sym r ∙ no-string (h e) in cc) in
       same-answer r (by-cases rules none (listed file (zone .block) (lift instant) f))

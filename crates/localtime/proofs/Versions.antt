@@ -1,20 +1,15 @@
 -- What version 4 leaves as it was: files of versions 1 to 3 answer as by RFC 8536, a version 4 file without its features as the same bytes marked 3. Assumes nothing.
-use Prim.Native.Nat.{ℕ, zero, suc, _+_, _-_, _≤_}
-use lib.{Dec.{eqb}, IntN.{ℤ}}
-use mathlib.Core.{Bool.{Bool, true, false}, List.{List}, Path.{_≡_, refl, ap, ap₂, _∙_}}
-use native.Mathlib.Omega.{arith}
-use Rattle.localtime.specs.Found.{foundOf, sameOctets, sameFound}
-use Rattle.localtime.specs.Local.{askIn, sameAs, agrees, orSixty, stringIn, rulesIn, isRuled, byRule, answerBy, answerAt, localTimeBy, localTime, scaleIn, scaleOr, scaleBy, scaleAt}
-use Rattle.localtime.specs.declared.{rule.Rules.{Rules}, scale.Scale.{Scale}}
-use Rattle.localtime.specs.declared.rule.Rules.the-variants as R
+use Rattle.numbers.{proofs.Prelude.{ℕ, zero, suc, _+_, _-_, _≤_, eqb, ℤ, Bool, true, false, List, _≡_, refl, ap, _∙_, arith}, specs.Answer.{if_then_else_}}
+use mathlib.Core.Path.{ap₂}
+use Rattle.localtime.specs.{Found.{foundOf, sameOctets, sameFound}, Local.{askIn, sameAs, agrees, orSixty, stringIn, rulesIn, isRuled, byRule, answerBy, answerAt, localTimeBy, localTime}}
+use Rattle.localtime.specs.{Local.{scaleIn, scaleOr, scaleBy, scaleAt}, declared.{rule.Rules.{Rules}, scale.Scale.{Scale}}}
 use Rattle.tzif.proofs.Beyond.{Beyond, Behind, found-behind, refused-one, transition-same, correction-same, type-same, type-behind, behind-same, after-same, table-same, table-behind, lent-same}
-use Rattle.tzif.proofs.{Marked.{PlainFour, markedThree, secondVersion, beyond, renamed, Second, ReadAlike, refuses, gives, zone-read}, Versions.{zone-v3-unchanged}}
-use Rattle.tzif.specs.{Block.{endOf}, Header.{rfc8536}, Local.{typeIn, typeBehind, byTable, lent}, Number.{octet, raised, lift}}
-use Rattle.tzif.specs.{Reply.{Reply, given, refused, refusal, demand, _>>=_, _>>_}, Times.{timeIn, transitionsOf}}
-use Rattle.numbers.specs.Answer.{if_then_else_}
-use Rattle.tzif.specs.declared.{block.Block.{Block}, local.{Answer.{Answer}, Found.{Found}}, refusal.Refusal.{Refusal}, zone.Zone.{Zone}}
-use Rattle.tzrule.proofs.Tail.{Alike, faults, reads, TzFrom, string-alike}
-use Rattle.tzrule.specs.{Ask.{corrected, inYears, since, clockAt, ask}, String.{stringOf}, Summer.{isSummer}, declared.{ask.{Asked.{Asked}, Time.{Time}}, rule.Tz.{Tz}}}
+use Rattle.tzif.{proofs.{Marked.{PlainFour, markedThree, secondVersion, beyond, renamed, Second, ReadAlike, refuses, gives, zone-read}, Versions.{zone-v3-unchanged}}, specs.Block.{endOf}}
+use Rattle.tzif.specs.{Header.{rfc8536}, Local.{typeIn, typeBehind, byTable, lent}, Number.{octet, raised, lift}, Reply.{Reply, given, refused, refusal, demand, _>>=_, _>>_}}
+use Rattle.tzif.specs.{Times.{timeIn, transitionsOf}, declared.{block.Block.{Block}, local.{Answer.{Answer}, Found.{Found}}, refusal.Refusal.{Refusal}, zone.Zone.{Zone}}}
+use Rattle.tzrule.{proofs.Tail.{Alike, faults, reads, TzFrom, string-alike}, specs.{Ask.{corrected, inYears, since, clockAt, ask}, String.{stringOf}, Summer.{isSummer}, declared.ask.Asked.{Asked}}}
+use Rattle.tzrule.specs.declared.{ask.Time.{Time}, rule.Tz.{Tz}}
+use Rattle.localtime.specs.declared.rule.Rules.the-variants as R
 use Rattle.tzrule.specs.Answer as T
 use Rattle.tzrule.specs.declared.ask.Asked.the-variants as K
 use Rattle.tzrule.specs.declared.rule.Tz.the-variants as Z
@@ -26,7 +21,8 @@ answerOf instant file zone = rulesIn file zone >>= λ rules. answerBy file (zone
 -- files of versions 1 to 3 answer as before, at every instant, with whatever room
 pub v3-unchanged : (file : List ℕ) → (octet file 4 ≡ 0x34 → ⊥) → (instant : ℤ) (room : ℕ) → localTime file instant room ≡ localTimeBy rfc8536 file instant room
 unfolding localTimeBy answerAt
-v3-unchanged file older instant room = ap (λ (z : Reply Zone). lent file room (z >>= λ zone. rulesIn file zone >>= λ rules. answerBy file (zone .block) rules (lift instant))) (zone-v3-unchanged file older)
+v3-unchanged file older instant room =
+    ap (λ (z : Reply Zone). lent file room (z >>= λ zone. rulesIn file zone >>= λ rules. answerBy file (zone .block) rules (lift instant))) (zone-v3-unchanged file older)
 
 -- on the same scale
 pub v3-scale : (file : List ℕ) → (octet file 4 ≡ 0x34 → ⊥) → (instant : ℤ) → scaleAt file instant ≡ scaleBy rfc8536 file instant
@@ -45,19 +41,17 @@ startOf time = time .clock .name .start
 clock-from : (from : ℕ) (tz : Tz) (u : ℕ) → TzFrom from tz → from ≤ startOf (clockAt tz u)
 unfolding TzFrom clockAt
 clock-from from (Z.Fixed clock) u t = t .start
-clock-from from (Z.Changing rule) u t = go (isSummer rule (since u))
-  where
-    go : (s : Bool) → from ≤ startOf (if s then record { clock = rule .daylight; daylight = 1 } else record { clock = rule .standard; daylight = 0 })
-    go true = t .1 .start
-    go false = t .0 .start
+clock-from from (Z.Changing rule) u t = go (isSummer rule (since u)) where
+  go : (s : Bool) → from ≤ startOf (if s then record { clock = rule .daylight; daylight = 1 } else record { clock = rule .standard; daylight = 0 })
+  go true = t .1 .start
+  go false = t .0 .start
 
 ask-from : (from : ℕ) (tz : Tz) (u : ℕ) → TzFrom from tz → AskedFrom from (ask tz u)
 unfolding ask
-ask-from from tz u t = go (inYears u)
-  where
-    go : (s : Bool) → AskedFrom from (if s then K.Holds (clockAt tz u) else K.Outside)
-    go true = holds-from {time = clockAt tz u} (clock-from from tz u t)
-    go false = outside
+ask-from from tz u t = go (inYears u) where
+  go : (s : Bool) → AskedFrom from (if s then K.Holds (clockAt tz u) else K.Outside)
+  go true = holds-from {time = clockAt tz u} (clock-from from tz u t)
+  go false = outside
 
 -- refused alike, or given alike with a rule whose names stand there
 data RulesAlike (from : ℕ) : Reply Rules → Reply Rules → Type 0 where
@@ -92,19 +86,18 @@ module _ (file other : List ℕ) (from : ℕ) (b : Beyond file other from) where
 
     agrees-same : (tz : Tz) → TzFrom from tz → agrees file block tz ≡ agrees other block tz
     unfolding agrees
-    agrees-same tz t = ap (λ (s : Bool). if eqb (block .timecnt) 0 then true else s) same
-      where
-        type : typeIn file block (typeBehind file block (block .timecnt)) ≡ typeIn other block (typeBehind other block (block .timecnt))
-        type = type-same file other from b block behind wide (typeBehind file block (block .timecnt)) ∙ ap (typeIn other block) (behind-same file other from b block behind wide (block .timecnt))
+    agrees-same tz t = ap (λ (s : Bool). if eqb (block .timecnt) 0 then true else s) same where
+      type : typeIn file block (typeBehind file block (block .timecnt)) ≡ typeIn other block (typeBehind other block (block .timecnt))
+      type = type-same file other from b block behind wide (typeBehind file block (block .timecnt)) ∙ ap (typeIn other block) (behind-same file other from b block behind wide (block .timecnt))
 
-        asked : askIn file block tz (timeIn file (transitionsOf block) (block .timecnt - 1)) ≡ askIn other block tz (timeIn other (transitionsOf block) (block .timecnt - 1))
-        asked = asked-same tz (timeIn file (transitionsOf block) (block .timecnt - 1)) ∙ ap (askIn other block tz) (transition-same file other from b block behind wide (block .timecnt - 1))
+      asked : askIn file block tz (timeIn file (transitionsOf block) (block .timecnt - 1)) ≡ askIn other block tz (timeIn other (transitionsOf block) (block .timecnt - 1))
+      asked = asked-same tz (timeIn file (transitionsOf block) (block .timecnt - 1)) ∙ ap (askIn other block tz) (transition-same file other from b block behind wide (block .timecnt - 1))
 
-        same : sameAs file (typeIn file block (typeBehind file block (block .timecnt))) (askIn file block tz (timeIn file (transitionsOf block) (block .timecnt - 1)))
-            ≡ sameAs other (typeIn other block (typeBehind other block (block .timecnt))) (askIn other block tz (timeIn other (transitionsOf block) (block .timecnt - 1)))
-        same =
-            as-same (typeIn file block (typeBehind file block (block .timecnt))) (type-behind file other from b block behind wide (typeBehind file block (block .timecnt))) (asked-from tz (timeIn file (transitionsOf block) (block .timecnt - 1)) t)
-            ∙ ap₂ (sameAs other) type asked
+      same : sameAs file (typeIn file block (typeBehind file block (block .timecnt))) (askIn file block tz (timeIn file (transitionsOf block) (block .timecnt - 1)))
+          ≡ sameAs other (typeIn other block (typeBehind other block (block .timecnt))) (askIn other block tz (timeIn other (transitionsOf block) (block .timecnt - 1)))
+      same =
+          as-same (typeIn file block (typeBehind file block (block .timecnt))) (type-behind file other from b block behind wide (typeBehind file block (block .timecnt)))
+          (asked-from tz (timeIn file (transitionsOf block) (block .timecnt - 1)) t) ∙ ap₂ (sameAs other) type asked
 
     ruled-same : (instant : ℕ) → isRuled file block instant ≡ isRuled other block instant
     unfolding isRuled
@@ -126,45 +119,43 @@ module _ (file other : List ℕ) (from : ℕ) (b : Beyond file other from) where
     unfolding _>>=_ answerBy
     answer-behind instant no-rules = refused-one
     answer-behind instant without = table-behind file other from b block behind instant
-    answer-behind instant (by-rule {tz = tz} t) = go (isRuled file block instant)
-      where
-        go : (s : Bool) → Behind from (if s then byRule (askIn file block tz instant) else given (byTable file block instant))
-        go true = rule-behind (asked-from tz instant t)
-        go false = table-behind file other from b block behind instant
+    answer-behind instant (by-rule {tz = tz} t) = go (isRuled file block instant) where
+      go : (s : Bool) → Behind from (if s then byRule (askIn file block tz instant) else given (byTable file block instant))
+      go true = rule-behind (asked-from tz instant t)
+      go false = table-behind file other from b block behind instant
 
   -- the rule of a zone, by both files
   module _ (zone : Zone) (second : Second from zone) where
-    passed : (tz : Tz) → TzFrom from tz → (s : Bool) → RulesAlike from (demand s (refusal 60 (endOf (zone .block))) >> given (R.By tz)) (demand s (refusal 60 (endOf (zone .block))) >> given (R.By tz))
+    passed : (tz : Tz) → TzFrom from tz → (s : Bool) → RulesAlike from (demand s (refusal 60 (endOf (zone .block))) >> given (R.By tz))
+        (demand s (refusal 60 (endOf (zone .block))) >> given (R.By tz))
     unfolding demand _>>_
     passed tz t true = by-rule t
     passed tz t false = no-rules
 
-    rule : (tz : Tz) → TzFrom from tz → RulesAlike from (demand (agrees file (zone .block) tz) (refusal 60 (endOf (zone .block))) >> given (R.By tz)) (demand (agrees other (zone .block) tz) (refusal 60 (endOf (zone .block))) >> given (R.By tz))
+    rule : (tz : Tz) → TzFrom from tz → RulesAlike from (demand (agrees file (zone .block) tz) (refusal 60 (endOf (zone .block))) >> given (R.By tz))
+        (demand (agrees other (zone .block) tz) (refusal 60 (endOf (zone .block))) >> given (R.By tz))
     rule tz t = rw (← agrees-same (zone .block) (second .block) (second .wide) tz t) (passed tz t (agrees file (zone .block) tz))
 
-    string : {one two : T.Answer Tz} → Alike from (TzFrom from) one two
-        → RulesAlike from (orSixty one >>= λ tz. demand (agrees file (zone .block) tz) (refusal 60 (endOf (zone .block))) >> given (R.By tz))
-        (orSixty two >>= λ tz. demand (agrees other (zone .block) tz) (refusal 60 (endOf (zone .block))) >> given (R.By tz))
+    string : {one two : T.Answer Tz} → Alike from (TzFrom from) one two → RulesAlike from (orSixty one >>= λ tz. demand (agrees file (zone .block) tz)
+        (refusal 60 (endOf (zone .block))) >> given (R.By tz)) (orSixty two >>= λ tz. demand (agrees other (zone .block) tz) (refusal 60 (endOf (zone .block))) >> given (R.By tz))
     unfolding orSixty _>>=_
     string faults = no-rules
     string (reads {a = tz} h t) = rule tz t
 
     rules-alike : RulesAlike from (rulesIn file zone) (rulesIn other (renamed zone))
     unfolding rulesIn stringIn
-    rules-alike = rw (second .version) (go (eqb (zone .size) 0))
-      where
-        go : (s : Bool)
-            → RulesAlike from (if s then given R.Without else (orSixty (stringOf true file (zone .string)) >>= λ tz. demand (agrees file (zone .block) tz) (refusal 60 (endOf (zone .block))) >> given (R.By tz)))
-            (if s then given R.Without else (orSixty (stringOf true other (zone .string)) >>= λ tz. demand (agrees other (zone .block) tz) (refusal 60 (endOf (zone .block))) >> given (R.By tz)))
-        go true = without
-        go false = string (string-alike file other from (b .size) (b .at) true (zone .string) (second .string))
+    rules-alike = rw (second .version) (go (eqb (zone .size) 0)) where
+      go : (s : Bool) → RulesAlike from (if s then given R.Without else (orSixty (stringOf true file (zone .string)) >>= λ tz. demand (agrees file (zone .block) tz)
+          (refusal 60 (endOf (zone .block))) >> given (R.By tz))) (if s then given R.Without else (orSixty (stringOf true other (zone .string)) >>= λ tz.
+          demand (agrees other (zone .block) tz) (refusal 60 (endOf (zone .block))) >> given (R.By tz)))
+      go true = without
+      go false = string (string-alike file other from (b .size) (b .at) true (zone .string) (second .string))
 
   -- the reply
   replies-alike : (instant : ℤ) (room : ℕ) {one two : Reply Zone} → ReadAlike from one two → lent file room (one >>= answerOf instant file) ≡ lent other room (two >>= answerOf instant other)
   unfolding _>>=_ answerOf
   replies-alike instant room refuses = lent-same file other from b room refused-one
-  replies-alike instant room (gives {zone = zone} second) =
-      let rules = rules-alike zone second in
+  replies-alike instant room (gives {zone = zone} second) = let rules = rules-alike zone second in
       lent-same file other from b room (answer-behind (zone .block) (second .block) (second .wide) (lift instant) rules)
       ∙ ap (lent other room) (answer-same (zone .block) (second .block) (second .wide) (lift instant) rules)
 
@@ -175,8 +166,8 @@ module _ (file other : List ℕ) (from : ℕ) (b : Beyond file other from) where
   scale-rest one two e without = e
   scale-rest one two e (by-rule t) = e
 
-  scales-alike : (instant : ℤ) {one two : Reply Zone} → ReadAlike from one two
-      → scaleOr (one >>= λ zone. rulesIn file zone >>= λ rules. given (scaleIn file (zone .block) (lift instant))) ≡ scaleOr (two >>= λ zone. rulesIn other zone >>= λ rules. given (scaleIn other (zone .block) (lift instant)))
+  scales-alike : (instant : ℤ) {one two : Reply Zone} → ReadAlike from one two → scaleOr (one >>= λ zone. rulesIn file zone >>= λ rules. given (scaleIn file (zone .block)
+      (lift instant))) ≡ scaleOr (two >>= λ zone. rulesIn other zone >>= λ rules. given (scaleIn other (zone .block) (lift instant)))
   unfolding _>>=_ scaleIn
   scales-alike instant refuses = refl
   scales-alike instant (gives {zone = zone} second) =

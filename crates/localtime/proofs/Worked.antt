@@ -1,26 +1,20 @@
 -- Files with a TZ string, and one with leap seconds, computed: what the theorems speak of is met. Assumes nothing.
-use Prim.Native.Nat.{ℕ, _+_, _-_, _*_, _%_, _^_, _≤_, _<_}
-use borrow.Author.Tests.{le-ltb, lt-ltb}
-use lib.IntN.{pos, negsuc}
-use mathlib.Core.{Bool.{Bool, true, false}, List.{List, [], _∷_}, Path.{_≡_, refl, ap, sym, _∙_}}
-use native.Mathlib.Omega.{arith}
+use Rattle.numbers.proofs.Prelude.{ℕ, _+_, _-_, _*_, _%_, _^_, lt-ltb, pos, negsuc, true, false, List, [], _∷_, _≡_, refl, sym, ap, _∙_, arith}
 use Rattle.calendar.{proofs.Laws.{days-closed, weekday-closed}, specs.{Calendar.{isLeap, monthLength, daysOfYears, daysOfMonths, weekdayOf}, Rules.{lastOn, firstOf, weeksOf, dayOf, IsMonth, IsWhen}}}
 use Rattle.calendar.specs.declared.rule.When.the-variants.{Month}
 use Rattle.localtime.proofs.Theorems.{throughout-by-string, after-last-by-string}
 use Rattle.localtime.specs.Found.{eastOf, foundOf, sameOctets, sameFound}
 use Rattle.localtime.specs.Local.{askIn, sameAs, agrees, orSixty, stringIn, rulesIn, isRuled, byRule, answerBy, answerAt, localTimeBy, localTime, scaleIn, scaleOr, scaleBy, scaleAt}
+use Rattle.tzif.{proofs.Signs.{allOctets, octets-of}, specs.Check.{occursLater, correctionBefore, correctionAt, correctionOf, oneApart, isExpiry, nulEnd, checkTime, checkIndex, checkType, checkLeap}}
+use Rattle.tzif.specs.{Check.{checkLeaps, checkStandard, isStandard, checkUt}, Header.{begins, isVersion, isFourth, versionFits, checkHeader, blockAt, noneOrAll, checkCounts, checkBlock, readBlock}}
+use Rattle.tzif.specs.{Last.{transitionTime}, Local.{typeIn, typeBehind, isAfterLast, byTable, replied, named, lent}, Number.{octets, be32, raised, timeAt, signedAt, lift}, Part.{countOf, checkOf}}
+use Rattle.tzif.specs.{Part.{checkPart}, Reply.{given, demand, each, _>>=_, _>>_}, Text.{firstWith, isStop, runTo}, Times.{timeIn, lastWith, lastNotAfter}, Zone.{newlineAt, readFooter, readShort}}
+use Rattle.tzif.specs.{Zone.{readLong, readZoneBy, readZone}, declared.zone.Zone.{Zone}}
+use Rattle.tzrule.{proofs.{Latest.{summer-latest}, SummerAt.{summer-some, says-is}}, specs.{Answer.{onward}, Ask.{corrected, inYears, since, clockAt, ask}}}
+use Rattle.tzrule.specs.{Names.{isLetter, inName, nameEnd, bareOf, nameOf}, String.{hoursOf, timeOf, changeOf, clockOf, summerOf, changingOf, stringOf}}
+use Rattle.tzrule.specs.{Summer.{startOf, closeOf, isSummer, Says, IsRule}, Text.{byteAt, isDigit, digitsOf}, declared.{ask.Time.{Time}, rule.{Rule.{Rule}, Tz.the-variants.{Fixed, Changing}}}}
 use Rattle.localtime.specs.declared.rule.Rules.the-variants as R
-use Rattle.tzif.{specs.Last.{Octets, transitionTime}, proofs.Signs.{allOctets, octets-of}}
-use Rattle.tzif.specs.Check.{occursLater, correctionBefore, correctionAt, correctionOf, oneApart, isExpiry, nulEnd, checkTime, checkIndex, checkType, checkLeap, checkLeaps, checkStandard, isStandard, checkUt}
-use Rattle.tzif.specs.Header.{begins, isVersion, isFourth, versionFits, checkHeader, blockAt, noneOrAll, checkCounts, checkBlock, readBlock}
-use Rattle.tzif.specs.{Local.{typeIn, typeBehind, isAfterLast, byTable, replied, named, lent}, Number.{octets, be32, raised, timeAt, signedAt, lift}}
-use Rattle.tzif.specs.{Part.{countOf, checkOf, checkPart}, Reply.{given, demand, each, _>>=_, _>>_}, Text.{firstWith, isStop, runTo}}
-use Rattle.tzif.specs.{Times.{timeIn, lastWith, lastNotAfter}, Zone.{newlineAt, readFooter, readShort, readLong, readZoneBy, readZone}, declared.zone.Zone.{Zone}}
 use Rattle.tzif.specs.declared.local.LocalTime.the-variants as L
-use Rattle.tzrule.proofs.{Latest.{summer-latest}, SummerAt.{summer-some, says-is}}
-use Rattle.tzrule.specs.{Answer.{onward}, Ask.{corrected, inYears, since, clockAt, ask}, Names.{isLetter, inName, nameEnd, bareOf, nameOf}, Text.{byteAt, isDigit, digitsOf}}
-use Rattle.tzrule.specs.{String.{hoursOf, timeOf, changeOf, clockOf, summerOf, changingOf, stringOf}, Summer.{startOf, closeOf, isSummer, Says, IsRule}}
-use Rattle.tzrule.specs.declared.{ask.Time.{Time}, rule.{Rule.{Rule}, Tz.the-variants.{Fixed, Changing}}}
 use Rattle.tzrule.specs.Grammar as G
 use Rattle.tzrule.specs.Names as N
 use Rattle.tzrule.specs.Summer as summer
@@ -39,15 +33,17 @@ utc =
 -- RFC 8536, appendix B.2: Pacific/Honolulu, whose string is `HST10`
 abbrev honolulu : List ℕ
 honolulu =
-    84 ∷ 90 ∷ 105 ∷ 102 ∷ 50 ∷ 0 ∷ 0 ∷ 0 ∷ 0 ∷ 0 ∷ 0 ∷ 0 ∷ 0 ∷ 0 ∷ 0 ∷ 0 ∷ 0 ∷ 0 ∷ 0 ∷ 0 ∷ 0 ∷ 0 ∷ 0 ∷ 6 ∷ 0 ∷ 0 ∷ 0 ∷ 6 ∷ 0 ∷ 0 ∷ 0 ∷ 0 ∷ 0 ∷ 0 ∷ 0 ∷ 7 ∷ 0 ∷ 0 ∷ 0 ∷ 6 ∷
-    0 ∷ 0 ∷ 0 ∷ 20 ∷ 128 ∷ 0 ∷ 0 ∷ 0 ∷ 187 ∷ 5 ∷ 67 ∷ 72 ∷ 187 ∷ 33 ∷ 113 ∷ 88 ∷ 203 ∷ 137 ∷ 61 ∷ 200 ∷ 210 ∷ 35 ∷ 244 ∷ 112 ∷ 210 ∷ 97 ∷ 73 ∷ 56 ∷ 213 ∷ 141 ∷ 115 ∷ 72 ∷ 1 ∷ 2 ∷ 1 ∷ 3 ∷ 4 ∷ 1 ∷ 5 ∷ 255 ∷
-    255 ∷ 108 ∷ 2 ∷ 0 ∷ 0 ∷ 255 ∷ 255 ∷ 108 ∷ 88 ∷ 0 ∷ 4 ∷ 255 ∷ 255 ∷ 122 ∷ 104 ∷ 1 ∷ 8 ∷ 255 ∷ 255 ∷ 122 ∷ 104 ∷ 1 ∷ 12 ∷ 255 ∷ 255 ∷ 122 ∷ 104 ∷ 1 ∷ 16 ∷ 255 ∷ 255 ∷ 115 ∷ 96 ∷ 0 ∷ 4 ∷ 76 ∷ 77 ∷ 84 ∷ 0 ∷ 72 ∷
-    83 ∷ 84 ∷ 0 ∷ 72 ∷ 68 ∷ 84 ∷ 0 ∷ 72 ∷ 87 ∷ 84 ∷ 0 ∷ 72 ∷ 80 ∷ 84 ∷ 0 ∷ 0 ∷ 0 ∷ 0 ∷ 0 ∷ 1 ∷ 0 ∷ 0 ∷ 0 ∷ 0 ∷ 0 ∷ 1 ∷ 0 ∷ 84 ∷ 90 ∷ 105 ∷ 102 ∷ 50 ∷ 0 ∷ 0 ∷ 0 ∷ 0 ∷ 0 ∷ 0 ∷ 0 ∷ 0 ∷
-    0 ∷ 0 ∷ 0 ∷ 0 ∷ 0 ∷ 0 ∷ 0 ∷ 0 ∷ 0 ∷ 0 ∷ 6 ∷ 0 ∷ 0 ∷ 0 ∷ 6 ∷ 0 ∷ 0 ∷ 0 ∷ 0 ∷ 0 ∷ 0 ∷ 0 ∷ 7 ∷ 0 ∷ 0 ∷ 0 ∷ 6 ∷ 0 ∷ 0 ∷ 0 ∷ 20 ∷ 255 ∷ 255 ∷ 255 ∷ 255 ∷ 116 ∷ 224 ∷ 112 ∷ 190 ∷ 255 ∷
-    255 ∷ 255 ∷ 255 ∷ 187 ∷ 5 ∷ 67 ∷ 72 ∷ 255 ∷ 255 ∷ 255 ∷ 255 ∷ 187 ∷ 33 ∷ 113 ∷ 88 ∷ 255 ∷ 255 ∷ 255 ∷ 255 ∷ 203 ∷ 137 ∷ 61 ∷ 200 ∷ 255 ∷ 255 ∷ 255 ∷ 255 ∷ 210 ∷ 35 ∷ 244 ∷ 112 ∷ 255 ∷ 255 ∷ 255 ∷ 255 ∷ 210 ∷ 97 ∷ 73 ∷ 56 ∷ 255 ∷
-    255 ∷ 255 ∷ 255 ∷ 213 ∷ 141 ∷ 115 ∷ 72 ∷ 1 ∷ 2 ∷ 1 ∷ 3 ∷ 4 ∷ 1 ∷ 5 ∷ 255 ∷ 255 ∷ 108 ∷ 2 ∷ 0 ∷ 0 ∷ 255 ∷ 255 ∷ 108 ∷ 88 ∷ 0 ∷ 4 ∷ 255 ∷ 255 ∷ 122 ∷ 104 ∷ 1 ∷ 8 ∷ 255 ∷ 255 ∷ 122 ∷ 104 ∷ 1 ∷ 12 ∷ 255 ∷ 255 ∷
-    122 ∷ 104 ∷ 1 ∷ 16 ∷ 255 ∷ 255 ∷ 115 ∷ 96 ∷ 0 ∷ 4 ∷ 76 ∷ 77 ∷ 84 ∷ 0 ∷ 72 ∷ 83 ∷ 84 ∷ 0 ∷ 72 ∷ 68 ∷ 84 ∷ 0 ∷ 72 ∷ 87 ∷ 84 ∷ 0 ∷ 72 ∷ 80 ∷ 84 ∷ 0 ∷ 0 ∷ 0 ∷ 0 ∷ 0 ∷ 1 ∷ 0 ∷ 0 ∷ 0 ∷ 0 ∷ 0 ∷
-    1 ∷ 0 ∷ 10 ∷ 72 ∷ 83 ∷ 84 ∷ 49 ∷ 48 ∷ 10 ∷ []
+    84 ∷ 90 ∷ 105 ∷ 102 ∷ 50 ∷ 0 ∷ 0 ∷ 0 ∷ 0 ∷ 0 ∷ 0 ∷ 0 ∷ 0 ∷ 0 ∷ 0 ∷ 0 ∷ 0 ∷ 0 ∷ 0 ∷ 0 ∷ 0 ∷ 0 ∷ 0 ∷ 6 ∷ 0 ∷ 0 ∷ 0 ∷ 6 ∷ 0 ∷ 0 ∷ 0 ∷ 0 ∷ 0 ∷ 0 ∷ 0 ∷ 7 ∷ 0
+    ∷ 0 ∷ 0 ∷ 6 ∷ 0 ∷ 0 ∷ 0 ∷ 20 ∷ 128 ∷ 0 ∷ 0 ∷ 0 ∷ 187 ∷ 5 ∷ 67 ∷ 72 ∷ 187 ∷ 33 ∷ 113 ∷ 88 ∷ 203 ∷ 137 ∷ 61 ∷ 200 ∷ 210 ∷ 35 ∷ 244 ∷ 112 ∷ 210 ∷ 97 ∷ 73 ∷ 56
+    ∷ 213 ∷ 141 ∷ 115 ∷ 72 ∷ 1 ∷ 2 ∷ 1 ∷ 3 ∷ 4 ∷ 1 ∷ 5 ∷ 255 ∷ 255 ∷ 108 ∷ 2 ∷ 0 ∷ 0 ∷ 255 ∷ 255 ∷ 108 ∷ 88 ∷ 0 ∷ 4 ∷ 255 ∷ 255 ∷ 122 ∷ 104 ∷ 1 ∷ 8 ∷ 255 ∷ 255
+    ∷ 122 ∷ 104 ∷ 1 ∷ 12 ∷ 255 ∷ 255 ∷ 122 ∷ 104 ∷ 1 ∷ 16 ∷ 255 ∷ 255 ∷ 115 ∷ 96 ∷ 0 ∷ 4 ∷ 76 ∷ 77 ∷ 84 ∷ 0 ∷ 72 ∷ 83 ∷ 84 ∷ 0 ∷ 72 ∷ 68 ∷ 84 ∷ 0 ∷ 72 ∷ 87
+    ∷ 84 ∷ 0 ∷ 72 ∷ 80 ∷ 84 ∷ 0 ∷ 0 ∷ 0 ∷ 0 ∷ 0 ∷ 1 ∷ 0 ∷ 0 ∷ 0 ∷ 0 ∷ 0 ∷ 1 ∷ 0 ∷ 84 ∷ 90 ∷ 105 ∷ 102 ∷ 50 ∷ 0 ∷ 0 ∷ 0 ∷ 0 ∷ 0 ∷ 0 ∷ 0 ∷ 0 ∷ 0 ∷ 0 ∷ 0 ∷ 0 ∷ 0
+    ∷ 0 ∷ 0 ∷ 0 ∷ 0 ∷ 0 ∷ 6 ∷ 0 ∷ 0 ∷ 0 ∷ 6 ∷ 0 ∷ 0 ∷ 0 ∷ 0 ∷ 0 ∷ 0 ∷ 0 ∷ 7 ∷ 0 ∷ 0 ∷ 0 ∷ 6 ∷ 0 ∷ 0 ∷ 0 ∷ 20 ∷ 255 ∷ 255 ∷ 255 ∷ 255 ∷ 116 ∷ 224 ∷ 112 ∷ 190
+    ∷ 255 ∷ 255 ∷ 255 ∷ 255 ∷ 187 ∷ 5 ∷ 67 ∷ 72 ∷ 255 ∷ 255 ∷ 255 ∷ 255 ∷ 187 ∷ 33 ∷ 113 ∷ 88 ∷ 255 ∷ 255 ∷ 255 ∷ 255 ∷ 203 ∷ 137 ∷ 61 ∷ 200 ∷ 255 ∷ 255 ∷ 255
+    ∷ 255 ∷ 210 ∷ 35 ∷ 244 ∷ 112 ∷ 255 ∷ 255 ∷ 255 ∷ 255 ∷ 210 ∷ 97 ∷ 73 ∷ 56 ∷ 255 ∷ 255 ∷ 255 ∷ 255 ∷ 213 ∷ 141 ∷ 115 ∷ 72 ∷ 1 ∷ 2 ∷ 1 ∷ 3 ∷ 4 ∷ 1 ∷ 5 ∷ 255
+    ∷ 255 ∷ 108 ∷ 2 ∷ 0 ∷ 0 ∷ 255 ∷ 255 ∷ 108 ∷ 88 ∷ 0 ∷ 4 ∷ 255 ∷ 255 ∷ 122 ∷ 104 ∷ 1 ∷ 8 ∷ 255 ∷ 255 ∷ 122 ∷ 104 ∷ 1 ∷ 12 ∷ 255 ∷ 255 ∷ 122 ∷ 104 ∷ 1 ∷ 16
+    ∷ 255 ∷ 255 ∷ 115 ∷ 96 ∷ 0 ∷ 4 ∷ 76 ∷ 77 ∷ 84 ∷ 0 ∷ 72 ∷ 83 ∷ 84 ∷ 0 ∷ 72 ∷ 68 ∷ 84 ∷ 0 ∷ 72 ∷ 87 ∷ 84 ∷ 0 ∷ 72 ∷ 80 ∷ 84 ∷ 0 ∷ 0 ∷ 0 ∷ 0 ∷ 0 ∷ 1 ∷ 0 ∷ 0
+    ∷ 0 ∷ 0 ∷ 0 ∷ 1 ∷ 0 ∷ 10 ∷ 72 ∷ 83 ∷ 84 ∷ 49 ∷ 48 ∷ 10 ∷ []
 
 -- the first is on its own scale, 27 seconds on in 2026, and 1 on the second after the first leap second; the second is on UNIX time's,
 -- and after its last transition, of 1947, its string says HST, ten hours west
@@ -60,7 +56,13 @@ pub record Worked : Type 0 where
   pub listed : localTime honolulu (negsuc 769395600) 3 ≡ replied (L.Local (record { offset = negsuc 34199; daylight = 1; length = 3 })) (72 ∷ 87 ∷ 84 ∷ [])
 
 pub worked : Worked
-unfolding occursLater correctionBefore correctionAt correctionOf oneApart isExpiry nulEnd checkTime checkIndex checkType checkLeap checkLeaps checkStandard isStandard checkUt begins isVersion isFourth versionFits checkHeader blockAt noneOrAll checkCounts checkBlock readBlock octets be32 raised timeAt lift countOf checkOf checkPart demand each _>>=_ _>>_ firstWith isStop runTo timeIn lastWith lastNotAfter newlineAt readFooter readShort readLong readZoneBy scaleBy scaleOr scaleIn rulesIn stringIn orSixty agrees stringOf clockOf changingOf changeOf timeOf hoursOf summerOf G.ranged G.numberOf G.secondsOf G.minutesOf G.clockOf G.laterOf G.earlierOf G.signedOf G.dottedOf G.weekdayFrom G.weekFrom G.monthFrom G.dateOf isLetter inName nameEnd N.endOf bareOf nameOf byteAt isDigit digitsOf onward sameAs askIn localTimeBy answerAt answerBy isRuled byRule lent typeIn typeBehind isAfterLast byTable eastOf foundOf sameOctets sameFound corrected inYears clockAt ask
+unfolding occursLater correctionBefore correctionAt correctionOf oneApart isExpiry nulEnd checkTime checkIndex checkType checkLeap checkLeaps checkStandard
+    isStandard checkUt begins isVersion isFourth versionFits checkHeader blockAt noneOrAll checkCounts checkBlock readBlock octets be32 raised timeAt lift
+    countOf checkOf checkPart demand each _>>=_ _>>_ firstWith isStop runTo timeIn lastWith lastNotAfter newlineAt readFooter readShort readLong readZoneBy
+    scaleBy scaleOr scaleIn rulesIn stringIn orSixty agrees stringOf clockOf changingOf changeOf timeOf hoursOf summerOf G.ranged G.numberOf G.secondsOf
+    G.minutesOf G.clockOf G.laterOf G.earlierOf G.signedOf G.dottedOf G.weekdayFrom G.weekFrom G.monthFrom G.dateOf isLetter inName nameEnd N.endOf bareOf
+    nameOf byteAt isDigit digitsOf onward sameAs askIn localTimeBy answerAt answerBy isRuled byRule lent typeIn typeBehind isAfterLast byTable eastOf foundOf
+    sameOctets sameFound corrected inYears clockAt ask
 worked = record { leaping = refl; first = refl; before = refl; plain = refl; after = refl; listed = refl }
 
 -- ---- a southern rule: Australia/Sydney's, in a file without transitions
@@ -151,11 +153,15 @@ zone = record {
 }
 
 is-read : readZone sydney ≡ given zone
-unfolding occursLater correctionBefore correctionAt correctionOf oneApart isExpiry nulEnd checkTime checkIndex checkType checkLeap checkLeaps checkStandard isStandard checkUt begins isVersion isFourth versionFits checkHeader blockAt noneOrAll checkCounts checkBlock readBlock octets be32 raised timeAt lift countOf checkOf checkPart demand each _>>=_ _>>_ firstWith isStop runTo timeIn lastWith lastNotAfter newlineAt readFooter readShort readLong readZoneBy
+unfolding occursLater correctionBefore correctionAt correctionOf oneApart isExpiry nulEnd checkTime checkIndex checkType checkLeap checkLeaps checkStandard
+    isStandard checkUt begins isVersion isFourth versionFits checkHeader blockAt noneOrAll checkCounts checkBlock readBlock octets be32 raised timeAt lift
+    countOf checkOf checkPart demand each _>>=_ _>>_ firstWith isStop runTo timeIn lastWith lastNotAfter newlineAt readFooter readShort readLong readZoneBy
 is-read = refl
 
 is-ruled : rulesIn sydney zone ≡ given (R.By (Changing rule))
-unfolding rulesIn stringIn orSixty agrees stringOf clockOf changingOf changeOf timeOf hoursOf summerOf G.ranged G.numberOf G.secondsOf G.minutesOf G.clockOf G.laterOf G.earlierOf G.signedOf G.dottedOf G.weekdayFrom G.weekFrom G.monthFrom G.dateOf isLetter inName nameEnd N.endOf bareOf nameOf byteAt isDigit digitsOf onward demand _>>=_ _>>_
+unfolding rulesIn stringIn orSixty agrees stringOf clockOf changingOf changeOf timeOf hoursOf summerOf G.ranged G.numberOf G.secondsOf G.minutesOf G.clockOf
+    G.laterOf G.earlierOf G.signedOf G.dottedOf G.weekdayFrom G.weekFrom G.monthFrom G.dateOf isLetter inName nameEnd N.endOf bareOf nameOf byteAt isDigit
+    digitsOf onward demand _>>=_ _>>_
 is-ruled = refl
 
 summer-clock : clockAt (Changing rule) (2 ^ 63 + 1768435200) ≡ record { clock = rule .daylight; daylight = 1 }
@@ -183,11 +189,16 @@ island = record {
 }
 
 island-read : readZone honolulu ≡ given island
-unfolding occursLater correctionBefore correctionAt correctionOf oneApart isExpiry nulEnd checkTime checkIndex checkType checkLeap checkLeaps checkStandard isStandard checkUt begins isVersion isFourth versionFits checkHeader blockAt noneOrAll checkCounts checkBlock readBlock octets be32 raised timeAt lift countOf checkOf checkPart demand each _>>=_ _>>_ firstWith isStop runTo timeIn lastWith lastNotAfter newlineAt readFooter readShort readLong readZoneBy
+unfolding occursLater correctionBefore correctionAt correctionOf oneApart isExpiry nulEnd checkTime checkIndex checkType checkLeap checkLeaps checkStandard
+    isStandard checkUt begins isVersion isFourth versionFits checkHeader blockAt noneOrAll checkCounts checkBlock readBlock octets be32 raised timeAt lift
+    countOf checkOf checkPart demand each _>>=_ _>>_ firstWith isStop runTo timeIn lastWith lastNotAfter newlineAt readFooter readShort readLong readZoneBy
 island-read = refl
 
 island-ruled : rulesIn honolulu island ≡ given (R.By (Fixed (record { name = record { start = 323; end = 326 }; west = 640800 })))
-unfolding rulesIn stringIn orSixty agrees stringOf clockOf changingOf changeOf timeOf hoursOf summerOf G.ranged G.numberOf G.secondsOf G.minutesOf G.clockOf G.laterOf G.earlierOf G.signedOf G.dottedOf G.weekdayFrom G.weekFrom G.monthFrom G.dateOf isLetter inName nameEnd N.endOf bareOf nameOf byteAt isDigit digitsOf onward sameAs askIn typeIn typeBehind eastOf foundOf sameOctets sameFound corrected correctionAt correctionBefore lastNotAfter lastWith timeIn timeAt be32 raised firstWith isStop runTo inYears clockAt ask demand _>>=_ _>>_
+unfolding rulesIn stringIn orSixty agrees stringOf clockOf changingOf changeOf timeOf hoursOf summerOf G.ranged G.numberOf G.secondsOf G.minutesOf G.clockOf
+    G.laterOf G.earlierOf G.signedOf G.dottedOf G.weekdayFrom G.weekFrom G.monthFrom G.dateOf isLetter inName nameEnd N.endOf bareOf nameOf byteAt isDigit
+    digitsOf onward sameAs askIn typeIn typeBehind eastOf foundOf sameOctets sameFound corrected correctionAt correctionBefore lastNotAfter lastWith timeIn
+    timeAt be32 raised firstWith isStop runTo inYears clockAt ask demand _>>=_ _>>_
 island-ruled = refl
 
 pub after-last-met : localTime honolulu (pos 1782907199) 3 ≡ named honolulu 3 (record { offset = negsuc 35999; daylight = 0; place = 323; length = 3 })

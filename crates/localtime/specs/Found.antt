@@ -1,9 +1,5 @@
 -- What a TZ string gives as a local time, and whether it is the same as another.
-use Prim.Native.Nat.{ℕ, zero, suc, _+_, _-_, _≤_}
-use lib.{Dec.{eqb}, IntN.{ℤ, pos, _-ℤ_}}
-use mathlib.Core.{Bool.{Bool, true, false}, List.{List}}
-use mir.{Syntax.{w32}, Val.{ofZ}}
-use Rattle.numbers.specs.Answer.{if_then_else_}
+use Rattle.numbers.specs.{Answer.{if_then_else_}, Prelude.{ℕ, zero, suc, _+_, _-_, _≤_, eqb, ℤ, pos, _-ℤ_, Bool, true, false, List, w32, ofZ}}
 use Rattle.tzif.specs.{Number.{octet}, declared.local.Found.{Found}}
 use Rattle.tzrule.specs.declared.ask.Time.{Time}
 

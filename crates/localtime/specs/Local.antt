@@ -1,18 +1,15 @@
 -- Local time with the footer's TZ string.
-use Prim.Native.Nat.{ℕ, _-_}
-use lib.{Dec.{ltb, eqb}, IntN.{ℤ}}
-use mathlib.Core.{Bool.{Bool, true}, List.{List}}
+use Rattle.numbers.specs.{Answer.{if_then_else_}, Prelude.{ℕ, _-_, eqb, ltb, ℤ, Bool, true, List}}
 use Rattle.localtime.specs.{Found.{foundOf, sameFound}, declared.{local.Said.{Said}, rule.{Rules.{Rules}, Stated.{Stated}}, scale.Scale.{Scale}}}
+use Rattle.tzif.specs.{Block.{endOf}, Check.{correctionAt}, Header.{Rfc, rfc9636}, Local.{typeIn, typeBehind, isAfterLast, byTable, lent, Replied, Good, Held}, Number.{raised, lift}}
+use Rattle.tzif.specs.{Reply.{Reply, given, refused, refusal, demand, _>>=_, _>>_}, Times.{timeIn, transitionsOf, occurrencesOf, Rises}, Zone.{readZoneBy}, declared.block.Block.{Block}}
+use Rattle.tzif.specs.declared.{local.{Answer.{Answer}, Found.{Found}}, zone.Zone.{Zone}}
+use Rattle.tzrule.specs.{Ask.{corrected, ask}, String.{stringOf}, declared.{ask.Asked.{Asked}, rule.Tz.{Tz}}, inner.String.{IsClock, IsTz}}
 use Rattle.localtime.specs.declared.local.Said.the-variants as S
 use Rattle.localtime.specs.declared.rule.Rules.the-variants as R
 use Rattle.localtime.specs.declared.rule.Stated.the-variants as Q
-use Rattle.numbers.specs.Answer.{if_then_else_}
-use Rattle.tzif.specs.{Reply.{Reply, given, refused, refusal, demand, _>>=_, _>>_}, Block.{endOf}, Check.{correctionAt}, Header.{Rfc, rfc9636}}
-use Rattle.tzif.specs.{Local.{typeIn, typeBehind, isAfterLast, byTable, lent, Replied, Good, Held}, Number.{raised, lift}, Times.{timeIn, transitionsOf, occurrencesOf, Rises}}
-use Rattle.tzif.specs.{Zone.{readZoneBy}, declared.{block.Block.{Block}, local.{Answer.{Answer}, Found.{Found}}, zone.Zone.{Zone}}}
 use Rattle.tzif.specs.declared.local.Answer.the-variants as A
 use Rattle.tzrule.specs.Answer as T
-use Rattle.tzrule.specs.{Ask.{corrected, ask}, String.{stringOf}, inner.String.{IsClock, IsTz}, declared.{ask.Asked.{Asked}, rule.Tz.{Tz}}}
 use Rattle.tzrule.specs.declared.ask.Asked.the-variants as K
 
 -- the string is in UNIX time, the file's own scale less its leap seconds

@@ -1,62 +1,46 @@
 -- A box that points are taken into holds them, and what it held before. Assumes nothing.
-use native.Mathlib.Omega.{arith}
-use mathlib.Core.{Path.{_≡_, refl, sym, _∙_}, Bool.{Bool, true, false, _&&_}}
-use lib.{IntN.{ℤ, pos, negsuc}, Signed.{leZ}}
-use borrow.Author.Tests.{le-leb, leb-true}
-use Rattle.numbers.specs.Answer.{if_then_else_}
-use Rattle.border.specs.{Box.{Box, minZ, maxZ, grown, holds}, declared.place.{FixedLat.{FixedLat}, FixedLon.{FixedLon}, Point.{Point}}}
-use Rattle.numbers.proofs.Tests.{both, differ}
-use Rattle.verdict.specs.Edge.{between, inBox, sameZ, samePoint}
-use Rattle.verdict.proofs.{OutsideBox.{leZ-trans, leZ-total, unless}, AfarBox.{holds-parts}}
-
-leZ-refl : (a : ℤ) → leZ a a ≡ true
-leZ-refl (pos a) = le-leb a a (omega arith)
-leZ-refl (negsuc a) = le-leb a a (omega arith)
+use Rattle.numbers.{proofs.{Prelude.{ℤ, leZ, Bool, true, false, _≡_, refl}, Tests.{both}}, specs.Answer.{if_then_else_}}
+use Rattle.border.specs.{Box.{Box, minZ, maxZ, grown, holds}, declared.place.Point.{Point}}
+use Rattle.verdict.{proofs.{AfarBox.{holds-parts}, Compared.{same-eq}, Gliding.{le-self}, OutsideBox.{leZ-trans, leZ-total, unless}}, specs.Edge.{between, inBox, sameZ, samePoint}}
 
 min-left : (a b : ℤ) → leZ (minZ a b) a ≡ true
 unfolding minZ
-min-left a b = go (leZ a b) refl
-  where
-    go : (t : Bool) → leZ a b ≡ t → leZ (if t then a else b) a ≡ true
-    go true e = leZ-refl a
-    go false e = leZ-total a b e
+min-left a b = go (leZ a b) refl where
+  go : (t : Bool) → leZ a b ≡ t → leZ (if t then a else b) a ≡ true
+  go true e = le-self a
+  go false e = leZ-total a b e
 
 min-right : (a b : ℤ) → leZ (minZ a b) b ≡ true
 unfolding minZ
-min-right a b = go (leZ a b) refl
-  where
-    go : (t : Bool) → leZ a b ≡ t → leZ (if t then a else b) b ≡ true
-    go true e = e
-    go false e = leZ-refl b
+min-right a b = go (leZ a b) refl where
+  go : (t : Bool) → leZ a b ≡ t → leZ (if t then a else b) b ≡ true
+  go true e = e
+  go false e = le-self b
 
 max-left : (a b : ℤ) → leZ a (maxZ a b) ≡ true
 unfolding maxZ
-max-left a b = go (leZ a b) refl
-  where
-    go : (t : Bool) → leZ a b ≡ t → leZ a (if t then b else a) ≡ true
-    go true e = e
-    go false e = leZ-refl a
+max-left a b = go (leZ a b) refl where
+  go : (t : Bool) → leZ a b ≡ t → leZ a (if t then b else a) ≡ true
+  go true e = e
+  go false e = le-self a
 
 max-right : (a b : ℤ) → leZ b (maxZ a b) ≡ true
 unfolding maxZ
-max-right a b = go (leZ a b) refl
-  where
-    go : (t : Bool) → leZ a b ≡ t → leZ b (if t then b else a) ≡ true
-    go true e = leZ-refl b
-    go false e = leZ-total a b e
+max-right a b = go (leZ a b) refl where
+  go : (t : Bool) → leZ a b ≡ t → leZ b (if t then b else a) ≡ true
+  go true e = le-self b
+  go false e = leZ-total a b e
 
 holds-by : (box : Box) (p : Point) → leZ (box .low .lat .0) (p .lat .0) ≡ true → leZ (p .lat .0) (box .high .lat .0) ≡ true → leZ (box .low .lon .0) (p .lon .0) ≡ true
     → leZ (p .lon .0) (box .high .lon .0) ≡ true → holds box p ≡ true
 holds-by box p a b c d = rw (a, b, c, d)
 
 pub grown-holds : (box : Box) (p q : Point) → holds box q ≡ true → holds (grown box p) q ≡ true
-grown-holds box p q e =
-    let h = holds-parts box q e in
-    holds-by (grown box p) q
-    (leZ-trans (minZ (box .low .lat .0) (p .lat .0)) (box .low .lat .0) (q .lat .0) (min-left (box .low .lat .0) (p .lat .0)) (h .0))
+grown-holds box p q e = let h = holds-parts box q e in
+    holds-by (grown box p) q (leZ-trans (minZ (box .low .lat .0) (p .lat .0)) (box .low .lat .0) (q .lat .0) (min-left (box .low .lat .0) (p .lat .0)) (h .0))
     (leZ-trans (q .lat .0) (box .high .lat .0) (maxZ (box .high .lat .0) (p .lat .0)) (h .1) (max-left (box .high .lat .0) (p .lat .0)))
-    (leZ-trans (minZ (box .low .lon .0) (p .lon .0)) (box .low .lon .0) (q .lon .0) (min-left (box .low .lon .0) (p .lon .0)) (h .2))
-    (leZ-trans (q .lon .0) (box .high .lon .0) (maxZ (box .high .lon .0) (p .lon .0)) (h .3) (max-left (box .high .lon .0) (p .lon .0)))
+    (leZ-trans (minZ (box .low .lon .0) (p .lon .0)) (box .low .lon .0) (q .lon .0) (min-left (box .low .lon .0) (p .lon .0)) (h .2)) (leZ-trans (q .lon .0)
+    (box .high .lon .0) (maxZ (box .high .lon .0) (p .lon .0)) (h .3) (max-left (box .high .lon .0) (p .lon .0)))
 
 pub taken-holds : (box : Box) (p : Point) → holds (grown box p) p ≡ true
 taken-holds box p =
@@ -64,7 +48,7 @@ taken-holds box p =
     (min-right (box .low .lat .0) (p .lat .0)) (max-right (box .high .lat .0) (p .lat .0)) (min-right (box .low .lon .0) (p .lon .0)) (max-right (box .high .lon .0) (p .lon .0))
 
 pub own-holds : (p : Point) → holds (record { low = p; high = p }) p ≡ true
-own-holds p = holds-by (record { low = p; high = p }) p (leZ-refl (p .lat .0)) (leZ-refl (p .lat .0)) (leZ-refl (p .lon .0)) (leZ-refl (p .lon .0))
+own-holds p = holds-by (record { low = p; high = p }) p (le-self (p .lat .0)) (le-self (p .lat .0)) (le-self (p .lon .0)) (le-self (p .lon .0))
 
 -- a box that does not hold a point by either order of its corners does not hold it
 pub out-of-box : (box : Box) (p : Point) → inBox (box .low) p (box .high) ≡ false → holds box p ≡ false
@@ -73,19 +57,7 @@ out-of-box box p = unless (holds box p) (inBox (box .low) p (box .high)) (λ e. 
 
 -- ---- points that are the same
 
-sameZ-is : (a b : ℤ) → sameZ a b ≡ true → a ≡ b
-sameZ-is a b e = let h = both (leZ a b) (leZ b a) e in order a b (h .0) (h .1)
-  where
-    order : (a b : ℤ) → leZ a b ≡ true → leZ b a ≡ true → a ≡ b
-    order (pos a) (pos b) h k = let e : a ≡ b = omega (arith, leb-true a b h, leb-true b a k) in λ i. pos (e i)
-    order (pos a) (negsuc b) h k = differ h
-    order (negsuc a) (pos b) h k = differ k
-    order (negsuc a) (negsuc b) h k = let e : a ≡ b = omega (arith, leb-true b a h, leb-true a b k) in λ i. negsuc (e i)
-
 pub same-point-is : (p q : Point) → samePoint p q ≡ true → p ≡ q
 unfolding samePoint
-same-point-is p q e =
-    let h = both (sameZ (p .lat .0) (q .lat .0)) (sameZ (p .lon .0) (q .lon .0)) e in
-    let lat = sameZ-is (p .lat .0) (q .lat .0) (h .0) in
-    let lon = sameZ-is (p .lon .0) (q .lon .0) (h .1) in
-    λ i. record { lat = record { 0 = lat i }; lon = record { 0 = lon i } }
+same-point-is p q e = let h = both (sameZ (p .lat .0) (q .lat .0)) (sameZ (p .lon .0) (q .lon .0)) e in
+    λ i. record { lat = record { 0 = same-eq (p .lat .0) (q .lat .0) (h .0) i }; lon = record { 0 = same-eq (p .lon .0) (q .lon .0) (h .1) i } }

@@ -1,24 +1,19 @@
 -- The judgement by marks that stand in words is the judgement by the points of the border that they are of. Assumes nothing.
-use Prim.Native.Nat.{ℕ, zero, suc, _+_, _-_, _*_, _≤_, _<_, min}
-use native.Mathlib.{Nat.{suc-mul, zero-mul}, Omega.{arith}}
-use borrow.Author.Tests.{ltb-true, ltb-false}
-use mathlib.Core.{Path.{_≡_, refl, sym, ap, _∙_, subst}, Bool.{Bool, true, false}, List.{List, _++_}}
-use lib.{Dec.{ltb}, ListN.{length, length-append}}
-use Rattle.border.specs.{Box.{Box, grown}, Trace.{traceOf}, declared.{place.Point.{Point}, reader.{Reader.{Reader}, Encoding.{Encoding}}}}
-use Rattle.verdict.specs.{Step.{Step}, Edge.{inBox}, Stretch.{passingFirst}, Verdict.{after, passing}, declared.step.Tally.{Tally}}
+use Rattle.numbers.proofs.Prelude.{ℕ, zero, suc, _+_, _-_, _*_, _≤_, _<_, min, ltb-true, ltb-false, ltb, length, length-append, Bool, true, false, List, _≡_, refl, sym, ap, subst, _∙_, zero-mul}
+use Rattle.numbers.proofs.Prelude.{suc-mul, arith}
+use Rattle.border.specs.{Box.{Box, grown}, declared.{place.Point.{Point}, reader.{Encoding.{Encoding}, Reader.{Reader}}}}
+use Rattle.verdict.specs.{Step.{Step}, Verdict.{after}, declared.step.Tally.{Tally}}
 use Rattle.marks.specs.Judging.{stretchBy, endIn, pointsBy, stretchesBy, groupsBy}
-use Rattle.marks.specs.Marks.{nextOr, Span, spanOver, spanFrom, markOf, marksFrom, isNarrow, stretchEdges, groupWide, groupEdges, groupsOf}
-use Rattle.marks.specs.Words.{markWide, startIn, stateIn, lowIn, highIn}
+use Rattle.marks.specs.{Marks.{nextOr, spanOver, spanFrom, markOf, marksFrom, isNarrow, stretchEdges, groupWide, groupEdges, groupsOf}, Words.{markWide}}
+use Rattle.marks.proofs.{Groups.{lastOver, last-none, last-both, last-round, last-ended, marks-both}, Parts.{Judges, judges-none, judges-both, judges-ended}}
 use Rattle.marks.proofs.{ReadBack.{At, at-left, at-right, Narrow, grown-narrow, Markable, markable, low-back, high-back, start-back, state-back}, Rounds.{Round, closes, goes}}
-use Rattle.marks.proofs.{Groups.{lastOver, last-none, last-both, last-round, last-ended, marks-both}, Stretches.{points-judge, stretch-judges}}
-use Rattle.marks.proofs.Parts.{Judges, judges-none, judges-both, judges-ended}
+use Rattle.marks.proofs.Stretches.{points-judge, stretch-judges}
 
 -- how many words the marks of so many stretches have
 pub marks-length : (edges more : ℕ) (file : List ℕ) (encoding : Encoding) (s : Reader) → length (marksFrom edges more file encoding s) ≡ more * 11
 unfolding marksFrom
 marks-length edges zero file encoding s = sym (zero-mul 11)
-marks-length edges (suc more) file encoding s =
-    let span = spanFrom edges file encoding s in
+marks-length edges (suc more) file encoding s = let span = spanFrom edges file encoding s in
     omega (arith, marks-length edges more file encoding (span .last), length-append (markOf s (span .box)) (marksFrom edges more file encoding (span .last)), suc-mul more 11)
 
 -- ---- the numbers of a group
@@ -48,11 +43,10 @@ grouped more left n g few full = record {
 -- a group has all its stretches, or it is the last
 group-whole : {C : Type 0} (left n : ℕ) → n ≤ left * stretchEdges → (min groupWide left * stretchEdges ≡ groupEdges → C) → (n ≤ min groupWide left * stretchEdges → C) → C
 unfolding groupWide stretchEdges groupEdges
-group-whole {C} left n few full last = go (ltb left 16) refl
-  where
-    go : (b : Bool) → ltb left 16 ≡ b → C
-    go true e = last (omega (arith, ltb-true left 16 e, few))
-    go false e = full (omega (arith, ltb-false left 16 e))
+group-whole {C} left n few full last = go (ltb left 16) refl where
+  go : (b : Bool) → ltb left 16 ≡ b → C
+  go true e = last (omega (arith, ltb-true left 16 e, few))
+  go false e = full (omega (arith, ltb-false left 16 e))
 
 some-edges : 0 < stretchEdges
 unfolding stretchEdges
@@ -95,27 +89,22 @@ module _ (file : List ℕ) (encoding : Encoding) (first : Point) (narrow : isNar
     unfolding endIn marksFrom
     end-so edges zero s n at to r there h = h refl
     end-so edges (suc more) s n at to r there h =
-        start-back words (at + markWide) s (spanFrom edges file encoding s .box)
-        (at-left words (at + markWide) (markOf s (spanFrom edges file encoding s .box)) (marksFrom edges more file encoding (spanFrom edges file encoding s .last)) there)
-        (round-narrow s n r)
+        start-back words (at + markWide) s (spanFrom edges file encoding s .box) (at-left words (at + markWide) (markOf s (spanFrom edges file encoding s .box))
+        (marksFrom edges more file encoding (spanFrom edges file encoding s .last)) there) (round-narrow s n r)
 
     module _ (s : Reader) (n at : ℕ) (r : Round file encoding first s n) (some : 0 < n) where
       -- the stretch of one mark, by what is inside
-      mark-judges : (edges : ℕ) → 0 < edges → At words at (markOf s (spanFrom edges file encoding s .box)) → (to : Point) → to ≡ last edges s .point → (inside : Tally → Step Tally)
-          → Judged edges s inside
-          → Judged edges s (stretchBy file encoding fix asked words first at to inside)
+      mark-judges : (edges : ℕ) → 0 < edges → At words at (markOf s (spanFrom edges file encoding s .box)) → (to : Point) → to ≡ last edges s .point
+          → (inside : Tally → Step Tally) → Judged edges s inside → Judged edges s (stretchBy file encoding fix asked words first at to inside)
       unfolding stretchBy
-      mark-judges edges more here to leads inside j t =
-          let box = spanFrom edges file encoding s .box in
-          let own = round-narrow s n r in
+      mark-judges edges more here to leads inside j t = let box = spanFrom edges file encoding s .box in let own = round-narrow s n r in
           let fits = span-narrow edges s n (record { low = s .point; high = s .point }) r (record { low = own; high = own }) in
           rw (low-back words at s box here fits, high-back words at s box here fits, start-back words at s box here own, leads)
           (stretch-judges file encoding fix asked first edges more s n r inside j t)
 
       -- inside a stretch are its points
       points-so : At words at (markOf s (spanFrom stretchEdges file encoding s .box)) → Judged stretchEdges s (pointsBy file encoding fix asked words first at)
-      points-so here t =
-          let box = spanFrom stretchEdges file encoding s .box in
+      points-so here t = let box = spanFrom stretchEdges file encoding s .box in
           rw (state-back words at s box here first (marked-so file encoding first s n r some), start-back words at s box here (round-narrow s n r))
           (points-judge file encoding fix asked first stretchEdges s n r t)
 
@@ -124,26 +113,20 @@ module _ (file : List ℕ) (encoding : Encoding) (first : Point) (narrow : isNar
         → to ≡ last (k * stretchEdges) s .point → Judged (k * stretchEdges) s (stretchesBy file encoding fix asked words first k at to)
     unfolding stretchesBy marksFrom
     fine-judges zero s n at to r full here leads = rw (zero-mul stretchEdges) (judges-none file encoding fix asked s)
-    fine-judges (suc more) s n at to r full here leads =
-        let box = spanFrom stretchEdges file encoding s .box in
-        let t = last stretchEdges s in
-        let mark = markOf s box in
-        let later = marksFrom stretchEdges more file encoding t in
+    fine-judges (suc more) s n at to r full here leads = let box = spanFrom stretchEdges file encoding s .box in let t = last stretchEdges s in
+        let mark = markOf s box in let later = marksFrom stretchEdges more file encoding t in
         let many : suc more * stretchEdges ≡ stretchEdges + more * stretchEdges = omega (arith, suc-mul more stretchEdges) in
-        let some : 0 < n = omega (arith, full, many) in
-        let behind = last-round file encoding first stretchEdges s n r in
+        let some : 0 < n = omega (arith, full, many) in let behind = last-round file encoding first stretchEdges s n r in
         let there : At words (at + markWide) later = at-right words at mark later here in
-        let on : to ≡ last (more * stretchEdges) t .point = leads ∙ ap (λ (k : ℕ). last k s .point) many
-        ∙ ap (λ (u : Reader). u .point) (last-both file encoding stretchEdges (more * stretchEdges) s) in
+        let on : to ≡ last (more * stretchEdges) t .point = leads ∙ ap (λ (k : ℕ). last k s .point) many ∙ ap (λ (u : Reader). u .point) (last-both file
+        encoding stretchEdges (more * stretchEdges) s) in
         let ends = end-so stretchEdges more t (n - stretchEdges) at to behind there (λ z. on ∙ no-more t more z) in
-        subst (λ (k : ℕ). Judged k s (stretchesBy file encoding fix asked words first (suc more) at to)) (sym many)
-        (judges-both file encoding fix asked stretchEdges (more * stretchEdges) s _ (stretchesBy file encoding fix asked words first more (at + markWide) to)
-        (mark-judges s n at r some stretchEdges some-edges (at-left words at mark later here) (endIn words to more at) ends (pointsBy file encoding fix asked words first at)
-        (points-so s n at r some (at-left words at mark later here)))
-        (fine-judges more t (n - stretchEdges) (at + markWide) to behind (omega (arith, full, many)) there on))
-      where
-        no-more : (t : Reader) (more : ℕ) → more ≡ 0 → last (more * stretchEdges) t .point ≡ t .point
-        no-more t more z = ap (λ (k : ℕ). last k t .point) (ap (λ (k : ℕ). k * stretchEdges) z ∙ zero-mul stretchEdges) ∙ ap (λ (u : Reader). u .point) (last-none file encoding t)
+        subst (λ (k : ℕ). Judged k s (stretchesBy file encoding fix asked words first (suc more) at to)) (sym many) (judges-both file encoding fix asked
+        stretchEdges (more * stretchEdges) s _ (stretchesBy file encoding fix asked words first more (at + markWide) to) (mark-judges s n at r some stretchEdges
+        some-edges (at-left words at mark later here) (endIn words to more at) ends (pointsBy file encoding fix asked words first at) (points-so s n at r some
+        (at-left words at mark later here))) (fine-judges more t (n - stretchEdges) (at + markWide) to behind (omega (arith, full, many)) there on)) where
+          no-more : (t : Reader) (more : ℕ) → more ≡ 0 → last (more * stretchEdges) t .point ≡ t .point
+          no-more t more z = ap (λ (k : ℕ). last k t .point) (ap (λ (k : ℕ). k * stretchEdges) z ∙ zero-mul stretchEdges) ∙ ap (λ (u : Reader). u .point) (last-none file encoding t)
 
     -- the groups of all stretches
     pub coarse-judges : (g left : ℕ) (s : Reader) (n at fine : ℕ) → g ≡ groupsOf left → Round file encoding first s n → n ≤ left * stretchEdges → left * stretchEdges < n + stretchEdges
@@ -151,30 +134,23 @@ module _ (file : List ℕ) (encoding : Encoding) (first : Point) (narrow : isNar
         → Judged (g * groupEdges) s (groupsBy file encoding fix asked words first g at left fine)
     unfolding groupsBy marksFrom
     coarse-judges zero left s n at fine g r few full here inside = rw (zero-mul groupEdges) (judges-none file encoding fix asked s)
-    coarse-judges (suc more) left s n at fine g r few full here inside =
-        let k = min groupWide left in
-        let number = grouped more left n g few full in
-        let t = last groupEdges s in
-        let mark = markOf s (spanFrom groupEdges file encoding s .box) in
-        let later = marksFrom groupEdges more file encoding t in
-        let behind = last-round file encoding first groupEdges s n r in
-        let there : At words (at + markWide) later = at-right words at mark later here in
-        let to = endIn words first more at in
-        let many : suc more * groupEdges ≡ groupEdges + more * groupEdges = omega (arith, suc-mul more groupEdges) in
-        let same : last groupEdges s ≡ last (k * stretchEdges) s =
-        group-whole left n few (λ e. ap (λ (edges : ℕ). last edges s) (sym e)) (λ h. last-ended file encoding first (k * stretchEdges) groupEdges s n r h (number .most)) in
+    coarse-judges (suc more) left s n at fine g r few full here inside = let k = min groupWide left in let number = grouped more left n g few full in
+        let t = last groupEdges s in let mark = markOf s (spanFrom groupEdges file encoding s .box) in let later = marksFrom groupEdges more file encoding t in
+        let behind = last-round file encoding first groupEdges s n r in let there : At words (at + markWide) later = at-right words at mark later here in
+        let to = endIn words first more at in let many : suc more * groupEdges ≡ groupEdges + more * groupEdges = omega (arith, suc-mul more groupEdges) in
+        let same : last groupEdges s ≡ last (k * stretchEdges) s = group-whole left n few (λ e. ap (λ (edges : ℕ). last edges s) (sym e)) (λ h. last-ended file
+        encoding first (k * stretchEdges) groupEdges s n r h (number .most)) in
         let leads = end-so groupEdges more t (n - groupEdges) at first behind there (λ z. sym (at-first t (n - groupEdges) behind (number .ends z))) in
         let parted = ap (λ (m : ℕ). marksFrom stretchEdges m file encoding s) (sym (number .split)) ∙ marks-both file encoding stretchEdges k (left - k) s in
-        let now = marksFrom stretchEdges k file encoding s in
-        let after = marksFrom stretchEdges (left - k) file encoding (last (k * stretchEdges) s) in
+        let now = marksFrom stretchEdges k file encoding s in let after = marksFrom stretchEdges (left - k) file encoding (last (k * stretchEdges) s) in
         let stands = subst (At words fine) parted inside in
         let own = fine-judges k s n fine to r (number .full) (at-left words fine now after stands) (leads ∙ ap (λ (u : Reader). u .point) same) in
-        let whole : Judged groupEdges s (stretchesBy file encoding fix asked words first k fine to) =
-        group-whole left n few (λ e. subst (λ (edges : ℕ). Judged edges s (stretchesBy file encoding fix asked words first k fine to)) e own)
-        (λ h. judges-ended file encoding fix asked first (k * stretchEdges) groupEdges s n (stretchesBy file encoding fix asked words first k fine to) r h (number .most) own) in
-        let rest : At words (fine + k * markWide) (marksFrom stretchEdges (left - k) file encoding t) =
-        subst (λ (u : Reader). At words (fine + k * markWide) (marksFrom stretchEdges (left - k) file encoding u)) (sym same)
-        (subst (λ (m : ℕ). At words (fine + m) after) (marks-length stretchEdges k file encoding s) (at-right words fine now after stands)) in
+        let whole : Judged groupEdges s (stretchesBy file encoding fix asked words first k fine to) = group-whole left n few
+        (λ e. subst (λ (edges : ℕ). Judged edges s (stretchesBy file encoding fix asked words first k fine to)) e own) (λ h. judges-ended file encoding fix
+        asked first (k * stretchEdges) groupEdges s n (stretchesBy file encoding fix asked words first k fine to) r h (number .most) own) in
+        let rest : At words (fine + k * markWide) (marksFrom stretchEdges (left - k) file encoding t) = subst (λ (u : Reader). At words (fine + k * markWide)
+        (marksFrom stretchEdges (left - k) file encoding u)) (sym same) (subst (λ (m : ℕ). At words (fine + m) after) (marks-length stretchEdges k file encoding s)
+        (at-right words fine now after stands)) in
         subst (λ (edges : ℕ). Judged edges s (groupsBy file encoding fix asked words first (suc more) at left fine)) (sym many)
         (judges-both file encoding fix asked groupEdges (more * groupEdges) s _ (groupsBy file encoding fix asked words first more (at + markWide) (left - k) (fine + k * markWide))
         (mark-judges s n at r (number .some) groupEdges more-edges (at-left words at mark later here) to leads (stretchesBy file encoding fix asked words first k fine to) whole)

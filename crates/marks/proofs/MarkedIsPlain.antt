@@ -1,21 +1,14 @@
 -- A border that is judged by its marks is judged as by all its points, at every location, with the distance too. Assumes nothing.
-use Prim.Native.Nat.{ℕ, zero, suc, _+_, _-_, _*_, _/_, _≤_, _<_}
-use native.Mathlib.{Nat.{suc-mul, zero-mul}, Omega.{arith}}
-use borrow.Author.Tests.{ltb-true, lt-ltb, le-leb}
-use mathlib.Core.{Path.{_≡_, refl, sym, ap, _∙_, subst}, Bool.{Bool, true, false}, List.{List, [], _∷_, _++_}}
-use lib.{Dec.{ltb}, IntN.{pos}, ListN.{length, length-append}}
-use Rattle.numbers.specs.Answer.{Answer, found, if_then_else_}
-use Rattle.border.specs.Trace.{Trace, Given, point, reaches, ended, nextPoint, traceOf, borderAt}
-use Rattle.border.specs.declared.{place.{FixedLat.{FixedLat}, FixedLon.{FixedLon}, Point.{Point}}, reader.{Reader.{Reader}, Encoding.{Encoding}}}
-use Rattle.border.proofs.Trace.{point-trace}
-use Rattle.verdict.specs.{Step.{Step, meets, _>>=_}, Edge.{samePoint}, Verdict.{Judgement, none, after, along, passing, closedAt, thenOn, judge, judgedAt}}
+use Rattle.numbers.proofs.Prelude.{ℕ, zero, suc, _+_, _-_, _*_, _/_, _≤_, _<_, lt-ltb, le-leb, ltb-true, ltb, pos, length, length-append, Bool, true, false, List, [], _∷_, _++_, _≡_, refl, sym, ap}
+use Rattle.numbers.{proofs.{Prelude.{subst, _∙_, arith}, Tests.{differ}}, specs.Answer.{Answer, found, if_then_else_}}
+use Rattle.border.{proofs.Trace.{point-trace}, specs.{Trace.{Given, point, reaches, ended, nextPoint, traceOf, borderAt}, declared.place.{FixedLat.{FixedLat}, FixedLon.{FixedLon}, Point.{Point}}}}
+use Rattle.border.specs.declared.reader.{Encoding.{Encoding}, Reader.{Reader}}
+use Rattle.verdict.{proofs.NearerStart.{Below, nearer-start}, specs.{Edge.{samePoint}, Step.{Step, meets, _>>=_}, Verdict.{Judgement, none, after, along, passing, closedAt, thenOn, judge, judgedAt}}}
 use Rattle.verdict.specs.declared.step.{Tally.{Tally}, Verdict.the-variants.{OnBorderVertex}}
-use Rattle.marks.specs.Marks.{nextOr, spanFrom, markOf, marksFrom, isNarrow, edgesFrom, stretchEdges, stretchesOf, groupEdges, groupsOf}
-use Rattle.marks.specs.Marks.{fewEdges, mostPoints, stretchesFrom, stretchesIn, levelsFrom, counted, marksAt}
-use Rattle.marks.specs.{Judging.{groupsBy, isInside, judgedFrom, nearIn, isBelow, judgedBy}, Words.{wordAt, markWide, startIn}}
-use Rattle.marks.proofs.{Marked.{marks-length, marked-so, coarse-judges}, Nearest.{near-less}, Parts.{then-through, judges-all}, ReadBack.{At, at-left, at-right, start-back}, Rounds.{Round, counts}}
-use Rattle.verdict.proofs.NearerStart.{Below, nearer-start}
-use Rattle.numbers.proofs.Tests.{differ}
+use Rattle.marks.specs.{Judging.{groupsBy, isInside, judgedFrom, nearIn, isBelow, judgedBy}, Marks.{nextOr, spanFrom, markOf, marksFrom, isNarrow, edgesFrom, stretchEdges, stretchesOf}}
+use Rattle.marks.specs.{Marks.{groupEdges, groupsOf, fewEdges, mostPoints, stretchesFrom, stretchesIn, levelsFrom, counted, marksAt}, Words.{wordAt, markWide, startIn}}
+use Rattle.marks.proofs.{Marked.{marks-length, marked-so, coarse-judges}, Nearest.{near-less}, Parts.{then-through, judges-all}, ReadBack.{At, at-left, at-right, start-back}}
+use Rattle.marks.proofs.Rounds.{Round, counts}
 use Rattle.numbers.specs.Answer as A
 use Rattle.verdict.specs.Verdict as J
 use Rattle.verdict.specs.Step as S
@@ -31,8 +24,7 @@ record Numbers (m : ℕ) : Type 0 where
 
 numbers : (m : ℕ) → m < mostPoints → ltb fewEdges m ≡ true → Numbers m
 unfolding stretchesOf stretchEdges groupsOf groupEdges fewEdges mostPoints
-numbers m h g =
-    let big = ltb-true 256 m g in
+numbers m h g = let big = ltb-true 256 m g in
     record { edges = omega (arith, big); count = omega (arith, big); few = omega (arith, big); full = omega (arith, big); all = omega arith; room = omega (arith, h) }
 
 module _ (file : List ℕ) (encoding : Encoding) (border : ℕ) (words : List ℕ) (at : ℕ) (lat : FixedLat) (lon : FixedLon) (asked : Bool) (least : ℕ) where
@@ -44,11 +36,10 @@ module _ (file : List ℕ) (encoding : Encoding) (border : ℕ) (words : List �
 
   begun : (p : Point) (t u : Tally) → passing fix asked none p t ≡ S.found u → u ≡ t
   unfolding passing along
-  begun p t u e = go (samePoint p fix) e
-    where
-      go : (b : Bool) → (if b then meets OnBorderVertex else S.found t) ≡ S.found u → u ≡ t
-      go true e = let z : _≡_ {A = ℕ} 0 1 = cc in absurd (omega arith)
-      go false e = cc
+  begun p t u e = go (samePoint p fix) e where
+    go : (b : Bool) → (if b then meets OnBorderVertex else S.found t) ≡ S.found u → u ≡ t
+    go true e = let z : _≡_ {A = ℕ} 0 1 = cc in absurd (omega arith)
+    go false e = cc
 
   -- the whole border, from its first point on
   whole : (s : Reader) → nextPoint file encoding (borderAt border) ≡ found (reaches s)
@@ -83,9 +74,7 @@ module _ (file : List ℕ) (encoding : Encoding) (border : ℕ) (words : List �
       coarse = subst (λ (k : ℕ). At words (at + 1 + k) groups) (marks-length stretchEdges count file encoding s) (at-right words (at + 1) marks groups later)
 
       inside : isInside words at ≡ true
-      inside =
-          let long = marks-length stretchEdges count file encoding s in
-          let wide = marks-length groupEdges (groupsOf count) file encoding s in
+      inside = let long = marks-length stretchEdges count file encoding s in let wide = marks-length groupEdges (groupsOf count) file encoding s in
           let more : at < length words = omega (arith, fits) in
           let few : count + groupsOf count ≤ (length words - (at + 1)) / 11 = omega (arith, fits, long, wide, length-append marks groups) in
           rw (first-word, lt-ltb at (length words) more, lt-ltb 0 count (n .count), le-leb (count + groupsOf count) ((length words - (at + 1)) / 11) few)
@@ -96,8 +85,7 @@ module _ (file : List ℕ) (encoding : Encoding) (border : ℕ) (words : List �
       first-so : (k : ℕ) → 0 < k → At words (at + 1) (marksFrom stretchEdges k file encoding s) → startIn words (at + 1) ≡ s .point
       unfolding marksFrom
       first-so zero h there = absurd (omega (arith, h))
-      first-so (suc more) h there =
-          let box = spanFrom stretchEdges file encoding s .box in
+      first-so (suc more) h there = let box = spanFrom stretchEdges file encoding s .box in
           start-back words (at + 1) s box (at-left words (at + 1) (markOf s box) (marksFrom stretchEdges more file encoding (spanFrom stretchEdges file encoding s .last)) there) own-narrow
 
       -- what the marks come to behind the first point, and what the points do
@@ -118,10 +106,8 @@ module _ (file : List ℕ) (encoding : Encoding) (border : ℕ) (words : List �
 
       by-marks : judgedFrom file encoding words at fix asked least ≡ judgedAt file encoding border lat lon asked least
       by-marks =
-          by-parts
-          ∙ then-through asked least (passing fix asked none (s .point) start) byMarks (closedAt asked) byPoints
-          (λ u e. subst (λ (t : Tally). thenOn asked least (byMarks t) (closedAt asked) ≡ byPoints t) (sym (begun (s .point) start u e)) from-start)
-          ∙ whole s is
+          by-parts ∙ then-through asked least (passing fix asked none (s .point) start) byMarks (closedAt asked) byPoints
+          (λ u e. subst (λ (t : Tally). thenOn asked least (byMarks t) (closedAt asked) ≡ byPoints t) (sym (begun (s .point) start u e)) from-start) ∙ whole s is
 
   nothing : {C : Type 0} → 0 < length {A = ℕ} [] → C
   nothing h = absurd (omega (arith, h))
@@ -141,16 +127,13 @@ module _ (file : List ℕ) (encoding : Encoding) (border : ℕ) (words : List �
   module _ (s : Reader) (is : nextPoint file encoding (borderAt border) ≡ found (reaches s)) where
     by-count : (a : Answer ℕ) → edgesFrom mostPoints file encoding (s .point) s 0 ≡ a → Goal (counted (stretchesFrom a) (levelsFrom (stretchesFrom a) file encoding s))
     unfolding stretchesFrom
-    by-count (found m) e = by-test (ltb fewEdges m) refl
-      where
-        by-test : (b : Bool) → ltb fewEdges m ≡ b → Goal (counted (if b then stretchesOf m else 0) (levelsFrom (if b then stretchesOf m else 0) file encoding s))
-        by-test true g some here fits =
-            let c = counts file encoding (s .point) mostPoints s 0 m e in
-            let same : c .edges ≡ m = omega (arith, c .sum) in
-            let n = numbers m (subst (λ (k : ℕ). k < mostPoints) same (c .few)) g in
-            let list = counted-some (stretchesOf m) (levelsFrom (stretchesOf m) file encoding s) (n .count) in
-            by-marks s is m n (subst (Round file encoding (s .point) s) same (c .round)) (subst (At words at) list here) (subst (λ (xs : List ℕ). at + length xs ≤ length words) list fits)
-        by-test false g some here fits = counted-none (levelsFrom 0 file encoding s) some
+    by-count (found m) e = by-test (ltb fewEdges m) refl where
+      by-test : (b : Bool) → ltb fewEdges m ≡ b → Goal (counted (if b then stretchesOf m else 0) (levelsFrom (if b then stretchesOf m else 0) file encoding s))
+      by-test true g some here fits = let c = counts file encoding (s .point) mostPoints s 0 m e in let same : c .edges ≡ m = omega (arith, c .sum) in
+          let n = numbers m (subst (λ (k : ℕ). k < mostPoints) same (c .few)) g in
+          let list = counted-some (stretchesOf m) (levelsFrom (stretchesOf m) file encoding s) (n .count) in
+          by-marks s is m n (subst (Round file encoding (s .point) s) same (c .round)) (subst (At words at) list here) (subst (λ (xs : List ℕ). at + length xs ≤ length words) list fits)
+      by-test false g some here fits = counted-none (levelsFrom 0 file encoding s) some
     by-count A.failed e = λ some here fits. counted-none (levelsFrom 0 file encoding s) some
     by-count (A.refused k) e = λ some here fits. counted-none (levelsFrom 0 file encoding s) some
 
@@ -180,25 +163,24 @@ pub marked-is-plain : (file : List ℕ) (encoding : Encoding) (border : ℕ) (wo
     → 0 < length (marksAt file encoding border) → At words at (marksAt file encoding border) → at + length (marksAt file encoding border) ≤ length words
     → judgedBy file encoding words at lat lon asked least ≡ judgedAt file encoding border lat lon asked least
 unfolding judgedBy
-marked-is-plain file encoding border words at lat lon asked least some here fits = by-test (isBelow near (judged near)) refl
-  where
-    fix : Point
-    fix = record { lat = lat; lon = lon }
+marked-is-plain file encoding border words at lat lon asked least some here fits = by-test (isBelow near (judged near)) refl where
+  fix : Point
+  fix = record { lat = lat; lon = lon }
 
-    near : ℕ
-    near = nearIn words at fix asked least
+  near : ℕ
+  near = nearIn words at fix asked least
 
-    judged : ℕ → Judgement
-    judged = judgedFrom file encoding words at fix asked
+  judged : ℕ → Judgement
+  judged = judgedFrom file encoding words at fix asked
 
-    plain : (d : ℕ) → judged d ≡ judgedAt file encoding border lat lon asked d
-    plain d = from-is-plain file encoding border words at lat lon asked d some here fits
+  plain : (d : ℕ) → judged d ≡ judgedAt file encoding border lat lon asked d
+  plain d = from-is-plain file encoding border words at lat lon asked d some here fits
 
-    starts : (asked : Bool) → Below (nearIn words at fix asked least) (judgedAt file encoding border lat lon asked (nearIn words at fix asked least))
-        → judgedAt file encoding border lat lon asked (nearIn words at fix asked least) ≡ judgedAt file encoding border lat lon asked least
-    starts true low = sym (nearer-start file encoding border lat lon (nearIn words at fix true least) least (near-less words at fix true least) low)
-    starts false low = refl
+  starts : (asked : Bool) → Below (nearIn words at fix asked least) (judgedAt file encoding border lat lon asked (nearIn words at fix asked least))
+      → judgedAt file encoding border lat lon asked (nearIn words at fix asked least) ≡ judgedAt file encoding border lat lon asked least
+  starts true low = sym (nearer-start file encoding border lat lon (nearIn words at fix true least) least (near-less words at fix true least) low)
+  starts false low = refl
 
-    by-test : (b : Bool) → isBelow near (judged near) ≡ b → (if b then judged near else judged least) ≡ judgedAt file encoding border lat lon asked least
-    by-test true e = plain near ∙ starts asked (subst (Below near) (plain near) (below-so near (judged near) e))
-    by-test false e = plain least
+  by-test : (b : Bool) → isBelow near (judged near) ≡ b → (if b then judged near else judged least) ≡ judgedAt file encoding border lat lon asked least
+  by-test true e = plain near ∙ starts asked (subst (Below near) (plain near) (below-so near (judged near) e))
+  by-test false e = plain least

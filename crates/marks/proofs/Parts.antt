@@ -1,12 +1,7 @@
 -- Steps that judge parts of a border as their points do, one after another. Assumes nothing.
-use Prim.Native.Nat.{ℕ, _+_, _-_, _*_, _≤_, _<_}
-use native.Mathlib.Omega.{arith}
-use mathlib.Core.{Path.{_≡_, refl, sym, ap, _∙_, subst}, Bool.{Bool, true, false}, List.{List}}
-use lib.IntN.{natAbs}
-use Rattle.numbers.specs.Answer.{if_then_else_}
-use Rattle.border.specs.{Trace.{Trace, traceOf}, declared.{place.Point.{Point}, reader.{Reader.{Reader}, Encoding.{Encoding}}}}
-use Rattle.verdict.specs.{Step.{Step, found, meets, refused, _>>=_}, Verdict.{Judgement, after, closedAt, thenOn, judge}, declared.step.Tally.{Tally}}
-use Rattle.verdict.proofs.Winds.{Winds, bound-winds}
+use Rattle.numbers.{proofs.Prelude.{ℕ, _+_, _-_, _*_, _≤_, _<_, natAbs, Bool, true, false, List, _≡_, refl, sym, ap, subst, _∙_, arith}, specs.Answer.{if_then_else_}}
+use Rattle.border.specs.{Trace.{traceOf}, declared.{place.Point.{Point}, reader.{Encoding.{Encoding}, Reader.{Reader}}}}
+use Rattle.verdict.{proofs.Winds.{Winds, bound-winds}, specs.{Step.{Step, found, meets, refused, _>>=_}, Verdict.{Judgement, after, closedAt, thenOn, judge}, declared.step.Tally.{Tally}}}
 use Rattle.marks.specs.Marks.{spanOver}
 use Rattle.marks.proofs.{Groups.{lastOver, last-both, last-round, last-ended, at-end}, Rounds.{Round}}
 
@@ -107,7 +102,6 @@ module _ (file : List ℕ) (encoding : Encoding) (fix : Point) (asked : Bool) wh
   pub judges-all : (first : Point) (edges : ℕ) (s : Reader) (n : ℕ) (f : Tally → Step Tally) → Round file encoding first s n → n ≤ edges → Judges edges s f → (t : Tally)
       → natAbs (t .winding) + 2 * edges < 2147483647 → thenOn asked (t .least) (f t) (closedAt asked) ≡ judgeFrom s t
   unfolding judge
-  judges-all first edges s n f r few j t room =
-      let last = lastOver file encoding edges s in
+  judges-all first edges s n f r few j t room = let last = lastOver file encoding edges s in
       let ends = at-end file encoding first last (n - edges) (last-round file encoding first edges s n r) (omega (arith, few)) in
       then-same asked (t .least) (f t) (closedAt asked) (judgeFrom last) (λ u e. ap (judge fix asked (after (last .point)) u) (sym ends)) ∙ j t .same room

@@ -1,13 +1,7 @@
 -- A mark that stands in words gives its stretch back: the corners of the box, the first point, and the state there. Assumes nothing.
-use Prim.Native.Nat.{ℕ, suc, _+_, _-_, _*_, _/_, _%_, _^_, _<_}
-use native.Mathlib.{Nat.{mod-eq-of-lt}, Omega.{arith}}
-use borrow.Author.Tests.{ltb-true, lt-ltb, le-ltb, eq-eqb}
-use mathlib.Core.{Path.{_≡_, refl, sym, ap, _∙_}, Bool.{Bool, true, false, not, _&&_}, List.{List, [], _∷_, _++_}}
-use lib.{Dec.{ltb}, IntN.{ℤ, pos, negsuc, _-ℤ_}, ListN.{length, getD, length-append, List·getD-append}, Seq.{getD-append-add}, Signed.{leZ, mag}}
-use mir.{Syntax.{w32}, Val.{ofZ}}
-use Rattle.numbers.specs.{Answer.{if_then_else_}, Point.{readI32, signedOf}}
+use Rattle.numbers.proofs.{Coordinates.{read-back}, Prelude.{ℕ, _+_, _^_, _<_, ltb-true, not-true, ltb, ℤ, length, getD, length-append, List·getD-append, getD-append-add, mag, leZ, Bool, true}}
+use Rattle.numbers.{proofs.{Prelude.{false, not, List, _++_, _≡_, refl, sym, ap, _∙_, mod-eq-of-lt, arith}, Tests.{both}}, specs.{Answer.{if_then_else_}, Point.{readI32}}}
 use Rattle.border.specs.{Box.{Box, minZ, maxZ, grown}, Place.{pointAt}, declared.{place.Point.{Point}, reader.{Reader.{Reader}, Run.{Run, the-variants.{Idle, Forward, Backward}}}}}
-use Rattle.numbers.proofs.Tests.{both}
 use Rattle.verdict.specs.Edge.{samePoint}
 use Rattle.marks.specs.{Marks.{wordOf, low, kindOf, nextOf, endOf, markOf, isShort, isShortRun, isNarrow, isMarkable}, Words.{pointIn, runOf, lowIn, highIn, startIn, stateIn}}
 use Rattle.marks.proofs.Boxes.{same-point-is}
@@ -21,38 +15,18 @@ pub at-left : (words : List ℕ) (at : ℕ) (xs ys : List ℕ) → At words at (
 at-left words at xs ys h i l = h i (omega (arith, l, length-append xs ys)) ∙ List·getD-append xs ys 0 i l
 
 pub at-right : (words : List ℕ) (at : ℕ) (xs ys : List ℕ) → At words at (xs ++ ys) → At words (at + length xs) ys
-at-right words at xs ys h i l =
-    let e : at + length xs + i ≡ at + (length xs + i) = omega arith in
+at-right words at xs ys h i l = let e : at + length xs + i ≡ at + (length xs + i) = omega arith in
     ap (λ (k : ℕ). getD words k 0) e ∙ h (length xs + i) (omega (arith, l, length-append xs ys)) ∙ getD-append-add xs ys i 0
 
 -- ---- coordinates
--- twice a coordinate's word is its signed form
-pub twice-read : (word : ℕ) → word < 2 ^ 32 → signedOf (2 * word) ≡ readI32 word
-unfolding signedOf
-twice-read word h =
-    let even : 2 * word % 2 ≡ 0 = omega arith in
-    let half : 2 * word / 2 ≡ word = omega arith in
-    let low : word % 2 ^ 32 ≡ word = omega arith in
-    rw (eq-eqb (2 * word % 2) 0 even, half, low)
-
-below : (n : ℕ) → n < 2 ^ 32 → pos n -ℤ pos (2 ^ 32) ≡ negsuc (2 ^ 32 - 1 - n)
-below n h = rw (lt-ltb n (2 ^ 32) h) (ap negsuc (omega arith))
-
 -- a coordinate is known by its bits
-read-back : (z : ℤ) → ltb (mag z) (2 ^ 31) ≡ true → readI32 (wordOf z) ≡ z
-read-back (pos n) h = rw h
-read-back (negsuc n) h =
-    let m = 2 ^ 32 - suc n in
-    let small = ltb-true n (2 ^ 31) h in
-    rw (le-ltb m (2 ^ 31) (omega (arith, small)), below m (omega arith)) (ap negsuc (omega (arith, small)))
+narrow-back : (z : ℤ) → ltb (mag z) (2 ^ 31) ≡ true → readI32 (wordOf z) ≡ z
+narrow-back z h = read-back z (record { sfits = ltb-true (mag z) (2 ^ 31) h })
 
 -- a point whose words stand there
 point-back : (words : List ℕ) (at : ℕ) (p : Point) → isNarrow p ≡ true → getD words at 0 ≡ wordOf (p .lat .0) → getD words (at + 1) 0 ≡ wordOf (p .lon .0) → pointIn words at ≡ p
-point-back words at p narrow lat lon =
-    let fits = both (ltb (mag (p .lat .0)) (2 ^ 31)) (ltb (mag (p .lon .0)) (2 ^ 31)) narrow in
-    let y = ap readI32 lat ∙ read-back (p .lat .0) (fits .0) in
-    let x = ap readI32 lon ∙ read-back (p .lon .0) (fits .1) in
-    λ i. pointAt (y i) (x i)
+point-back words at p narrow lat lon = let fits = both (ltb (mag (p .lat .0)) (2 ^ 31)) (ltb (mag (p .lon .0)) (2 ^ 31)) narrow in
+    λ i. pointAt ((ap readI32 lat ∙ narrow-back (p .lat .0) (fits .0)) i) ((ap readI32 lon ∙ narrow-back (p .lon .0) (fits .1)) i)
 
 short : (n : ℕ) → isShort n ≡ true → low n ≡ n
 short n h = mod-eq-of-lt (ltb-true n (2 ^ 32) h)
@@ -77,16 +51,12 @@ parts p h = both (ltb (mag (p .lat .0)) (2 ^ 31)) (ltb (mag (p .lon .0)) (2 ^ 31
 
 pub grown-narrow : (box : Box) (p : Point) → Narrow box → isNarrow p ≡ true → Narrow (grown box p)
 unfolding minZ maxZ
-grown-narrow box p n h =
-    let l = parts (box .low) (n .low) in
-    let u = parts (box .high) (n .high) in
-    let q = parts p h in
-    record {
-      low = rw (either (leZ (box .low .lat .0) (p .lat .0)) (box .low .lat .0) (p .lat .0) (l .0) (q .0))
-          (either (leZ (box .low .lon .0) (p .lon .0)) (box .low .lon .0) (p .lon .0) (l .1) (q .1));
-      high = rw (either (leZ (box .high .lat .0) (p .lat .0)) (p .lat .0) (box .high .lat .0) (q .0) (u .0))
-          (either (leZ (box .high .lon .0) (p .lon .0)) (p .lon .0) (box .high .lon .0) (q .1) (u .1));
-    }
+grown-narrow box p n h = let l = parts (box .low) (n .low) in let u = parts (box .high) (n .high) in let q = parts p h in record {
+  low = rw (either (leZ (box .low .lat .0) (p .lat .0)) (box .low .lat .0) (p .lat .0) (l .0) (q .0))
+      (either (leZ (box .low .lon .0) (p .lon .0)) (box .low .lon .0) (p .lon .0) (l .1) (q .1));
+  high = rw (either (leZ (box .high .lat .0) (p .lat .0)) (p .lat .0) (box .high .lat .0) (q .0) (u .0))
+      (either (leZ (box .high .lon .0) (p .lon .0)) (p .lon .0) (box .high .lon .0) (q .1) (u .1));
+}
 
 -- ---- a state that its mark gives back
 pub record Markable (first : Point) (s : Reader) : Type 0 where
@@ -98,18 +68,10 @@ pub record Markable (first : Point) (s : Reader) : Type 0 where
   pub run : isShortRun (s .run) ≡ true
   pub narrow : isNarrow (s .point) ≡ true
 
-not-true : (b : Bool) → not b ≡ true → b ≡ false
-not-true true e = sym e
-not-true false e = refl
-
 pub markable : (first : Point) (s : Reader) → isMarkable first s ≡ true → Markable first s
 unfolding isMarkable
-markable first s e =
-    let a = both (s .begun) _ e in
-    let b = both (not (s .closed)) _ (a .1) in
-    let c = both (samePoint (s .first) first) _ (b .1) in
-    let d = both (isShort (s .place)) _ (c .1) in
-    let f = both (isShort (s .moves)) _ (d .1) in
+markable first s e = let a = both (s .begun) _ e in let b = both (not (s .closed)) _ (a .1) in let c = both (samePoint (s .first) first) _ (b .1) in
+    let d = both (isShort (s .place)) _ (c .1) in let f = both (isShort (s .moves)) _ (d .1) in
     let g = both (isShortRun (s .run)) (isNarrow (s .point)) (f .1) in
     record { begun = a .0; closed = not-true (s .closed) (b .0); starts = same-point-is (s .first) first (c .0); place = d .0; moves = f .0; run = g .0; narrow = g .1 }
 
@@ -130,9 +92,7 @@ module _ (words : List ℕ) (at : ℕ) (s : Reader) (box : Box) (here : At words
   start-back n = point-back words (at + 4) (s .point) n (here 4 (omega arith)) (ap (λ (k : ℕ). getD words k 0) (third 4 1) ∙ here 5 (omega arith))
 
   pub state-back : (first : Point) → Markable first s → stateIn words at first ≡ s
-  state-back first m =
-      let run = (λ i. runOf (here 8 (omega arith) i) (here 9 (omega arith) i) (here 10 (omega arith) i)) ∙ run-back (s .run) (m .run) in
-      let place = here 6 (omega arith) ∙ short (s .place) (m .place) in
-      let moves = here 7 (omega arith) ∙ short (s .moves) (m .moves) in
+  state-back first m = let run = (λ i. runOf (here 8 (omega arith) i) (here 9 (omega arith) i) (here 10 (omega arith) i)) ∙ run-back (s .run) (m .run) in
+      let place = here 6 (omega arith) ∙ short (s .place) (m .place) in let moves = here 7 (omega arith) ∙ short (s .moves) (m .moves) in
       let point = start-back (m .narrow) in
       λ i. record { place = place i; moves = moves i; begun = sym (m .begun) i; closed = sym (m .closed) i; run = run i; point = point i; first = sym (m .starts) i }

@@ -1,9 +1,6 @@
 -- A border that comes round: state by state to its end, back at its first point. Assumes nothing.
-use Prim.Native.Nat.{ℕ, zero, suc, _+_, _<_}
-use native.Mathlib.Omega.{arith}
-use mathlib.Core.{Path.{_≡_, refl, sym, ap, _∙_}, Bool.{Bool, true, false}, List.{List}}
-use Rattle.numbers.specs.Answer.{Answer, found, if_then_else_}
-use Rattle.border.specs.{Trace.{Given, reaches, ended, nextPoint}, declared.{place.Point.{Point}, reader.{Reader.{Reader}, Encoding.{Encoding}}}}
+use Rattle.numbers.{proofs.Prelude.{ℕ, zero, suc, _+_, _<_, Bool, true, false, List, _≡_, refl, arith}, specs.Answer.{Answer, found, if_then_else_}}
+use Rattle.border.specs.{Trace.{Given, reaches, ended, nextPoint}, declared.{place.Point.{Point}, reader.{Encoding.{Encoding}, Reader.{Reader}}}}
 use Rattle.verdict.specs.Edge.{samePoint}
 use Rattle.marks.specs.Marks.{isMarkable, edgesThen, edgesFrom}
 use Rattle.marks.proofs.Boxes.{same-point-is}
@@ -28,20 +25,15 @@ module _ (file : List ℕ) (encoding : Encoding) (first : Point) where
   one-more : (s : Reader) (from most n : ℕ) (go : Reader → Answer ℕ) (a : Answer Given) → nextPoint file encoding s ≡ a
       → ((t : Reader) → go t ≡ found n → Counts t (from + 1) most n) → edgesThen first s from go a ≡ found n → Counts s from (suc most) n
   unfolding edgesThen
-  one-more s from most n go (found (reaches t)) e h g = by-test (isMarkable first s) refl g
-    where
-      by-test : (b : Bool) → isMarkable first s ≡ b → (if b then go t else A.failed) ≡ found n → Counts s from (suc most) n
-      by-test true m g =
-          let c = h t g in
-          record { edges = suc (c .edges); round = goes e m (c .round); sum = omega (arith, c .sum); few = omega (arith, c .few) }
-      by-test false m g = not-found g
-  one-more s from most n go (found ended) e h g = by-test (samePoint (s .point) first) refl g
-    where
-      by-test : (b : Bool) → samePoint (s .point) first ≡ b → (if b then found from else A.failed) ≡ found n → Counts s from (suc most) n
-      by-test true m g =
-          let z : from ≡ n = cc in
-          record { edges = 0; round = closes e (same-point-is (s .point) first m); sum = omega (arith, z); few = omega arith }
-      by-test false m g = not-found g
+  one-more s from most n go (found (reaches t)) e h g = by-test (isMarkable first s) refl g where
+    by-test : (b : Bool) → isMarkable first s ≡ b → (if b then go t else A.failed) ≡ found n → Counts s from (suc most) n
+    by-test true m g = let c = h t g in record { edges = suc (c .edges); round = goes e m (c .round); sum = omega (arith, c .sum); few = omega (arith, c .few) }
+    by-test false m g = not-found g
+  one-more s from most n go (found ended) e h g = by-test (samePoint (s .point) first) refl g where
+    by-test : (b : Bool) → samePoint (s .point) first ≡ b → (if b then found from else A.failed) ≡ found n → Counts s from (suc most) n
+    by-test true m g = let z : from ≡ n = cc in
+        record { edges = 0; round = closes e (same-point-is (s .point) first m); sum = omega (arith, z); few = omega arith }
+    by-test false m g = not-found g
   one-more s from most n go A.failed e h g = not-found g
   one-more s from most n go (A.refused k) e h g = not-found g
 

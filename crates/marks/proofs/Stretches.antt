@@ -1,18 +1,13 @@
 -- A stretch of a border that comes round, by its points or, where it may be passed so, by a leap. Assumes nothing.
-use Prim.Native.Nat.{ℕ, zero, suc, _+_, _-_, _*_, _%_, _≤_, _<_}
-use native.Mathlib.Omega.{arith}
-use mathlib.Core.{Path.{_≡_, refl, sym, ap, _∙_}, Bool.{Bool, true, false, not, _&&_}, List.{List}}
-use lib.{Dec.{eqb}, IntN.{ℤ, pos, negsuc, natAbs, _+ℤ_}}
-use borrow.Author.Tests.{not-true}
+use Rattle.numbers.proofs.Prelude.{ℕ, zero, suc, _+_, _-_, _*_, _%_, _<_, not-true, eqb, ℤ, pos, negsuc, _+ℤ_, natAbs, Bool, true, false, not, List, _≡_, refl, sym, ap, _∙_, arith}
 use Rattle.numbers.{proofs.Tests.{both}, specs.Answer.{if_then_else_}}
-use Rattle.border.specs.{Box.{Box, grown, holds}, Trace.{Trace, point, traceOf}, declared.{place.Point.{Point}, reader.{Reader.{Reader}, Encoding.{Encoding}}}}
-use Rattle.border.proofs.Trace.{point-trace}
-use Rattle.verdict.specs.{Step.{Step, found, meets, refused, _>>=_, checked}, Edge.{inBox, quadrantOf}, Far.{isAfar}, Winding.{turned, quarterBy}, Stretch.{Stretch, leapt, passingFirst}}
-use Rattle.verdict.specs.{Verdict.{Judgement, after, passing, thenOn, judge}, declared.step.Tally.{Tally}}
-use Rattle.verdict.proofs.{Stretch.{Roomy, stretch-is-leap, afar-is-leap}, Unasked.{passing-least}, Winds.{Winds, bound-winds, passing-winds, leapt-winds}}
-use Rattle.marks.specs.{Judging.{canPass}, Marks.{nextOr, Span, spanOver, spanFrom}}
-use Rattle.marks.proofs.{Boxes.{own-holds, out-of-box}, Groups.{lastOver}, Rounds.{Round, closes, goes}, Spans.{Spans, spans, ended-trace}}
-use Rattle.marks.proofs.Parts.{then-through, least-same, weaker, Keeps, keeps-here, keeps-both, JudgesAt, Judges, judges-either}
+use Rattle.border.{proofs.Trace.{point-trace}, specs.{Box.{Box, grown, holds}, Trace.{Trace, point, traceOf}, declared.{place.Point.{Point}, reader.{Encoding.{Encoding}, Reader.{Reader}}}}}
+use Rattle.verdict.{proofs.{Stretch.{Roomy, stretch-is-leap, afar-is-leap}, Unasked.{passing-least}, Winds.{Winds, bound-winds, passing-winds, leapt-winds}}, specs.Edge.{inBox, quadrantOf}}
+use Rattle.verdict.specs.{Far.{isAfar}, Step.{Step, found, meets, refused, _>>=_, checked}, Stretch.{Stretch, leapt, passingFirst}, Verdict.{after, passing, thenOn, judge}}
+use Rattle.verdict.specs.{Winding.{turned, quarterBy}, declared.step.Tally.{Tally}}
+use Rattle.marks.specs.{Judging.{canPass}, Marks.{nextOr, spanOver, spanFrom}}
+use Rattle.marks.proofs.{Boxes.{own-holds, out-of-box}, Groups.{lastOver}, Parts.{then-through, least-same, weaker, Keeps, keeps-here, keeps-both, JudgesAt, Judges, judges-either}}
+use Rattle.marks.proofs.{Rounds.{Round, closes, goes}, Spans.{Spans, spans, ended-trace}}
 use Rattle.border.specs.Trace as T
 
 roomy : (z : ℤ) → natAbs z < 2147483647 → Roomy z
@@ -21,11 +16,10 @@ roomy (negsuc n) h = omega (arith, h)
 
 module _ (fix : Point) (asked : Bool) where
   edge-keeps : (p to : Point) (t : Tally) → Keeps asked t (passing fix asked (after p) to t)
-  edge-keeps p to t = go asked
-    where
-      go : (b : Bool) → Keeps b t (passing fix b (after p) to t)
-      go true = record { least = λ plainly u e. let z : _≡_ {A = ℕ} 0 1 = cc in absurd (omega arith) }
-      go false = record { least = λ plainly u e. passing-least fix p to t u e }
+  edge-keeps p to t = go asked where
+    go : (b : Bool) → Keeps b t (passing fix b (after p) to t)
+    go true = record { least = λ plainly u e. let z : _≡_ {A = ℕ} 0 1 = cc in absurd (omega arith) }
+    go false = record { least = λ plainly u e. passing-least fix p to t u e }
 
   first-winds : (edges : ℕ) (p : Point) (trace : Trace) (t : Tally) → Winds (natAbs (t .winding) + 2 * edges) (passingFirst fix asked edges (after p) trace t)
   unfolding passingFirst
@@ -54,16 +48,15 @@ module _ (file : List ℕ) (encoding : Encoding) (fix : Point) (asked : Bool) (f
   -- ---- a stretch that is read
   read-all : (edges : ℕ) (s : Reader) (n : ℕ) (box : Box) (t : Tally) → Round file encoding first s n
       → thenOn asked (t .least) (passingFirst fix asked edges (after (s .point)) (rest s) t)
-      (λ u. judge fix asked (after (spanOver edges file encoding s box .last .point)) u (rest (spanOver edges file encoding s box .last)))
-      ≡ judge fix asked (after (s .point)) t (rest s)
+      (λ u. judge fix asked (after (spanOver edges file encoding s box .last .point)) u (rest (spanOver edges file encoding s box .last))) ≡ judge fix asked (after (s .point)) t (rest s)
   unfolding passingFirst spanOver nextOr thenOn judge
   read-all zero s n box t r = refl
   read-all (suc more) s zero box t (closes e p) = rw (e, ended-trace file encoding first s e)
   read-all (suc more) s (suc n) box t (goes {t = later} e m r) =
-      rw (e, ← point-trace file encoding s later (sym e))
-      (then-through asked (t .least) (passing fix asked (after (s .point)) (later .point) t) (passingFirst fix asked more (after (later .point)) (rest later)) _ _
-      (λ u g. least-same asked (t .least) (u .least) (λ plainly. edge-keeps fix asked (s .point) (later .point) t .least plainly u g) (passingFirst fix asked more (after (later .point)) (rest later) u)
-      (λ v. judge fix asked (after (spanOver more file encoding later (grown box (later .point)) .last .point)) v (rest (spanOver more file encoding later (grown box (later .point)) .last)))
+      rw (e, ← point-trace file encoding s later (sym e)) (then-through asked (t .least) (passing fix asked (after (s .point)) (later .point) t)
+      (passingFirst fix asked more (after (later .point)) (rest later)) _ _ (λ u g. least-same asked (t .least) (u .least) (λ plainly. edge-keeps fix asked
+      (s .point) (later .point) t .least plainly u g) (passingFirst fix asked more (after (later .point)) (rest later) u) (λ v. judge fix asked
+      (after (spanOver more file encoding later (grown box (later .point)) .last .point)) v (rest (spanOver more file encoding later (grown box (later .point)) .last)))
       ∙ read-all more later n (grown box (later .point)) u r))
 
   pub points-judge : (edges : ℕ) (s : Reader) (n : ℕ) → Round file encoding first s n → Judges file encoding fix asked edges s (passingFirst fix asked edges (after (s .point)) (rest s))
@@ -82,36 +75,32 @@ leastOf (refused n) = 0
 
 turned-least : (by : ℤ) (t u : Tally) → turned by t ≡ found u → u .least ≡ t .least
 unfolding turned
-turned-least by t u = go (checked 31 (t .winding +ℤ by))
-  where
-    go : (m : Step ℤ) → (m >>= λ w. found (record { winding = w; least = t .least })) ≡ found u → u .least ≡ t .least
-    go (found w) e = sym (ap leastOf e)
-    go (meets v) e = let z : _≡_ {A = ℕ} 0 1 = cc in absurd (omega arith)
-    go (refused n) e = let z : _≡_ {A = ℕ} 0 1 = cc in absurd (omega arith)
+turned-least by t u = go (checked 31 (t .winding +ℤ by)) where
+  go : (m : Step ℤ) → (m >>= λ w. found (record { winding = w; least = t .least })) ≡ found u → u .least ≡ t .least
+  go (found w) e = sym (ap leastOf e)
+  go (meets v) e = let z : _≡_ {A = ℕ} 0 1 = cc in absurd (omega arith)
+  go (refused n) e = let z : _≡_ {A = ℕ} 0 1 = cc in absurd (omega arith)
 
 leapt-least : (fix from to : Point) (t u : Tally) → leapt fix from to t ≡ found u → u .least ≡ t .least
 unfolding leapt quarterBy
-leapt-least fix from to t u = go (eqb quarters 1) (eqb quarters 3)
-  where
-    quarters : ℕ
-    quarters = (quadrantOf fix to + 4 - quadrantOf fix from) % 4
+leapt-least fix from to t u = go (eqb quarters 1) (eqb quarters 3) where
+  quarters : ℕ
+  quarters = (quadrantOf fix to + 4 - quadrantOf fix from) % 4
 
-    go : (a b : Bool) → (if a then turned (pos 1) t else (if b then turned (negsuc 0) t else found t)) ≡ found u → u .least ≡ t .least
-    go true b e = turned-least (pos 1) t u e
-    go false true e = turned-least (negsuc 0) t u e
-    go false false e = sym (ap leastOf e)
+  go : (a b : Bool) → (if a then turned (pos 1) t else (if b then turned (negsuc 0) t else found t)) ≡ found u → u .least ≡ t .least
+  go true b e = turned-least (pos 1) t u e
+  go false true e = turned-least (negsuc 0) t u e
+  go false false e = sym (ap leastOf e)
 
 -- a stretch that may be passed so does what the leap to its end does
 passed-is-leap : (asked : Bool) (fix : Point) (box : Box) {from to : Point} {trace left : Trace} (t : Tally) → canPass fix asked (t .least) (box .low) (box .high) ≡ true → holds box from ≡ true
     → Stretch box from trace to left → Roomy (t .winding)
     → judge fix asked (after from) t trace ≡ thenOn asked (t .least) (leapt fix from to t) (λ u. judge fix asked (after to) u left)
 unfolding canPass judge
-passed-is-leap true fix box t e start stretch room =
-    let h = both (not (inBox (box .low) fix (box .high))) (isAfar fix (t .least) (box .low) (box .high)) e in
+passed-is-leap true fix box t e start stretch room = let h = both (not (inBox (box .low) fix (box .high))) (isAfar fix (t .least) (box .low) (box .high)) e in
     afar-is-leap fix box t (out-of-box box fix (not-true _ (h .0))) (h .1) start stretch room
 passed-is-leap false fix box t e start stretch room =
-    let h = both (not (inBox (box .low) fix (box .high))) true e in
-    stretch-is-leap fix box t (out-of-box box fix (not-true _ (h .0))) start stretch room
+    stretch-is-leap fix box t (out-of-box box fix (not-true _ (both (not (inBox (box .low) fix (box .high))) true e .0))) start stretch room
 
 module _ (file : List ℕ) (encoding : Encoding) (fix : Point) (asked : Bool) (first : Point) (edges : ℕ) (some : 0 < edges) (s : Reader) (n : ℕ) (r : Round file encoding first s n) where
   abbrev last : Reader

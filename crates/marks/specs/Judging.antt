@@ -1,14 +1,11 @@
 -- A border's verdict by its marks: of a stretch, or a group of stretches, whose box does not hold the location and, with the distance, is far from it, only its one edge is judged,
 -- and its points are not read.
-use Prim.Native.Nat.{ℕ, zero, suc, _+_, _-_, _*_, _/_, min}
-use lib.{Dec.{ltb, leb}, IntN.{pos}, ListN.{length}}
-use mathlib.Core.{Bool.{Bool, true, false, _&&_, not}, List.{List}}
-use Rattle.numbers.specs.Answer.{if_then_else_}
+use Rattle.numbers.specs.{Answer.{if_then_else_}, Prelude.{ℕ, zero, suc, _+_, _-_, _*_, _/_, min, ltb, leb, pos, length, Bool, true, false, _&&_, not, List}}
 use Rattle.border.specs.{Trace.{traceOf}, declared.{place.{FixedLat.{FixedLat}, FixedLon.{FixedLon}, Point.{Point}}, reader.Encoding.{Encoding}}}
-use Rattle.verdict.specs.{Step.{Step, found, meets, _>>=_}, Edge.{inBox}, Distance.{toVertex}, Far.{isAfar}, Stretch.{leapt, passingFirst}}
+use Rattle.verdict.specs.{Distance.{toVertex}, Edge.{inBox}, Far.{isAfar}, Step.{Step, found, meets, _>>=_}, Stretch.{leapt, passingFirst}}
 use Rattle.verdict.specs.{Verdict.{Judgement, reached, failed, refused, none, after, passing, closedAt, thenOn}, declared.step.Tally.{Tally}}
-use Rattle.verdict.specs.Step as S
 use Rattle.marks.specs.{Marks.{stretchEdges, groupWide, groupsOf}, Words.{wordAt, markWide, lowIn, highIn, startIn, stateIn}}
+use Rattle.verdict.specs.Step as S
 
 -- where the stretch of a mark leads that has so many behind it: to the next one's first point, the last one to this
 unfoldable pub endIn : List ℕ → Point → ℕ → ℕ → Point

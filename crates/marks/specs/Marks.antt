@@ -1,12 +1,8 @@
 -- Marks along a border, as document 04 has them: for each 128 edges the box of the stretch's points, its first point, and what a reader needs to go on from there; behind them the same for each
 -- sixteen of these stretches.
-use Prim.Native.Nat.{ℕ, zero, suc, _+_, _/_, _%_, _^_}
-use lib.{Dec.{ltb}, IntN.{ℤ}, Signed.{mag}}
-use mathlib.Core.{Bool.{Bool, true, not, _&&_}, List.{List, [], _∷_, _++_}}
-use mir.{Syntax.{w32}, Val.{ofZ}}
-use Rattle.numbers.specs.Answer.{Answer, found, if_then_else_}
-use Rattle.border.specs.{Box.{Box, grown}, Trace.{Given, reaches, ended, nextPoint, borderAt}}
-use Rattle.border.specs.declared.{place.Point.{Point}, reader.{Reader.{Reader}, Encoding.{Encoding}, Run.{Run, the-variants.{Idle, Forward, Backward}}}}
+use Rattle.numbers.specs.{Answer.{Answer, found, if_then_else_}, Prelude.{ℕ, zero, suc, _+_, _/_, _%_, _^_, ltb, ℤ, mag, Bool, true, _&&_, not, List, [], _∷_, _++_, w32, ofZ}}
+use Rattle.border.specs.{Box.{Box, grown}, Trace.{Given, reaches, ended, nextPoint, borderAt}, declared.{place.Point.{Point}, reader.{Encoding.{Encoding}, Reader.{Reader}, Run.{Run}}}}
+use Rattle.border.specs.declared.reader.Run.the-variants.{Idle, Forward, Backward}
 use Rattle.verdict.specs.Edge.{samePoint}
 use Rattle.numbers.specs.Answer as A
 

@@ -1,8 +1,5 @@
 -- A mark, read from words.
-use Prim.Native.Nat.{ℕ, _+_}
-use lib.{Dec.{eqb}, ListN.{getD}}
-use mathlib.Core.{Bool.{true, false}, List.{List}}
-use Rattle.numbers.specs.{Answer.{if_then_else_}, Point.{readI32}}
+use Rattle.numbers.specs.{Answer.{if_then_else_}, Point.{readI32}, Prelude.{ℕ, _+_, eqb, getD, true, false, List}}
 use Rattle.border.specs.{Place.{pointAt}, declared.{place.Point.{Point}, reader.{Reader.{Reader}, Run.{Run, the-variants.{Idle, Forward, Backward}}}}}
 
 -- a word, 0 behind the last

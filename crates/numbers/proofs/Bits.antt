@@ -1,10 +1,7 @@
 -- The bits of a signed number of any width. Assumes nothing.
-use Prim.Native.Nat.{ℕ, suc, _+_, _-_, _^_, _<_}
-use borrow.Author.Tests.{ltb-true, le-ltb}
-use lib.{Dec.{T}, IntN.{ℤ, pos, negsuc, natAbs, _-ℤ_}, Signed.{mag, ltZ, nonNeg}}
-use mathlib.Core.{Bool.{true, false}, Path.{_≡_, refl, ap, _∙_}}
-use mir.{Syntax.{Width}, Val.{SFits, bits, hbits, toZ, ofZ}, ValLaws.{toZ-ofZ}}
-use native.Mathlib.Omega.{arith}
+use Rattle.numbers.proofs.Prelude.{ℕ, suc, _+_, _-_, _^_, _<_, le-ltb, ltb-true, T, ℤ, pos, negsuc, _-ℤ_, natAbs, mag, ltZ, true, false, _≡_, refl, ap, _∙_, SFits, ofZ, toZ, toZ-ofZ, arith}
+use lib.Signed.{nonNeg}
+use mir.{Syntax.{Width}, Val.{bits, hbits}}
 
 -- a negative one: -1 less it is what its bits lack of all ones, and one less than its size
 record Below (w : Width) (z : ℤ) : Type 0 where

@@ -1,8 +1,5 @@
 -- What a reply that was taken apart says of the reply that follows it, and which numbers it can be refused with. Assumes nothing.
-use mathlib.Core.{Path.{_≡_, refl, ap, subst}, Bool.{Bool, true, false}}
-use Prim.Native.Nat.{ℕ}
-use native.Mathlib.Omega.{arith}
-use Rattle.numbers.proofs.Refusals.{Numbered, as-found, as-failed, as-refused}
+use Rattle.numbers.proofs.{Prelude.{ℕ, Bool, true, false, _≡_, refl, ap, subst, arith}, Refusals.{Numbered, as-found, as-failed, as-refused}}
 use Rattle.numbers.specs.{Answer.{Answer}, Reply.{Reply, given, refused, demand, _orElse_, _>>=_, _>>_}, declared.refusal.Refusal.{Refusal}}
 
 module _ {A B : Type 0} {answer : Reply A} where
@@ -44,6 +41,20 @@ pub demanded : {A : Type 0} {a : A} {rest : Reply A} (test : Bool) (why : Refusa
 demanded true why e = (refl, e)
 demanded false why e = let z : _≡_ {A = ℕ} 0 1 = cc in absurd (omega arith)
 
+pub demand-met : (test : Bool) (why : Refusal) → demand test why ≡ given tt → test ≡ true
+demand-met true why e = refl
+demand-met false why e = let z : _≡_ {A = ℕ} 0 1 = cc in absurd (omega arith)
+
+-- what is only looked at was given
+pub looked : {A : Type 0} {a : A} (r : Reply (Unit {0})) (rest : Reply A) → given a ≡ (r >> rest) → (r ≡ given tt) × (given a ≡ rest)
+looked (given tt) rest e = (refl, e)
+looked (refused why) rest e = let z : _≡_ {A = ℕ} 0 1 = cc in absurd (omega arith)
+
+-- both go on from one reply
+pub after : {A B : Type 0} (reply : Reply A) {next next′ : A → Reply B} → ((a : A) → next a ≡ next′ a) → (reply >>= next) ≡ (reply >>= next′)
+after (given a) e = e a
+after (refused why) e = refl
+
 -- ---- numbers
 -- a number that it is refused with has the property
 pub data NumberedReply (P : ℕ → Type 0) {A : Type 0} : Reply A → Type 0 where
@@ -54,6 +65,11 @@ module _ {P : ℕ → Type 0} where
   pub then-reply : {A B : Type 0} {reply : Reply A} {next : A → Reply B} → NumberedReply P reply → ((a : A) → NumberedReply P (next a)) → NumberedReply P (reply >>= next)
   then-reply answers k = k _
   then-reply (refuses h) k = refuses h
+
+  -- what follows may go by what was given
+  pub then-with : {A B : Type 0} {reply : Reply A} {next : A → Reply B} → NumberedReply P reply → ((a : A) → reply ≡ given a → NumberedReply P (next a)) → NumberedReply P (reply >>= next)
+  then-with answers k = k _ refl
+  then-with (refuses h) k = refuses h
 
   pub and-then : {A B : Type 0} {reply : Reply A} {next : Reply B} → NumberedReply P reply → NumberedReply P next → NumberedReply P (reply >> next)
   and-then answers k = k
@@ -69,7 +85,6 @@ module _ {P : ℕ → Type 0} where
   or-else why (as-refused n) h = refuses n
 
   pub number-of : {A : Type 0} {why : Refusal} {reply : Reply A} → NumberedReply P reply → reply ≡ refused why → P (why .number)
-  number-of {A} {why} h e = last (subst (λ (r : Reply A). NumberedReply P r) e h)
-    where
-      last : NumberedReply P {A = A} (refused why) → P (why .number)
-      last (refuses h) = h
+  number-of {A} {why} h e = last (subst (λ (r : Reply A). NumberedReply P r) e h) where
+    last : NumberedReply P {A = A} (refused why) → P (why .number)
+    last (refuses h) = h

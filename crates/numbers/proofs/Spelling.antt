@@ -1,12 +1,8 @@
 -- What is written is read back: varints, signed numbers, and two numbers in one. Assumes nothing.
-use Prim.Native.Nat.{ℕ, zero, suc, _+_, _-_, _*_, _/_, _%_, _^_, _<_, _≤_}
-use native.Mathlib.{Nat.{pow-suc}, Omega.{arith}}
-use mathlib.Core.{Path.{_≡_, refl, sym, ap, _∙_}, Bool.{Bool, true, false}, List.{List, [], _∷_}}
-use lib.{Dec.{ltb, lit≤}, IntN.{ℤ, pos, negsuc, negℤ, natAbs, _-ℤ_}, ListN.{length}}
-use borrow.Author.Tests.{ltb-true, lt-ltb, le-ltb}
-use Rattle.numbers.specs.{Answer.{if_then_else_}, Varint.{valueOf, sizeOf}, Point.{low32, readI32, halfOf, signedOf, evenBits, pointOf}}
-use Rattle.numbers.specs.{Spelling.{digitsOf, varintOf, signedForm, interleaved, Whole, Put}, declared.point.RawPoint.{RawPoint}}
-use Rattle.numbers.proofs.write.Digits.{digits-last, digits-few, interleaved-small}
+use Rattle.numbers.proofs.Prelude.{ℕ, zero, suc, _+_, _-_, _*_, _/_, _%_, _^_, _≤_, _<_, lt-ltb, le-ltb, ltb-true, ltb, lit≤, ℤ, pos, negsuc, _-ℤ_, negℤ, natAbs, length, Bool, true, false}
+use Rattle.numbers.proofs.{Prelude.{List, [], _∷_, _≡_, refl, sym, ap, _∙_, pow-suc, arith}, write.Digits.{digits-last, digits-few, interleaved-small}}
+use Rattle.numbers.specs.{Answer.{if_then_else_}, Point.{low32, readI32, halfOf, signedOf, evenBits, pointOf}, Spelling.{digitsOf, varintOf, signedForm, interleaved, Whole, Put}}
+use Rattle.numbers.specs.{Varint.{valueOf, sizeOf}, declared.point.RawPoint.{RawPoint}}
 
 -- ---- varints
 pub varint-few : (n : ℕ) → length (varintOf n) ≤ 10
@@ -33,52 +29,34 @@ lone n h = record { complete = rw (lt-ltb n 128 h); value = rw (lt-ltb n 128 h) 
 
 longer : (n : ℕ) {rest : List ℕ} → Spelt rest (n / 128) → Spelt ((128 + n % 128) ∷ rest) n
 unfolding sizeOf valueOf
-longer n {rest} s =
-    let b = 128 + n % 128 in
-    record {
-      complete = rw (le-ltb b 128 (omega arith)) (omega (arith, s .complete));
-      value = rw (le-ltb b 128 (omega arith)) (omega (arith, s .value));
-    }
+longer n {rest} s = let b = 128 + n % 128 in
+    record { complete = rw (le-ltb b 128 (omega arith)) (omega (arith, s .complete)); value = rw (le-ltb b 128 (omega arith)) (omega (arith, s .value)) }
 
 spelt : (k n : ℕ) → n < 128 ^ suc k → Spelt (digitsOf k n) n
 unfolding digitsOf
 spelt zero n h = lone n (omega (arith, pow-suc 128 0))
-spelt (suc k) n h = go (ltb n 128) refl (spelt k (n / 128) (omega (arith, pow-suc 128 (suc k))))
-  where
-    go : (t : Bool) → ltb n 128 ≡ t → Spelt (digitsOf k (n / 128)) (n / 128) → Spelt (if t then (n ∷ []) else ((128 + n % 128) ∷ digitsOf k (n / 128))) n
-    go true e s = lone n (ltb-true n 128 e)
-    go false e s = longer n s
+spelt (suc k) n h = go (ltb n 128) refl (spelt k (n / 128) (omega (arith, pow-suc 128 (suc k)))) where
+  go : (t : Bool) → ltb n 128 ≡ t → Spelt (digitsOf k (n / 128)) (n / 128) → Spelt (if t then (n ∷ []) else ((128 + n % 128) ∷ digitsOf k (n / 128))) n
+  go true e s = lone n (ltb-true n 128 e)
+  go false e s = longer n s
 
 pub varint-whole : (n : ℕ) → n < 2 ^ 64 → Whole (varintOf n) n
 unfolding varintOf
-varint-whole n h =
-    let s = spelt 9 n (omega arith) in
+varint-whole n h = let s = spelt 9 n (omega arith) in
     record { complete = s .complete; short = varint-few n; reads = ap (λ (v : ℕ). v % 2 ^ 64) (s .value) ∙ omega arith }
 
 -- ---- signed numbers
 even-half : (n : ℕ) → halfOf (2 * n) ≡ pos n
-even-half n =
-    let e : 2 * n % 2 ≡ 0 = omega arith in
-    let h : 2 * n / 2 ≡ n = omega arith in
-    rw (e, h)
+even-half n = let e : 2 * n % 2 ≡ 0 = omega arith in let h : 2 * n / 2 ≡ n = omega arith in rw (e, h)
 
 odd-half : (n : ℕ) → halfOf (2 * n + 1) ≡ negℤ (pos n)
-odd-half n =
-    let e : (2 * n + 1) % 2 ≡ 1 = omega arith in
-    let h : (2 * n + 1) / 2 ≡ n = omega arith in
-    rw (e, h)
+odd-half n = let e : (2 * n + 1) % 2 ≡ 1 = omega arith in let h : (2 * n + 1) / 2 ≡ n = omega arith in rw (e, h)
 
 low-back : (z : ℤ) → natAbs z < 2 ^ 31 → readI32 (low32 z) ≡ z
-low-back (pos n) h =
-    let e : n % 2 ^ 32 ≡ n = omega arith in
-    rw (e, lt-ltb n (2 ^ 31) h)
-low-back (negsuc n) h =
-    let e : n % 2 ^ 32 ≡ n = omega arith in
-    let m = 2 ^ 32 - 1 - n in
-    rw (e, le-ltb m (2 ^ 31) (omega arith)) (below n (omega arith))
-  where
-    below : (n : ℕ) → n < 2 ^ 31 → pos (2 ^ 32 - 1 - n) -ℤ pos (2 ^ 32) ≡ negsuc n
-    below n h = rw (lt-ltb (2 ^ 32 - 1 - n) (2 ^ 32) (omega arith)) (ap negsuc (omega arith))
+low-back (pos n) h = let e : n % 2 ^ 32 ≡ n = omega arith in rw (e, lt-ltb n (2 ^ 31) h)
+low-back (negsuc n) h = let e : n % 2 ^ 32 ≡ n = omega arith in let m = 2 ^ 32 - 1 - n in rw (e, le-ltb m (2 ^ 31) (omega arith)) (below n (omega arith)) where
+  below : (n : ℕ) → n < 2 ^ 31 → pos (2 ^ 32 - 1 - n) -ℤ pos (2 ^ 32) ≡ negsuc n
+  below n h = rw (lt-ltb (2 ^ 32 - 1 - n) (2 ^ 32) (omega arith)) (ap negsuc (omega arith))
 
 pub even-back : (n : ℕ) → n < 2 ^ 31 → signedOf (2 * n) ≡ pos n
 unfolding signedOf
@@ -122,22 +100,14 @@ signed-small (negsuc n) h = omega arith
 even-bits : (k a b : ℕ) → a < 2 ^ k → evenBits k (interleaved k a b) ≡ a
 unfolding evenBits interleaved
 even-bits zero a b h = omega arith
-even-bits (suc k) a b h =
-    let i = interleaved k (a / 2) (b / 2) in
-    let v = a % 2 + 2 * (b % 2) + 4 * i in
-    let e : v / 4 ≡ i = omega arith in
-    let r : evenBits k (v / 4) ≡ a / 2 = ap (evenBits k) e ∙ even-bits k (a / 2) (b / 2) (omega (arith, pow-suc 2 k)) in
-    rw r (omega arith)
+even-bits (suc k) a b h = let i = interleaved k (a / 2) (b / 2) in let v = a % 2 + 2 * (b % 2) + 4 * i in let e : v / 4 ≡ i = omega arith in
+    let r : evenBits k (v / 4) ≡ a / 2 = ap (evenBits k) e ∙ even-bits k (a / 2) (b / 2) (omega (arith, pow-suc 2 k)) in rw r (omega arith)
 
 odd-bits : (k a b : ℕ) → b < 2 ^ k → evenBits k (interleaved k a b / 2) ≡ b
 unfolding evenBits interleaved
 odd-bits zero a b h = omega arith
-odd-bits (suc k) a b h =
-    let i = interleaved k (a / 2) (b / 2) in
-    let v = (a % 2 + 2 * (b % 2) + 4 * i) / 2 in
-    let e : v / 4 ≡ i / 2 = omega arith in
-    let r : evenBits k (v / 4) ≡ b / 2 = ap (evenBits k) e ∙ odd-bits k (a / 2) (b / 2) (omega (arith, pow-suc 2 k)) in
-    rw r (omega arith)
+odd-bits (suc k) a b h = let i = interleaved k (a / 2) (b / 2) in let v = (a % 2 + 2 * (b % 2) + 4 * i) / 2 in let e : v / 4 ≡ i / 2 = omega arith in
+    let r : evenBits k (v / 4) ≡ b / 2 = ap (evenBits k) e ∙ odd-bits k (a / 2) (b / 2) (omega (arith, pow-suc 2 k)) in rw r (omega arith)
 
 -- ---- points
 pub point-zero : pointOf 0 ≡ record { lat = pos 0; lon = pos 0 }

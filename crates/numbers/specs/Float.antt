@@ -1,8 +1,7 @@
 -- Floats, as document 01 has them: IEEE 754 binary32, each operation rounded once, in the Rust's order.
 pub mod Root
-use Prim.Native.Nat.{ℕ, _+_, _-_, _%_, _^_}
-use lib.{Dec.{eqb}, IntN.{ℤ, pos, negsuc}, Ieee.{Float, binary32, add, sub, mul, div, ofInt, toSigned}}
-use Rattle.numbers.specs.Answer.{if_then_else_}
+use Rattle.numbers.specs.{Answer.{if_then_else_}, Prelude.{ℕ, _+_, _-_, _%_, _^_, eqb, Float, binary32, ℤ, pos, negsuc}}
+use lib.Ieee.{add, sub, mul, div, ofInt, toSigned}
 
 -- i32 and u64 to f32: the nearest, ties to even
 abbrev pub toF32 : ℤ → Float

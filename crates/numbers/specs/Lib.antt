@@ -3,6 +3,9 @@ pub mod Answer
 pub mod Reply
 pub mod Lists
 pub mod Varint
+pub mod inner
 pub mod Point
 pub mod Spelling
 pub mod Float
+pub mod Spoken
+pub mod Prelude

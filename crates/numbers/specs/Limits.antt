@@ -1,5 +1,5 @@
 -- Limits that more than one crate's definitions ask for.
-use Prim.Native.Nat.{ℕ, _^_}
+use Rattle.numbers.specs.Prelude.{ℕ, _^_}
 
 -- bytes of a file: 1 GiB
 abbrev pub largestFile : ℕ

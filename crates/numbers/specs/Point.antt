@@ -1,7 +1,5 @@
 -- Signed numbers and points, as document 01 has them.
-use Prim.Native.Nat.{ℕ, zero, suc, _+_, _-_, _*_, _/_, _%_, _^_}
-use lib.{Dec.{ltb, eqb}, IntN.{ℤ, pos, negsuc, negℤ, _-ℤ_}}
-use Rattle.numbers.specs.{Answer.{if_then_else_}, declared.point.RawPoint.{RawPoint}}
+use Rattle.numbers.specs.{Answer.{if_then_else_}, Prelude.{ℕ, zero, suc, _+_, _-_, _*_, _/_, _%_, _^_, eqb, ltb, ℤ, pos, negsuc, _-ℤ_, negℤ}, declared.point.RawPoint.{RawPoint}}
 
 -- the residue modulo 2 ^ 32
 abbrev pub low32 : ℤ → ℕ

@@ -1,8 +1,5 @@
 -- Numbers as they are written: document 01, "shortest varints, odd only for negatives".
-use Prim.Native.Nat.{ℕ, zero, suc, _+_, _*_, _/_, _%_, _^_, _≤_}
-use mathlib.Core.{Path.{_≡_}, List.{List, [], _∷_}}
-use lib.{Dec.{ltb}, IntN.{ℤ, pos, negsuc}, ListN.{length}, Seq.{sets}}
-use Rattle.numbers.specs.{Answer.{if_then_else_}, Varint.{valueOf, sizeOf}}
+use Rattle.numbers.specs.{Answer.{if_then_else_}, Prelude.{ℕ, zero, suc, _+_, _*_, _/_, _%_, _^_, _≤_, ltb, ℤ, pos, negsuc, length, sets, List, [], _∷_, _≡_}, Varint.{valueOf, sizeOf}}
 
 -- seven bits a byte, low first, the high bit set in all but the last; at most k + 1 bytes
 unfoldable pub digitsOf : ℕ → ℕ → List ℕ

@@ -1,31 +1,14 @@
 -- A builder's numbers in fourteen words, and back; and how a change of it goes over to C. Assumes nothing.
-use Prim.Native.Nat.{ℕ, _*_, _/_, _%_, _^_, _<_}
-use borrow.Author.Tests.{eq-eqb}
-use lib.{IntN.{ℤ, pos, negsuc}, ListN.{getD}}
-use mathlib.Core.{List.{List, [], _∷_}, Path.{_≡_, sym, ap, subst, _∙_}}
-use mir.{Syntax.{w32}, Val.{SFits, ofZ}}
-use native.Mathlib.Omega.{arith}
+use Rattle.numbers.proofs.Prelude.{ℕ, _*_, _%_, _^_, _<_, ℤ, pos, negsuc, getD, List, [], _∷_, _≡_, sym, ap, subst, _∙_, w32, SFits, ofZ, arith}
+use Rattle.numbers.{proofs.Coordinates.{read-back, twice-read}, specs.{Point.{readI32, signedOf}, Spoken.{saidOf}, declared.refusal.Refusal.{Refusal}}}
 use Rattle.build.specs.{Whole.{toldBuilt}, declared.file.Built.{Built}}
 use Rattle.add.specs.declared.growing.grow.Added.{Added}
-use Rattle.draft.specs.declared.held.state.{Held.{Held}, Changed.{Changed}}
-use Rattle.index.proofs.Numbering.{read-back}
-use Rattle.numbers.specs.{Point.{readI32, signedOf}, declared.refusal.Refusal.{Refusal}}
-use Rattle.office.specs.Draft.{heldOf, notedIn, wordsOf, Kept, Spoke, Speaks, SpeaksNoted, Ends}
-use Rattle.uskelzar.specs.Spoken.{saidOf}
-use Rattle.office.specs.Written.{lengthValue}
+use Rattle.draft.specs.declared.held.state.{Changed.{Changed}, Held.{Held}}
+use Rattle.office.specs.{Draft.{heldOf, notedIn, wordsOf, Kept, Spoke, Speaks, SpeaksNoted, Ends}, Written.{lengthValue}}
 use Rattle.draft.specs.declared.held.state.Changed.the-variants as C
 
--- half of twice the bits
-signed-even : (bits : ℕ) → bits < 2 ^ 32 → signedOf (2 * bits) ≡ readI32 bits
-unfolding signedOf
-signed-even bits h =
-    let even : (2 * bits) % 2 ≡ 0 = omega arith in
-    let half : (2 * bits) / 2 ≡ bits = omega arith in
-    let low : bits % 2 ^ 32 ≡ bits = omega (arith, h) in
-    rw (eq-eqb _ _ even) (ap (λ (n : ℕ). readI32 (n % 2 ^ 32)) half ∙ ap readI32 low)
-
 pub greatest-read : (word : ℕ) (greatest : ℤ) → greatest ≡ signedOf (2 * (word % 2 ^ 32)) → greatest ≡ readI32 (word % 2 ^ 32)
-greatest-read word greatest is = is ∙ signed-even (word % 2 ^ 32) (omega arith)
+greatest-read word greatest is = is ∙ twice-read (word % 2 ^ 32) (omega arith)
 
 -- the same numbers but for those of which some bits count
 abbrev rebuilt : Held → ℕ → ℕ → ℕ → ℕ → ℤ → Held
@@ -49,19 +32,19 @@ rebuilt held kind version precision names greatest =
 pub held-made : (words : List ℕ) (greatest : ℤ) → greatest ≡ signedOf (2 * (getD words 12 0 % 2 ^ 32))
     → rebuilt (heldOf words) (getD words 0 0 % 256) (getD words 1 0 % 256) (getD words 2 0 % 256) (getD words 3 0 % 2 ^ 32) greatest ≡ heldOf words
 unfolding heldOf
-held-made words greatest is = ap (λ (g : ℤ). rebuilt (heldOf words) (getD words 0 0 % 256) (getD words 1 0 % 256) (getD words 2 0 % 256) (getD words 3 0 % 2 ^ 32) g) (greatest-read (getD words 12 0) greatest is)
+held-made words greatest is = ap (λ (g : ℤ). rebuilt (heldOf words) (getD words 0 0 % 256) (getD words 1 0 % 256) (getD words 2 0 % 256) (getD words 3 0 % 2 ^ 32) g)
+    (greatest-read (getD words 12 0) greatest is)
 
 bits-low : (z : ℤ) → SFits w32 z → ofZ w32 z < 2 ^ 32
 bits-low (pos n) h = omega (arith, h .sfits)
 bits-low (negsuc n) h = omega (arith, h .sfits)
 
 -- numbers of their widths are read back from their words
-module _ (held : Held) (noted : ℕ) (kind-low : held .kind < 2 ^ 8) (version-low : held .version < 2 ^ 8) (precision-low : held .precision < 2 ^ 8) (names-low : held .names < 2 ^ 32) (fits : SFits w32 (held .greatest)) where
+module _ (held : Held) (noted : ℕ) (kind-low : held .kind < 2 ^ 8) (version-low : held .version < 2 ^ 8) (precision-low : held .precision < 2 ^ 8) (names-low : held .names < 2 ^ 32)
+    (fits : SFits w32 (held .greatest)) where
   pub words-back : heldOf (wordsOf held noted) ≡ held
   unfolding heldOf wordsOf
-  words-back =
-      let bits : ℕ = ofZ w32 (held .greatest) in
-      let kind : held .kind % 2 ^ 8 ≡ held .kind = omega (arith, kind-low) in
+  words-back = let bits : ℕ = ofZ w32 (held .greatest) in let kind : held .kind % 2 ^ 8 ≡ held .kind = omega (arith, kind-low) in
       let version : held .version % 2 ^ 8 ≡ held .version = omega (arith, version-low) in
       let precision : held .precision % 2 ^ 8 ≡ held .precision = omega (arith, precision-low) in
       let names : held .names % 2 ^ 32 ≡ held .names = omega (arith, names-low) in
@@ -99,7 +82,8 @@ module _ {Promised : Held → Changed → Type 0} {before after said : List ℕ}
 
 -- the same of an add
 module _ {Promised : Held → ℕ → Added → Type 0} {before after said : List ℕ} {number noted : ℕ} {held : Held} {added : Added} where
-  pub speaks-noted : held ≡ heldOf before → noted ≡ notedIn before → Promised held noted added → Spoke (added .changed) (added .noted) before after number said → SpeaksNoted Promised before after number said
+  pub speaks-noted : held ≡ heldOf before → noted ≡ notedIn before → Promised held noted added → Spoke (added .changed) (added .noted) before after number said →
+      SpeaksNoted Promised before after number said
   speaks-noted is note promised spoke =
       record { added = added; promised = subst (λ (n : ℕ). Promised (heldOf before) n added) note (subst (λ (h : Held). Promised h noted added) is promised); spoke = spoke }
 

@@ -1,37 +1,25 @@
 -- After exported calls, answered or refused, words 8 to 12 of a builder's state are the totals of the yards that were added and not taken away; a refused call changes nothing. Assumes nothing.
-use Prim.Native.Nat.{ℕ, _-_, _^_, _<_}
-use borrow.Author.Tests.{eq-eqb, ne-eqb}
-use lib.{Dec.{ltb, leb, eqb}, ListN.{getD, length, take}}
-use mathlib.Core.{Bool.{Bool, true, false, _&&_}, List.{List, [], _∷_, _++_}, Logic.{_↔_, inl, inr}, Path.{_≡_, refl, sym, ap, subst, _∙_}}
-use mir.{Syntax.{w32}, Val.{ofZ}}
-use native.Mathlib.Omega.{arith}
-use Rattle.add.specs.{Adding.Adds.{spaceFor}, declared.adding.room.NoteRooms.{NoteRooms}}
-use Rattle.builder.specs.{Borders.{drawnOf}, File.{headOf, isText, known, readable, upTo}, Yards.{Plan, Text, Yard}}
+use Rattle.numbers.proofs.Prelude.{ℕ, _-_, _^_, _<_, eq-eqb, ne-eqb, ltb, leb, length, take, getD, false, _&&_, List, [], _∷_, _++_, inl, inr, _↔_, _≡_, refl, sym, ap, subst, _∙_, w32, ofZ, arith}
+use Rattle.numbers.{proofs.{Replies.{demanded}, Saying.{Answered}}, specs.{Lists.{zeros}, Reply.{Reply, given, refused, plain}, Spoken.{saidOf}, declared.refusal.Refusal.{Refusal}}}
+use Rattle.numbers.specs.declared.said.Said.{Said}
+use Rattle.add.{proofs.growing.Wider.{noted-by-wider}, specs.{Adding.Adds.{spaceFor}, Growing.Notes.{Notes}, declared.{adding.room.NoteRooms.{NoteRooms}, growing.grow.Added.{Added}}}}
+use Rattle.builder.{proofs.drawing.Lending.{never-given}, specs.{Borders.{drawnOf}, File.{headOf, isText, known, readable, upTo}, Yards.{Plan, Text, Yard}}}
 use Rattle.edit.specs.Changing.{Begun.{Begins, blank}, Dropped.{leftSpace}}
-use Rattle.builder.proofs.drawing.Lending.{never-given}
-use Rattle.add.proofs.growing.Wider.{noted-by-wider}
-use Rattle.add.specs.{Growing.Notes.{MoreNotes, Notes}, declared.growing.grow.Added.{Added}}
 use Rattle.draft.proofs.held.{Adds.{add-given}, Wider.{holds-wider}}
-use Rattle.draft.specs.Held.{Builder.{Builder, Offered, add, begin, changedAt, clear, dropLast, fitting, holding, joined, replace, summed, withValue, yardOf}, Space.{Space, standing}, State.{Answers}}
-use Rattle.draft.specs.{Held.{State.{Holds, Lists, More, heldAs}, Totals.{dataOf, drawnOr, fileSize, totalsFor, totalsOf}}, declared.held.{room.Rooms.{Rooms}, state.{Changed.{Changed}, Held.{Held}}}}
-use Rattle.draft.specs.declared.held.state.Changed.the-variants as C
-use Rattle.numbers.{proofs.Replies.{demanded}, specs.{Lists.{zeros}, Reply.{Reply, given, refused, plain}, declared.refusal.Refusal.{Refusal}}}
-use Rattle.edit.specs.Replacing.Replaced as Replacing
+use Rattle.draft.specs.Held.{Builder.{Builder, Offered, add, begin, changedAt, clear, dropLast, fitting, holding, joined, replace, summed, withValue, yardOf}, Space.{Space, standing}}
+use Rattle.draft.specs.{Held.{State.{Answers, Lists, heldAs}, Totals.{dataOf, drawnOr, fileSize, totalsFor, totalsOf}}, declared.held.{room.Rooms.{Rooms}, state.{Changed.{Changed}, Held.{Held}}}}
 use Rattle.office.proofs.{NotedDrafts.{Lasts, LastsOn, add-lasts, kept-lasts, noted-back}, NumberedDrafts.{add-zero, begin-zero, drop-zero, replace-zero}}
-use Rattle.uskelzar.proofs.Numbered.{Answered}
-use Rattle.office.specs.{Calls.{Called, Made, Shelf, TotalsIn, adds, begun, called, clears, drops, grown, replaces, yardsAfter}, Draft.{Kept, Speaks, Spoke, heldOf, notedIn, toldChanged, totalsValues, wordsOf}}
-use Rattle.uskelzar.specs.Spoken.{saidOf}
-use Rattle.uskelzar.specs.declared.Said.{Said}
+use Rattle.office.specs.Calls.{Called, Made, Shelf, TotalsIn, adds, begun, called, clears, drops, grown, replaces, yardsAfter}
+use Rattle.office.specs.Draft.{Kept, Speaks, Spoke, heldOf, notedIn, toldChanged, totalsValues, wordsOf}
+use Rattle.draft.specs.declared.held.state.Changed.the-variants as C
+use Rattle.edit.specs.Replacing.Replaced as Replacing
 
 -- ---- what the definition's calls give, where they give a builder
 module _ (b : Builder) where
   drop-gives : (space : Space) (next : Builder) → dropLast b space ≡ given next → next ≡ summed (holding (b .plan) (take (length (b .plan .yards) - 1) (b .plan .yards))) (b .room)
   unfolding dropLast
-  drop-gives space next e =
-      let one = demanded (ltb 0 (length (b .plan .yards))) (plain 29) (sym e) in
-      let two = demanded (space .lists) (plain 28) (one .1) in
-      let onto = two .1 in
-      cc
+  drop-gives space next e = let one = demanded (ltb 0 (length (b .plan .yards))) (plain 29) (sym e) in let two = demanded (space .lists) (plain 28) (one .1) in
+      let onto = two .1 in cc
 
   replace-gives : (yard field : ℕ) (text : Text) (space : Space) (next : Builder) → replace b yard field text space ≡ given next
       → next ≡ summed (holding (b .plan) (changedAt yard (withValue field text) (b .plan .yards))) (b .room)
@@ -41,18 +29,13 @@ module _ (b : Builder) where
       let one = demanded (ltb yard (length (b .plan .yards)) && ltb field (length (b .plan .names))) (plain 30) (sym e) in
       let two = demanded (isText text) (plain 26) (one .1) in
       let three = demanded (space .lists && leb (fileSize (length (headOf (all .plan))) (all .totals)) (upTo (all .room))) (plain 28) (two .1) in
-      let onto = three .1 in
-      cc
+      let onto = three .1 in cc
 
 begin-gives : (plan : Plan) (room : ℕ) (space : Space) (b : Builder) → begin plan room space ≡ given b → b ≡ summed (holding plan []) room
 unfolding begin
-begin-gives plan room space b e =
-    let one = demanded (leb (length (plan .names)) 255 && plan .numbered) (plain 25) (sym e) in
-    let two = demanded (readable (holding plan [])) (plain 26) (one .1) in
-    let three = demanded (known plan) (plain 27) (two .1) in
-    let four = demanded (space .lists) (plain 28) (three .1) in
-    let onto = four .1 in
-    cc
+begin-gives plan room space b e = let one = demanded (leb (length (plan .names)) 255 && plan .numbered) (plain 25) (sym e) in
+    let two = demanded (readable (holding plan [])) (plain 26) (one .1) in let three = demanded (known plan) (plain 27) (two .1) in
+    let four = demanded (space .lists) (plain 28) (three .1) in let onto = four .1 in cc
 
 -- ---- what a call comes to
 -- no other bit of the words is set
@@ -67,8 +50,7 @@ words-stay noted before after (C.Refused why) same worded = subst Worded (sym sa
 
 shelf-one : (one other : Shelf) → one .state ≡ other .state → one .lists ≡ other .lists → one .notes ≡ other .notes → one ≡ other
 shelf-one one other state lists notes =
-    ap (λ (x : List ℕ). record { state = x; lists = one .lists; notes = one .notes }) state
-    ∙ (ap (λ (x : Lists). record { state = other .state; lists = x; notes = one .notes }) lists
+    ap (λ (x : List ℕ). record { state = x; lists = one .lists; notes = one .notes }) state ∙ (ap (λ (x : Lists). record { state = other .state; lists = x; notes = one .notes }) lists
     ∙ ap (λ (x : Notes). record { state = other .state; lists = other .lists; notes = x }) notes)
 
 -- it returned 0 and left another builder, with the yards that it makes of these; or it returned another number and left all as it was
@@ -110,18 +92,15 @@ module _ (b : Builder) (found left : Shelf) (number : ℕ) (lasts : Lasts b (fou
   outcome change (adds o rooms lent out words s) =
       add-outcome b o rooms lent out found left number (add-zero (found .state) o rooms lent out (found .lists) (left .lists) (found .notes) (left .notes) s b (lasts .holds) (lasts .noted))
       (add-lasts b o rooms lent out (found .state) (left .state) (found .lists) (left .lists) (found .notes) (left .notes) s lasts)
-  outcome change (drops rooms words s notes) =
-      let space : Space = leftSpace (heldOf (found .state)) rooms (found .lists .lengths) in
+  outcome change (drops rooms words s notes) = let space : Space = leftSpace (heldOf (found .state)) rooms (found .lists .lengths) in
       changed-outcome b found left number change (dropLast b space) (s .changed) (s .promised .answers b (lasts .holds)) (s .spoke .kept)
       (drop-zero (found .state) rooms (found .lists) (left .lists) s b (lasts .holds))
       (λ next e. let made = drop-gives b space next e in (ap (λ (x : Builder). x .plan .version) made, ap (λ (x : Builder). x .plan .yards) made)) notes
-  outcome change (replaces rooms out yard field text words s notes) =
-      let space : Space = Replacing.spaceFor rooms out (b .plan) yard field text in
+  outcome change (replaces rooms out yard field text words s notes) = let space : Space = Replacing.spaceFor rooms out (b .plan) yard field text in
       changed-outcome b found left number change (replace b yard field text space) (s .changed) (s .promised .answers b (lasts .holds)) (s .spoke .kept)
       (replace-zero (found .state) rooms out yard field text (found .lists) (left .lists) s b (lasts .holds))
       (λ next e. let made = replace-gives b yard field text space next e in (ap (λ (x : Builder). x .plan .version) made, ap (λ (x : Builder). x .plan .yards) made)) notes
-  outcome change (clears rooms words s notes) =
-      let answers = s .promised .answers b (lasts .holds) in
+  outcome change (clears rooms words s notes) = let answers = s .promised .answers b (lasts .holds) in
       changed-outcome b found left number change (given (clear b)) (s .changed) answers (s .spoke .kept) (clear-zero b words number (found .lists) (left .lists) (s .changed) answers (s .spoke .said))
       (λ next e. let same : next ≡ clear b = cc in (ap (λ (x : Builder). x .plan .version) same, ap (λ (x : Builder). x .plan .yards) same)) notes
 
@@ -142,15 +121,13 @@ pub record Reached (plan : Plan) (yards : List Yard) (s : Shelf) : Type 0 where
 begun-reached : (plan : Plan) (room : ℕ) (space : Space) (before : Lists) (s : Shelf) (changed : Changed) → Begins plan room space before (s .lists) changed
     → Kept 0 (zeros 14) (s .state) changed → Answered (begin plan room space) → Reached plan [] s
 unfolding Begins Kept summed
-begun-reached plan room space before s (C.Into held) (b, (is, (holds, rooms))) kept answered =
-    let made = begin-gives plan room space b is in
-    record {
-      b = b;
-      lasts = kept-lasts b (zeros 14) (s .state) (s .lists) (s .notes) held kept holds;
-      worded-is = kept .0 ∙ (ap (λ (h : Held). wordsOf h 0) (sym (kept .1)) ∙ ap (λ (n : ℕ). wordsOf (heldOf (s .state)) n) (sym (noted-back held 0 (s .state) (kept .0))));
-      form = ap (λ (x : Builder). x .plan .version) made;
-      yards-are = ap (λ (x : Builder). x .plan .yards) made;
-    }
+begun-reached plan room space before s (C.Into held) (b, (is, (holds, rooms))) kept answered = let made = begin-gives plan room space b is in record {
+  b = b;
+  lasts = kept-lasts b (zeros 14) (s .state) (s .lists) (s .notes) held kept holds;
+  worded-is = kept .0 ∙ (ap (λ (h : Held). wordsOf h 0) (sym (kept .1)) ∙ ap (λ (n : ℕ). wordsOf (heldOf (s .state)) n) (sym (noted-back held 0 (s .state) (kept .0))));
+  form = ap (λ (x : Builder). x .plan .version) made;
+  yards-are = ap (λ (x : Builder). x .plan .yards) made;
+}
 begun-reached plan room space before s (C.Refused why) (is, lists) kept answered = absurd (never-given _ _ (sym is ∙ answered .1))
 
 zero-after : (number : ℕ) (changed yards : List Yard) → number ≡ 0 → changed ≡ yardsAfter number changed yards
@@ -161,9 +138,8 @@ other-after : (number : ℕ) (changed yards : List Yard) → (number ≡ 0 → �
 unfolding yardsAfter
 other-after number changed yards e = rw (ne-eqb number 0 e) refl
 
-called-reached : (plan : Plan) (yards : List Yard) (found left : Shelf) (number : ℕ) (change : List Yard → List Yard) (r : Reached plan yards found) → Worded (left .state)
-    → Outcome (r .b) found left number change
-    → Reached plan (yardsAfter number (change yards) yards) left
+called-reached : (plan : Plan) (yards : List Yard) (found left : Shelf) (number : ℕ) (change : List Yard → List Yard) (r : Reached plan yards found)
+    → Worded (left .state) → Outcome (r .b) found left number change → Reached plan (yardsAfter number (change yards) yards) left
 called-reached plan yards found left number change r w (into next zero lasts form changed) =
     record { b = next; lasts = lasts; worded-is = w; form = form ∙ r .form; yards-are = changed ∙ (ap change (r .yards-are) ∙ zero-after number (change yards) yards zero) }
 called-reached plan yards found left number change r w (stays other same) =
@@ -173,21 +149,18 @@ called-reached plan yards found left number change r w (stays other same) =
 pub reached : (plan : Plan) (room : ℕ) (yards : List Yard) (s : Shelf) → Made plan room yards s → Reached plan yards s
 reached plan room yards s (begun space before words shelf speaks) =
     begun-reached plan room space before shelf (speaks .changed) (speaks .promised) (speaks .spoke .kept) (begin-zero plan room space before (shelf .lists) speaks .0 refl)
-reached plan room yards s (called yards′ found left number change made call) =
-    let r = reached plan room yards′ found made in
+reached plan room yards s (called yards′ found left number change made call) = let r = reached plan room yards′ found made in
     called-reached plan yards′ found left number change r (worded (r .b) found left number (r .lasts) change call (r .worded-is)) (outcome (r .b) found left number (r .lasts) change call)
-reached plan room yards s (grown yards′ shelf more more-notes made) =
-    let r = reached plan room yards′ shelf made in
-    record {
-      b = r .b;
-      lasts = record {
-        holds = holds-wider more (r .b) (heldOf (shelf .state)) (shelf .lists) (r .lasts .holds);
-        noted = noted-by-wider more-notes (heldOf (shelf .state) .names) (r .b .plan .yards) (notedIn (shelf .state)) (shelf .notes) (r .lasts .noted);
-      };
-      worded-is = r .worded-is;
-      form = r .form;
-      yards-are = r .yards-are;
-    }
+reached plan room yards s (grown yards′ shelf more more-notes made) = let r = reached plan room yards′ shelf made in record {
+  b = r .b;
+  lasts = record {
+    holds = holds-wider more (r .b) (heldOf (shelf .state)) (shelf .lists) (r .lasts .holds);
+    noted = noted-by-wider more-notes (heldOf (shelf .state) .names) (r .b .plan .yards) (notedIn (shelf .state)) (shelf .notes) (r .lasts .noted);
+  };
+  worded-is = r .worded-is;
+  form = r .form;
+  yards-are = r .yards-are;
+}
 
 -- ---- the theorems
 totals-alike : (p q : Plan) → p .version ≡ q .version → p .yards ≡ q .yards → totalsOf p ≡ totalsOf (holding q (q .yards))
@@ -208,8 +181,7 @@ totals-in b state is w =
 
 -- After every sequence of calls, answered or refused, words 8 to 12 of the state are the totals of the yards that were added and not taken away.
 pub totals-fresh : (plan : Plan) (room : ℕ) (yards : List Yard) (s : Shelf) → Made plan room yards s → TotalsIn (s .state) (totalsOf (holding plan yards))
-totals-fresh plan room yards s made =
-    let r = reached plan room yards s made in
+totals-fresh plan room yards s made = let r = reached plan room yards s made in
     subst (TotalsIn (s .state)) (r .lasts .holds .fresh ∙ totals-alike (r .b .plan) (holding plan yards) (r .form) (r .yards-are)) (totals-in (r .b) (s .state) (r .lasts .holds .is) (r .worded-is))
 
 stays-same : (b : Builder) (found left : Shelf) (number : ℕ) (change : List Yard → List Yard) → (number ≡ 0 → ⊥) → Outcome b found left number change → left ≡ found
@@ -219,21 +191,19 @@ stays-same b found left number change other (stays never same) = same
 -- A call that returns no 0 leaves state, lists and notes as they were.
 pub refused-changes-nothing : (plan : Plan) (room : ℕ) (yards : List Yard) (found left : Shelf) (number : ℕ) (change : List Yard → List Yard) → Made plan room yards found
     → Called found left number change → (number ≡ 0 → ⊥) → left ≡ found
-refused-changes-nothing plan room yards found left number change made call other =
-    let r = reached plan room yards found made in
+refused-changes-nothing plan room yards found left number change made call other = let r = reached plan room yards found made in
     stays-same (r .b) found left number change other (outcome (r .b) found left number (r .lasts) change call)
 
 -- ---- a begin that is refused
 -- It leaves zeros.
 pub refused-begin-zeros : (plan : Plan) (room : ℕ) (space : Space) (before after : Lists) (state words : List ℕ) (number : ℕ)
-    → Speaks (λ h. Begins plan room space before after) (zeros 14) state number words → (number ≡ 0 → ⊥)
-    → (state ≡ zeros 14) × (after ≡ blank before)
+    → Speaks (λ h. Begins plan room space before after) (zeros 14) state number words → (number ≡ 0 → ⊥) → (state ≡ zeros 14) × (after ≡ blank before)
 unfolding Begins Kept
-refused-begin-zeros plan room space before after state words number s other = go (s .changed) (s .promised) (s .spoke .kept) (λ answered. other (begin-zero plan room space before after s .1 answered))
-  where
-    go : (changed : Changed) → Begins plan room space before after changed → Kept 0 (zeros 14) state changed → (Answered (begin plan room space) → ⊥) → (state ≡ zeros 14) × (after ≡ blank before)
-    go (C.Into held) (b, (is, holds)) kept never = absurd (never (b, is))
-    go (C.Refused why) (is, lists) kept never = (kept, lists)
+refused-begin-zeros plan room space before after state words number s other =
+    go (s .changed) (s .promised) (s .spoke .kept) (λ answered. other (begin-zero plan room space before after s .1 answered)) where
+      go : (changed : Changed) → Begins plan room space before after changed → Kept 0 (zeros 14) state changed → (Answered (begin plan room space) → ⊥) → (state ≡ zeros 14) × (after ≡ blank before)
+      go (C.Into held) (b, (is, holds)) kept never = absurd (never (b, is))
+      go (C.Refused why) (is, lists) kept never = (kept, lists)
 
 -- The zeros that it leaves are no builder.
 pub zeros-stand-not : (rooms : Rooms) → standing (heldOf (zeros 14)) rooms ≡ false
@@ -250,22 +220,14 @@ broken-says n noted {changed} {before} {after} is s = (
 
 -- So every call behind it is refused, 29 for a drop and else 28, and changes nothing.
 pub zeros-are-refused : (found left : Shelf) (number : ℕ) (change : List Yard → List Yard) → found .state ≡ zeros 14 → Called found left number change → (27 < number) × (left ≡ found)
-zeros-are-refused found left number change zero call = go change call (λ rooms. subst (λ (l : List ℕ). standing (heldOf l) rooms ≡ false) (sym zero) (zeros-stand-not rooms))
-  where
-    go : (change : List Yard → List Yard) → Called found left number change → ((rooms : Rooms) → standing (heldOf (found .state)) rooms ≡ false) → (27 < number) × (left ≡ found)
-    go change (adds o rooms lent out words s) low =
-        let p = s .promised .stands-not (low rooms) in
-        let says = broken-says 28 (s .added .noted) (ap (λ (r : Added). r .changed) (p .0)) (s .spoke) in
-        (omega (arith, says .0), shelf-one left found (says .1) (p .1 .0) (p .1 .1))
-    go change (drops rooms words s notes) low =
-        let p = s .promised .broken (low rooms) in
-        let says = broken-says 29 0 (p .0) (s .spoke) in
-        (omega (arith, says .0), shelf-one left found (says .1) (p .1) notes)
-    go change (replaces rooms out yard field text words s notes) low =
-        let p = s .promised .fallen (low rooms) in
-        let says = broken-says 28 0 (p .0) (s .spoke) in
-        (omega (arith, says .0), shelf-one left found (says .1) (p .1) notes)
-    go change (clears rooms words s notes) low =
-        let p = s .promised .broken (low rooms) in
-        let says = broken-says 28 0 (p .0) (s .spoke) in
-        (omega (arith, says .0), shelf-one left found (says .1) (p .1) notes)
+zeros-are-refused found left number change zero call = go change call (λ rooms. subst (λ (l : List ℕ). standing (heldOf l) rooms ≡ false) (sym zero) (zeros-stand-not rooms)) where
+  go : (change : List Yard → List Yard) → Called found left number change → ((rooms : Rooms) → standing (heldOf (found .state)) rooms ≡ false) → (27 < number) × (left ≡ found)
+  go change (adds o rooms lent out words s) low = let p = s .promised .stands-not (low rooms) in
+      let says = broken-says 28 (s .added .noted) (ap (λ (r : Added). r .changed) (p .0)) (s .spoke) in
+      (omega (arith, says .0), shelf-one left found (says .1) (p .1 .0) (p .1 .1))
+  go change (drops rooms words s notes) low = let p = s .promised .broken (low rooms) in let says = broken-says 29 0 (p .0) (s .spoke) in
+      (omega (arith, says .0), shelf-one left found (says .1) (p .1) notes)
+  go change (replaces rooms out yard field text words s notes) low = let p = s .promised .fallen (low rooms) in
+      let says = broken-says 28 0 (p .0) (s .spoke) in (omega (arith, says .0), shelf-one left found (says .1) (p .1) notes)
+  go change (clears rooms words s notes) low = let p = s .promised .broken (low rooms) in let says = broken-says 28 0 (p .0) (s .spoke) in
+      (omega (arith, says .0), shelf-one left found (says .1) (p .1) notes)

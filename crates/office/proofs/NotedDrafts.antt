@@ -1,16 +1,11 @@
 -- How the notes of a builder stay right from call to call: any will do behind begin, drop, replace and clear; an add leaves right ones, or changes nothing. Assumes nothing.
-use Prim.Native.Nat.{ℕ, _<_}
-use lib.ListN.{length}
-use mathlib.Core.{List.{List}, Logic.{_⊎_, inl, inr}, Path.{_≡_, refl, sym, ap, subst, _∙_}}
-use native.Mathlib.Omega.{arith}
-use Rattle.add.specs.{Adding.Adds.{Adds, spaceFor}, declared.adding.room.NoteRooms.{NoteRooms}}
+use Rattle.numbers.{proofs.Prelude.{ℕ, length, List, _⊎_, inl, inr, _≡_, sym, ap, subst, _∙_, arith}, specs.{Reply.{given, refused}, declared.refusal.Refusal.{Refusal}}}
+use Rattle.add.specs.{Adding.Adds.{Adds, spaceFor}, Growing.{Joins.{Renoted}, Notes.{Noted, NotedBy, Notes}}, declared.adding.room.NoteRooms.{NoteRooms}}
 use Rattle.builder.specs.Yards.{Yard}
-use Rattle.add.specs.Growing.{Joins.{Renoted}, Notes.{Noted, NotedBy, Notes}}
 use Rattle.draft.{proofs.held.Adds.{add-given}, specs.{Held.{Builder.{Builder, Offered, add, joined, summed}, State.{Answers, Holds, Lists}}, declared.held.room.Rooms.{Rooms}}}
 use Rattle.draft.specs.declared.held.state.{Changed.{Changed}, Held.{Held}}
-use Rattle.draft.specs.declared.held.state.Changed.the-variants as C
-use Rattle.numbers.specs.{Reply.{given, refused}, declared.refusal.Refusal.{Refusal}}
 use Rattle.office.specs.Draft.{Kept, Speaks, SpeaksNoted, heldOf, notedIn, wordsOf}
+use Rattle.draft.specs.declared.held.state.Changed.the-variants as C
 
 -- a builder in the words of a state and in its lists, with notes that are right: what the promise of an add asks for
 pub record Lasts (b : Builder) (state : List ℕ) (lists : Lists) (notes : Notes) : Type 0 where
@@ -65,7 +60,8 @@ module _ (b : Builder) (o : Offered) (rooms : Rooms) (lent : NoteRooms) (out : �
           is,
           record {
             holds = subst (λ (h : Held). Holds next h lists′) (sym back) holds;
-            noted = next-noted (heldOf state .names) (heldOf state′ .names) noted (notedIn state′) (joined (b .plan) o .yards) (next .plan .yards) names (noted-back held noted state′ words) (ap (λ (x : Builder). x .plan .yards) made) right;
+            noted = next-noted (heldOf state .names) (heldOf state′ .names) noted (notedIn state′) (joined (b .plan) o .yards) (next .plan .yards) names (noted-back held noted state′ words)
+                (ap (λ (x : Builder). x .plan .yards) made) right;
           },
         ),
       )

@@ -1,15 +1,13 @@
 -- Which numbers each call of a builder can be refused with. Assumes nothing.
-use Prim.Native.Nat.{ℕ, _≤_, _^_, min}
-use borrow.Author.Tests.{le-leb}
-use lib.{Dec.{ltb, leb, eqb}, IntN.{ℤ}, ListN.{length, take, drop}}
-use mathlib.Core.{Bool.{Bool, true, false, not, _&&_}, List.{List, [], _∷_, _++_}, Path.{_≡_, refl, sym, ap, subst, _∙_}}
-use Rattle.numbers.proofs.Tests.{both}
+use Rattle.numbers.proofs.Prelude.{ℕ, _^_, _≤_, min, le-leb, eqb, ltb, leb, ℤ, length, take, drop, Bool, true, false, _&&_, not, List, [], _∷_, _++_, _≡_, refl, sym, ap, subst, _∙_}
+use Rattle.numbers.{proofs.{Refusals.{Listed, either}, Replies.{NumberedReply, answers, refuses, then-reply, and-then, demands, number-of}, Tests.{both}}, specs.Answer.{if_then_else_}}
+use Rattle.numbers.specs.{Reply.{Reply, given, refused, refusal, plain, demand, _>>_}, declared.{point.RawPoint.{RawPoint}, refusal.Refusal.{Refusal}}}
 use Rattle.builder.specs.{Borders.{appended, withBorder}, File.{areTexts, headOf, isText, known, readable, upTo}, Yards.{Plan, Text}}
 use Rattle.header.specs.Header.{isKind}
-use Rattle.numbers.{proofs.{Refusals.{Listed, either}, Replies.{NumberedReply, answers, refuses, then-reply, and-then, demands, number-of}}, specs.{Answer.{if_then_else_}, Reply.{Reply, given, refused, refusal, plain, demand, _>>_}, declared.{point.RawPoint.{RawPoint}, refusal.Refusal.{Refusal}}}}
 use Rattle.writer.specs.{Moves.{movesOf, isMove}, Pieces.{goodPieces}, Writer.{every, sized, near, checks, plainBorder, packedBorder, borderOf}, declared.write.Piece.{Piece}}
-use Rattle.draft.proofs.held.Redrawn.{data-few}
-use Rattle.draft.specs.Held.{Builder.{Builder, Offered, holding, yardOf, fitting, begin, add, dropLast, replace, finish}, Sound.{Sound}, Space.{Space}, Totals.{dataOf, fileSize}}
+use Rattle.draft.{proofs.held.Redrawn.{data-few}, specs.Held.{Builder.{Builder, Offered, holding, yardOf, fitting, begin, add, dropLast, replace, finish}, Sound.{Sound}, Space.{Space}}}
+use Rattle.draft.specs.Held.Totals.{dataOf, fileSize}
+use Rattle.build.proofs.Numbered.{shaped, shape-alone}
 
 -- the numbers that document 02 gives to each
 abbrev pub beginNumbers : List ℕ
@@ -78,22 +76,11 @@ past : {A : Type 0} {P : ℕ → Type 0} (r : Reply (Unit {0})) (k : Reply A) �
 past (given u) k h next = next refl
 past (refused why) k (refuses h) next = refuses h
 
--- the checks that ask neither for a version nor for earlier data
-abbrev shaped : List ℤ → List ℤ → Reply (Unit {0})
-shaped lats lons =
-    demand (sized lats lons) (plain 19)
-    >> (demand (every near lats && every near lons) (plain 20) >> (demand (every isMove (drop 1 (movesOf lats lons))) (plain 21) >> demand (every isMove (take 1 (movesOf lats lons))) (plain 22)))
-
-shape-alone : (lats lons : List ℤ) → checks 0 lats lons [] ≡ shaped lats lons
-unfolding checks
-shape-alone lats lons = refl
-
 shape-known : (lats lons : List ℤ) → Known addNumbers (checks 0 lats lons [])
 shape-known lats lons =
-    subst (λ (r : Reply (Unit {0})). Known addNumbers r) (sym (shape-alone lats lons))
-    (and-then (demands (sized lats lons) (plain 19) refl)
-    (and-then (demands (every near lats && every near lons) (plain 20) refl)
-    (and-then (demands (every isMove (drop 1 (movesOf lats lons))) (plain 21) refl) (demands (every isMove (take 1 (movesOf lats lons))) (plain 22) refl))))
+    subst (λ (r : Reply (Unit {0})). Known addNumbers r) (sym (shape-alone lats lons)) (and-then (demands (sized lats lons) (plain 19) refl)
+    (and-then (demands (every near lats && every near lons) (plain 20) refl) (and-then (demands (every isMove (drop 1 (movesOf lats lons))) (plain 21) refl)
+    (demands (every isMove (take 1 (movesOf lats lons))) (plain 22) refl))))
 
 module _ (version : ℕ) (form : ltb version 2 ≡ true) (sofar : List ℕ) (few : length sofar ≤ 2 ^ 30) (lats lons : List ℤ) (good : checks 0 lats lons [] ≡ given tt) where
   checked-again : checks version lats lons sofar ≡ given tt
@@ -104,8 +91,7 @@ module _ (version : ℕ) (form : ltb version 2 ≡ true) (sofar : List ℕ) (few
 
   border-known : (pieces : List Piece) → Known addNumbers (borderOf version lats lons pieces sofar)
   unfolding borderOf plainBorder packedBorder
-  border-known pieces =
-      let moves : List RawPoint = movesOf lats lons in
+  border-known pieces = let moves : List RawPoint = movesOf lats lons in
       subst (λ (r : Reply (Unit {0})). Known addNumbers (r >> (if eqb version 0 then plainBorder moves pieces else packedBorder moves pieces sofar))) (sym checked-again)
       (either (λ (r : Reply (List ℕ)). Known addNumbers r) (eqb version 0) (and-then (demands (eqb (length pieces) 0) (plain 23) refl) answers)
       (and-then (demands (leb (length pieces) 16) (refusal 23 0 16) refl)
@@ -124,15 +110,11 @@ known-version plan form = both (ltb (plan .version) 2) (isKind (plan .kind)) (bo
 module _ (b : Builder) (sound : Sound (b .plan) (b .room)) (o : Offered) (space : Space) where
   add-known : Known addNumbers (add b o space)
   unfolding add withBorder
-  add-known =
-      let sofar : List ℕ = dataOf (b .plan) .bytes in
-      past (checks 0 (o .lats) (o .lons) []) _ (shape-known (o .lats) (o .lons)) (λ good.
-      and-then (demands (ltb (length (b .plan .yards)) 4096 && eqb (length (b .plan .names)) (length (o .lengths))) (plain 25) refl)
-      (and-then (demands (areTexts (o .lengths) (o .texts)) (plain 26) refl)
-      (and-then
-      (appended-known (upTo (min (b .room) (space .bytes))) sofar false (length (yardOf o .pieces))
-      (border-known (b .plan .version) (known-version (b .plan) (sound .form)) sofar (data-few (b .plan) (b .room) sound) (o .lats) (o .lons) good (yardOf o .pieces)))
-      (fitting-known addNumbers refl space _))))
+  add-known = let sofar : List ℕ = dataOf (b .plan) .bytes in
+      past (checks 0 (o .lats) (o .lons) []) _ (shape-known (o .lats) (o .lons)) (λ good. and-then (demands (ltb (length (b .plan .yards)) 4096 && eqb
+      (length (b .plan .names)) (length (o .lengths))) (plain 25) refl) (and-then (demands (areTexts (o .lengths) (o .texts)) (plain 26) refl)
+      (and-then (appended-known (upTo (min (b .room) (space .bytes))) sofar false (length (yardOf o .pieces)) (border-known (b .plan .version) (known-version
+      (b .plan) (sound .form)) sofar (data-few (b .plan) (b .room) sound) (o .lats) (o .lons) good (yardOf o .pieces))) (fitting-known addNumbers refl space _))))
 
   pub add-refusals : (why : Refusal) → add b o space ≡ refused why → Listed addNumbers (why .number)
   add-refusals why = number-of add-known

@@ -1,28 +1,18 @@
 -- What an exported call of a builder says, number and reply words: what the definition's reply has. So 0 is said for an answer alone, and each call has few other numbers. Assumes nothing.
-use Prim.Native.Nat.{ℕ}
-use lib.{Dec.{eqb}, ListN.{length}}
-use mathlib.Core.{Bool.{Bool, true, false, _||_}, List.{List, [], _∷_}, Logic.{_↔_, inl, inr}, Path.{_≡_, refl, sym, ap, subst, _∙_}}
-use Rattle.add.specs.{Adding.Adds.{Adds}, declared.adding.room.NoteRooms.{NoteRooms}}
-use Rattle.add.specs.Adding.Adds as Adding
+use Rattle.numbers.proofs.{Prelude.{ℕ, eqb, length, Bool, true, false, _||_, List, [], _∷_, inl, inr, _↔_, _≡_, refl, sym, ap, subst, _∙_}, Refusals.{Listed, oneOf}}
+use Rattle.numbers.{proofs.Saying.{Answered, never-zero, zero-said}, specs.{Reply.{Reply, given, refused, plain}, Spoken.{saidOf}, declared.{refusal.Refusal.{Refusal}, said.Said.{Said}}}}
+use Rattle.add.specs.{Adding.Adds.{Adds}, Growing.Notes.{Notes, NotedBy}, declared.{adding.room.NoteRooms.{NoteRooms}, growing.grow.Added.{Added}}}
 use Rattle.build.specs.{Whole.{toldBuilt}, declared.file.Built.{Built}}
-use Rattle.builder.specs.{File.{Replied, fitted}, Yards.{Text, Plan}}
-use Rattle.edit.specs.Changing.{Begun.{Begins}, Dropped.{Drops, leftSpace}, Emptied.{Clears}}
-use Rattle.builder.proofs.drawing.Lending.{never-given}
-use Rattle.add.specs.{Growing.Notes.{Notes, NotedBy}, declared.growing.grow.Added.{Added}}
-use Rattle.draft.specs.{Held.{Builder.{Builder, Offered, add, begin, clear, dropLast, finish, replace}, Space.{Space}, State.{Answers, Holds, Lists, heldAs}}, declared.held.room.Rooms.{Rooms}}
-use Rattle.draft.specs.declared.held.state.{Changed.{Changed}, Held.{Held}}
-use Rattle.draft.specs.declared.held.state.Changed.the-variants as C
-use Rattle.numbers.{proofs.Refusals.{Listed, oneOf}, specs.{Reply.{Reply, given, refused, plain}, declared.refusal.Refusal.{Refusal}}}
-use Rattle.edit.specs.Replacing.Replaced.{Replaces}
-use Rattle.edit.specs.Replacing.Replaced as Replacing
-use Rattle.draft.specs.Summed.Ends.{Finishes, spaceOf}
-use Rattle.uskelzar.proofs.Numbered.{Answered, never-zero, zero-said}
+use Rattle.builder.{proofs.drawing.Lending.{never-given}, specs.{File.{Replied, fitted}, Yards.{Text, Plan}}}
+use Rattle.edit.specs.{Changing.{Begun.{Begins}, Dropped.{Drops, leftSpace}, Emptied.{Clears}}, Replacing.Replaced.{Replaces}}
+use Rattle.draft.specs.{Held.{Builder.{Builder, Offered, add, begin, clear, dropLast, finish, replace}, Space.{Space}, State.{Answers, Holds, Lists, heldAs}}, Summed.Ends.{Finishes, spaceOf}}
+use Rattle.draft.specs.declared.held.{room.Rooms.{Rooms}, state.{Changed.{Changed}, Held.{Held}}}
 use Rattle.office.proofs.NumberedCalls.{addNumbers, add-refusals, beginNumbers, begin-refusals, dropNumbers, drop-refusals, finishNumbers, finish-refusals, replaceNumbers, replace-refusals}
 use Rattle.office.proofs.SameCalls.{Told, ToldNoted}
-use Rattle.office.specs.Draft.{Ends, Files, Speaks, SpeaksNoted, heldOf, notedIn, toldChanged, totalsValues}
-use Rattle.uskelzar.specs.Spoken.{saidOf}
-use Rattle.office.specs.Written.{lengthValue}
-use Rattle.uskelzar.specs.declared.Said.{Said}
+use Rattle.office.specs.{Draft.{Ends, Files, Speaks, SpeaksNoted, heldOf, notedIn, toldChanged, totalsValues}, Written.{lengthValue}}
+use Rattle.add.specs.Adding.Adds as Adding
+use Rattle.draft.specs.declared.held.state.Changed.the-variants as C
+use Rattle.edit.specs.Replacing.Replaced as Replacing
 
 -- ---- what is said of a reply
 -- a builder's totals, a file's length
@@ -35,17 +25,18 @@ fileValues file = length file ∷ []
 abbrev pub saying : ℕ → List ℕ → Said
 saying number words = record { number = number; words = words }
 
-few-said : {A : Type 0} (values : A → List ℕ) (numbers : List ℕ) (reply : Reply A) → ((why : Refusal) → reply ≡ refused why → Listed numbers (why .number)) → Listed (0 ∷ numbers) (saidOf values reply .number)
+few-said : {A : Type 0} (values : A → List ℕ) (numbers : List ℕ) (reply : Reply A) → ((why : Refusal) → reply ≡ refused why → Listed numbers (why .number)) →
+    Listed (0 ∷ numbers) (saidOf values reply .number)
 unfolding saidOf
 few-said values numbers (given a) known = refl
-few-said values numbers (refused why) known = go (eqb (why .number) 0) (known why refl)
-  where
-    go : (zero : Bool) → Listed numbers (why .number) → (zero || oneOf numbers (why .number)) ≡ true
-    go true h = refl
-    go false h = h
+few-said values numbers (refused why) known = go (eqb (why .number) 0) (known why refl) where
+  go : (zero : Bool) → Listed numbers (why .number) → (zero || oneOf numbers (why .number)) ≡ true
+  go true h = refl
+  go false h = h
 
 -- where the reply is refused with these numbers alone
-module _ {A : Type 0} (values : A → List ℕ) (numbers : List ℕ) (without : Listed numbers 0 → false ≡ true) (reply : Reply A) (known : (why : Refusal) → reply ≡ refused why → Listed numbers (why .number)) where
+module _ {A : Type 0} (values : A → List ℕ) (numbers : List ℕ) (without : Listed numbers 0 → false ≡ true) (reply : Reply A) (known : (why : Refusal) → reply ≡ refused why →
+    Listed numbers (why .number)) where
   zero-of : {number : ℕ} {words : List ℕ} → saying number words ≡ saidOf values reply → (number ≡ 0) ↔ Answered reply
   zero-of said =
       subst (λ (x : Said). (x .number ≡ 0) ↔ Answered reply) (sym said) (zero-said values reply (λ why is. never-zero numbers without (why .number) (known why is)))
@@ -59,9 +50,11 @@ unfolding Answers toldChanged saidOf
 answers-say reply before after (C.Into held) (b, (is, (holds, rooms))) = ap (λ (h : Held). saidOf totalsValues (given h)) (holds .is) ∙ sym (ap (λ (r : Reply Builder). saidOf builderValues r) is)
 answers-say reply before after (C.Refused why) (is, same) = sym (ap (λ (r : Reply Builder). saidOf builderValues r) is)
 
-begins-say : (plan : Plan) (room : ℕ) (space : Space) (before after : Lists) (changed : Changed) → Begins plan room space before after changed → saidOf totalsValues (toldChanged changed) ≡ saidOf builderValues (begin plan room space)
+begins-say : (plan : Plan) (room : ℕ) (space : Space) (before after : Lists) (changed : Changed) → Begins plan room space before after changed →
+    saidOf totalsValues (toldChanged changed) ≡ saidOf builderValues (begin plan room space)
 unfolding Begins toldChanged saidOf
-begins-say plan room space before after (C.Into held) (b, (is, (holds, rooms))) = ap (λ (h : Held). saidOf totalsValues (given h)) (holds .is) ∙ sym (ap (λ (r : Reply Builder). saidOf builderValues r) is)
+begins-say plan room space before after (C.Into held) (b, (is, (holds, rooms))) =
+    ap (λ (h : Held). saidOf totalsValues (given h)) (holds .is) ∙ sym (ap (λ (r : Reply Builder). saidOf builderValues r) is)
 begins-say plan room space before after (C.Refused why) (is, same) = sym (ap (λ (r : Reply Builder). saidOf builderValues r) is)
 
 -- ---- `uskelzar_begin`
@@ -77,7 +70,8 @@ module _ (plan : Plan) (room : ℕ) (space : Space) (before after : Lists) {zero
 
 -- ---- the calls that take a state
 -- numbers that do not fit the lists are refused so
-broken-few : (numbers : List ℕ) (n : ℕ) → Listed (0 ∷ numbers) n → {changed : Changed} {number : ℕ} {words : List ℕ} → changed ≡ C.Refused (plain n) → saying number words ≡ saidOf totalsValues (toldChanged changed) → Listed (0 ∷ numbers) number
+broken-few : (numbers : List ℕ) (n : ℕ) → Listed (0 ∷ numbers) n → {changed : Changed} {number : ℕ} {words : List ℕ} → changed ≡ C.Refused (plain n) →
+    saying number words ≡ saidOf totalsValues (toldChanged changed) → Listed (0 ∷ numbers) number
 unfolding toldChanged saidOf
 broken-few numbers n listed is said =
     subst (λ (x : Said). Listed (0 ∷ numbers) (x .number)) (sym (said ∙ ap (λ (r : Changed). saidOf totalsValues (toldChanged r)) is)) listed
@@ -99,7 +93,8 @@ module _ (held : List ℕ) (o : Offered) (rooms : Rooms) (lent : NoteRooms) (out
   add-zero b holds right = zero-of builderValues addNumbers (λ z. z) (added b) (add-refusals b (holds .sound) o (Adding.spaceFor (heldOf held) rooms lent o out)) (add-said b holds right)
 
   pub add-numbers : ToldNoted (heldOf held) (notedIn held) rooms before notes → Listed (0 ∷ addNumbers) number
-  add-numbers (inl (b, (holds, right))) = few-of builderValues addNumbers (λ z. z) (added b) (add-refusals b (holds .sound) o (Adding.spaceFor (heldOf held) rooms lent o out)) (add-said b holds right)
+  add-numbers (inl (b, (holds, right))) =
+      few-of builderValues addNumbers (λ z. z) (added b) (add-refusals b (holds .sound) o (Adding.spaceFor (heldOf held) rooms lent o out)) (add-said b holds right)
   add-numbers (inr broken) = broken-few addNumbers 28 refl (ap (λ (r : Added). r .changed) (s .promised .stands-not broken .0)) (s .spoke .said)
 
 -- `uskelzar_drop_last`
@@ -118,7 +113,8 @@ module _ (held : List ℕ) (rooms : Rooms) (before after : Lists) {state words :
   drop-numbers (inr broken) = broken-few dropNumbers 29 refl (s .promised .broken broken .0) (s .spoke .said)
 
 -- `uskelzar_replace`
-module _ (held : List ℕ) (rooms : Rooms) (out yard field : ℕ) (text : Text) (before after : Lists) {state words : List ℕ} {number : ℕ} (s : Speaks (λ h. Replaces h rooms out yard field text before after) held state number words) where
+module _ (held : List ℕ) (rooms : Rooms) (out yard field : ℕ) (text : Text) (before after : Lists) {state words : List ℕ} {number : ℕ}
+    (s : Speaks (λ h. Replaces h rooms out yard field text before after) held state number words) where
   abbrev room : Builder → Space
   room b = Replacing.spaceFor rooms out (b .plan) yard field text
 
@@ -144,11 +140,10 @@ module _ (held : List ℕ) (rooms : Rooms) (before after : Lists) {state words :
 -- ---- `uskelzar_finish`
 finishes-say : (reply : Reply (List ℕ)) (room : ℕ) (out : List ℕ) (built : Built) → Finishes reply room out built → saidOf lengthValue (toldBuilt built) ≡ saidOf fileValues reply
 unfolding Finishes fitted saidOf
-finishes-say reply room out built f = ap (λ (x : Replied). saidOf lengthValue (x .reply)) f ∙ go reply
-  where
-    go : (r : Reply (List ℕ)) → saidOf lengthValue (fitted room r .reply) ≡ saidOf fileValues r
-    go (given file) = refl
-    go (refused why) = refl
+finishes-say reply room out built f = ap (λ (x : Replied). saidOf lengthValue (x .reply)) f ∙ go reply where
+  go : (r : Reply (List ℕ)) → saidOf lengthValue (fitted room r .reply) ≡ saidOf fileValues r
+  go (given file) = refl
+  go (refused why) = refl
 
 module _ (held : List ℕ) (rooms : Rooms) (lists : Lists) (room : ℕ) (out : List ℕ) {words : List ℕ} {number : ℕ} (e : Ends (λ h. Files h rooms lists room out) held number words) where
   abbrev lent : Space

@@ -1,18 +1,12 @@
 -- A builder that is begun, and a drop from it that is refused: calls of which the theorems in Made speak. Assumes nothing.
-use Prim.Native.Nat.{_-_}
-use borrow.Author.Tests.{le-ltb}
-use lib.ListN.{length, take}
-use mathlib.Core.{Bool.{true}, List.{[], _∷_}, Path.{_≡_, refl}}
-use native.Mathlib.Omega.{arith}
+use Rattle.numbers.{proofs.Prelude.{_-_, le-ltb, length, take, true, [], _∷_, _≡_, refl, arith}, specs.{Lists.{padded}, Reply.{refused, plain}, Spoken.{saidOf}}}
 use Rattle.edit.specs.Changing.{Begun.{Begins}, Dropped.{leftSpace}}
 use Rattle.add.specs.Growing.Notes.{Notes}
-use Rattle.draft.proofs.held.{Standing.{held-yards}, WorkedBuilder.{begins}}
-use Rattle.draft.specs.{Held.{Builder.{Builder, dropLast, summed}, Space.{Space}, State.{Answers, Holds, heldAs}, Totals.{totalsFor, totalsOf}}, declared.held.room.Rooms.{Rooms}}
-use Rattle.draft.specs.declared.held.state.Changed.the-variants as C
-use Rattle.numbers.specs.{Lists.{padded}, Reply.{refused, plain}}
+use Rattle.draft.{proofs.held.{Standing.{held-yards}, WorkedBuilder.{begins}}, specs.Held.{Builder.{Builder, dropLast, summed}, Space.{Space}, State.{Answers, Holds, heldAs}}}
+use Rattle.draft.specs.{Held.Totals.{totalsFor, totalsOf}, declared.held.room.Rooms.{Rooms}}
 use Rattle.office.proofs.WorkedDraft.{begun, begun-back, begun-holds, lists, plan}
 use Rattle.office.specs.{Calls.{Called, Made, Shelf, drops}, Draft.{Kept, heldOf, toldChanged, totalsValues, wordsOf}}
-use Rattle.uskelzar.specs.Spoken.{saidOf}
+use Rattle.draft.specs.declared.held.state.Changed.the-variants as C
 use Rattle.office.specs.Calls as K
 
 -- what is kept of it

@@ -1,13 +1,10 @@
 -- A builder as it is begun, in lists and in words: a state that what is said of one that holds a builder speaks of. Assumes nothing.
-use lib.IntN.{pos}
-use mathlib.Core.{Bool.{true}, List.{[], _∷_, flatMap}, Logic.{inl}, Path.{_≡_, refl, sym, subst}}
-use mir.{Syntax.{w32}, Val.{SFits}}
-use native.Mathlib.Omega.{arith}
+use Rattle.numbers.proofs.Prelude.{pos, true, [], _∷_, flatMap, inl, _≡_, refl, sym, subst, w32, SFits, arith}
 use Rattle.builder.specs.Yards.{Plan}
 use Rattle.edit.proofs.changing.Nothing.{none-lies, none-totals}
 use Rattle.add.specs.Growing.Notes.{Notes}
-use Rattle.draft.proofs.held.{Fronts.{front-made}, Keeps.{begun-sound}, WorkedBuilder.{begins}}
-use Rattle.draft.specs.{Held.{Builder.{Builder, summed}, State.{Holds, Lists, heldAs, listsAs}, Totals.{Totals}}, declared.held.{room.Rooms.{Rooms}, state.Held.{Held}}}
+use Rattle.draft.{proofs.held.{Fronts.{front-made}, Keeps.{begun-sound}, WorkedBuilder.{begins}}, specs.Held.{Builder.{Builder, summed}, State.{Holds, Lists, heldAs, listsAs}, Totals.{Totals}}}
+use Rattle.draft.specs.declared.held.{room.Rooms.{Rooms}, state.Held.{Held}}
 use Rattle.office.proofs.{Drafts.{words-back}, NotedDrafts.{Lasts, kept-lasts}, SameCalls.{Told, ToldNoted}}
 use Rattle.office.specs.Draft.{Kept, heldOf, notedIn, wordsOf}
 
@@ -29,15 +26,15 @@ begun-holds =
       is = refl;
       sound = begun-sound plan 64 (record { bytes = 64; lists = true }) begun begins;
       fresh = refl;
-      lies = none-lies plan lists (front-made (pos 0) [] [] 0 refl) (front-made 0 [] [] 0 refl) (front-made 0 (0 ∷ []) (0 ∷ []) 0 refl) (front-made 0 [] [] 0 refl) (front-made 0 (0 ∷ []) (0 ∷ []) 0 refl);
+      lies = none-lies plan lists (front-made (pos 0) [] [] 0 refl) (front-made 0 [] [] 0 refl) (front-made 0 (0 ∷ []) (0 ∷ []) 0 refl) (front-made 0 [] [] 0 refl)
+          (front-made 0 (0 ∷ []) (0 ∷ []) 0 refl);
     }
 
 -- and its words are read back
 pub begun-back : heldOf (wordsOf (heldAs begun) 0) ≡ heldAs begun
 unfolding summed
 begun-back =
-    words-back (heldAs begun) 0 (omega arith) (omega arith) (omega arith) (omega arith)
-    (subst (λ (t : Totals). SFits w32 (t .greatest)) (sym (none-totals plan)) (record { sfits = omega arith }))
+    words-back (heldAs begun) 0 (omega arith) (omega arith) (omega arith) (omega arith) (subst (λ (t : Totals). SFits w32 (t .greatest)) (sym (none-totals plan)) (record { sfits = omega arith }))
 
 pub begun-told : (rooms : Rooms) → Told (heldOf (wordsOf (heldAs begun) 0)) rooms lists
 begun-told rooms = inl (begun, subst (λ (held : Held). Holds begun held lists) (sym begun-back) begun-holds)

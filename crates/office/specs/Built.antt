@@ -1,9 +1,7 @@
 -- How the reply of a build goes over to C.
-use mathlib.Core.List.{[], _∷_}
-use Prim.Native.Nat.{ℕ}
+use Rattle.numbers.specs.{Prelude.{ℕ, [], _∷_}, Spoken.{Spoken, saidOf}}
 use Rattle.build.specs.{Room.{roomOf}, declared.room.Work.{Work}}
 use Rattle.builder.specs.{File.{Replied, builtOf, fitted}, Yards.{Lent, planOf}}
-use Rattle.uskelzar.specs.Spoken.{Spoken, saidOf}
 use Rattle.office.specs.Written.{lengthValue}
 
 -- of what is lent, in working lists of these lengths, and so much room for the file and its data

@@ -1,15 +1,9 @@
 -- What exported calls make of a builder, one after another: of each call nothing is used but what its exported function promises.
-use Prim.Native.Nat.{ℕ, _-_}
-use lib.{Dec.{eqb}, ListN.{getD, length, take}}
-use mathlib.Core.{List.{List, [], _∷_, _++_}, Path.{_≡_}}
-use mir.{Syntax.{w32}, Val.{ofZ}}
-use Rattle.add.specs.{Adding.Adds.{Adds}, declared.adding.room.NoteRooms.{NoteRooms}}
+use Rattle.numbers.specs.{Answer.{if_then_else_}, Lists.{zeros}, Prelude.{ℕ, _-_, eqb, length, take, getD, List, [], _∷_, _++_, _≡_, w32, ofZ}}
+use Rattle.add.specs.{Adding.Adds.{Adds}, Growing.Notes.{MoreNotes, Notes, widerNotes}, declared.adding.room.NoteRooms.{NoteRooms}}
 use Rattle.builder.specs.Yards.{Plan, Text, Yard}
-use Rattle.edit.specs.Changing.{Begun.{Begins}, Dropped.{Drops}, Emptied.{Clears}}
-use Rattle.add.specs.Growing.Notes.{MoreNotes, Notes, widerNotes}
+use Rattle.edit.specs.{Changing.{Begun.{Begins}, Dropped.{Drops}, Emptied.{Clears}}, Replacing.Replaced.{Replaces}}
 use Rattle.draft.specs.{Held.{Builder.{Offered, changedAt, withValue, yardOf}, Space.{Space}, State.{Lists, More, wider}, Totals.{Totals}}, declared.held.room.Rooms.{Rooms}}
-use Rattle.numbers.specs.{Answer.{if_then_else_}, Lists.{zeros}}
-use Rattle.edit.specs.Replacing.Replaced.{Replaces}
 use Rattle.office.specs.Draft.{Speaks, SpeaksNoted}
 
 -- what a caller keeps of a builder between two calls: its words, its lists, its notes

@@ -1,18 +1,13 @@
 -- How a builder's numbers, and what its calls reply, go over to C.
-use Prim.Native.Nat.{ℕ, _%_, _^_}
-use lib.ListN.{getD}
-use mathlib.Core.{Bool.{false}, List.{List, [], _∷_}, Path.{_≡_}}
-use mir.{Syntax.{w32}, Val.{ofZ}}
+use Rattle.numbers.specs.Prelude.{ℕ, _%_, _^_, getD, false, List, [], _∷_, _≡_, w32, ofZ}
+use Rattle.numbers.specs.{Lists.{zeros}, Point.{readI32}, Reply.{Reply, given, refused, plain}, Spoken.{saidOf}, declared.refusal.Refusal.{Refusal}}
 use Rattle.build.specs.{Whole.{toldBuilt}, declared.file.Built.{Built}}
 use Rattle.add.specs.declared.growing.grow.Added.{Added}
-use Rattle.draft.specs.{Held.{Builder.{Builder, finish}, Space.{standing}, State.{Holds, Lists}}, declared.held.{room.Rooms.{Rooms}, state.{Held.{Held}, Changed.{Changed}}}}
+use Rattle.draft.specs.{Held.{Builder.{Builder, finish}, Space.{standing}, State.{Holds, Lists}}, Summed.Ends.{Finishes, spaceOf}, declared.held.{room.Rooms.{Rooms}, state.Changed.{Changed}}}
+use Rattle.draft.specs.declared.held.state.Held.{Held}
+use Rattle.office.specs.Written.{lengthValue}
 use Rattle.draft.specs.declared.held.state.Changed.the-variants as C
 use Rattle.build.specs.declared.file.Built.the-variants as W
-use Rattle.numbers.specs.{Lists.{zeros}, Point.{readI32}, Reply.{Reply, given, refused, plain}, declared.refusal.Refusal.{Refusal}}
-use Rattle.draft.specs.Summed.Ends.{Finishes, spaceOf}
-use Rattle.uskelzar.specs.Spoken.{saidOf}
-use Rattle.office.specs.Written.{lengthValue}
-use Rattle.uskelzar.specs.declared.Said.{Said}
 
 -- of fourteen words thirteen, one for each number of a builder; of the first four and the thirteenth only the low bits count
 unfoldable pub heldOf : List ℕ → Held

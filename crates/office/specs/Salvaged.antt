@@ -1,8 +1,6 @@
 -- How the reply of salvage goes over to C.
-use Prim.Native.Nat.{ℕ}
-use mathlib.Core.List.{List, [], _∷_}
+use Rattle.numbers.specs.{Prelude.{ℕ, List, [], _∷_}, Spoken.{saidOf, Spoken}}
 use Rattle.salvage.specs.Salvage.{Counts, Replied}
-use Rattle.uskelzar.specs.Spoken.{saidOf, Spoken}
 
 -- the new file's length, the list's lines, the entries kept
 abbrev pub countsValues : Counts → List ℕ

@@ -1,9 +1,7 @@
--- How a border, an index and the words "it is so" go over to C.
-use mathlib.Core.List.{List, [], _∷_}
-use Prim.Native.Nat.{ℕ}
-use Rattle.writer.specs.Writer as W
+-- How a border and an index go over to C.
+use Rattle.numbers.specs.{Prelude.{ℕ, List, [], _∷_}, Spoken.{Spoken, saidOf}}
 use Rattle.index.specs.Index.{Indexed}
-use Rattle.uskelzar.specs.Spoken.{Spoken, saidOf}
+use Rattle.writer.specs.Writer as W
 
 -- how long what was written is
 abbrev pub lengthValue : ℕ → List ℕ
@@ -13,9 +11,6 @@ lengthValue length = length ∷ []
 abbrev pub writtenSpoken : W.Replied → Spoken
 writtenSpoken left = record { said = saidOf lengthValue (left .reply); lent = left .out ∷ [] }
 
--- how many words an index has, with all lent words; and that it goes with a file, which has no value
+-- how many words an index has, with all lent words
 abbrev pub indexSpoken : Indexed → Spoken
 indexSpoken left = record { said = saidOf lengthValue (left .reply); lent = left .words ∷ [] }
-
-abbrev pub noValues : Unit {0} → List ℕ
-noValues u = []

@@ -2,12 +2,12 @@
 ghost use mathlib.Core.{Path.{_≡_}, List.{[], _∷_}};
 ghost use lib.ListN.{length};
 ghost use Rattle.writer.specs.{Pieces.{piecesOf}, Writer.{borderOf, fitted, told}};
-ghost use Rattle.uskelzar.specs.Spoken.{saidOf, spoken};
+ghost use Rattle.numbers.specs.Spoken.{saidOf, spoken};
 ghost use Rattle.office.specs.Written.{lengthValue, writtenSpoken};
 use numbers::refusal::refuse;
-use uskelzar::Said;
-use uskelzar::say_refused;
-use uskelzar::speak;
+use numbers::said::Said;
+use numbers::said::say_refused;
+use numbers::said::speak;
 use writer::write::Written;
 use writer::write::write_border_words;
 

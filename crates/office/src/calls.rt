@@ -10,7 +10,7 @@ ghost use Rattle.add.specs.Joining.Joins.{Rests};
 ghost use Rattle.numbers.specs.Lists.{zeros};
 ghost use Rattle.add.specs.Offered.Offers.{offeredAs};
 ghost use Rattle.edit.specs.Replacing.Replaced.{Replaces};
-ghost use Rattle.uskelzar.specs.Spoken.{saidOf};
+ghost use Rattle.numbers.specs.Spoken.{saidOf};
 ghost use Rattle.office.specs.Draft.{heldOf, notedIn, wordsOf, totalsValues, toldChanged, Kept, Spoke, Speaks, SpeaksNoted, Files, Ends};
 use crate::yards::say_built;
 use add::adding::add::add;
@@ -24,9 +24,9 @@ use edit::changing::drop::drop_last;
 use edit::replacing::replace::replace;
 use numbers::point::bits_of;
 use numbers::point::signed;
-use uskelzar::Said;
-use uskelzar::say_refused;
-use uskelzar::speak;
+use numbers::said::Said;
+use numbers::said::say_refused;
+use numbers::said::speak;
 
 // A builder's numbers from their words, all but the last, which tells of its notes. Any words are a builder: what its lists cannot hold is refused by each call.
 fn state_of(words: [u64; 14]) -> Held

@@ -3,13 +3,13 @@ ghost use mathlib.Core.{Path.{_≡_}, List.{[], _∷_}};
 ghost use lib.ListN.{length};
 ghost use Rattle.salvage.specs.inner.Rescue.Told.{toldRescued};
 ghost use Rattle.salvage.specs.Salvage.{salvaged};
-ghost use Rattle.uskelzar.specs.Spoken.{saidOf, spoken};
+ghost use Rattle.numbers.specs.Spoken.{saidOf, spoken};
 ghost use Rattle.office.specs.Salvaged.{countsValues, salvageSpoken};
+use numbers::said::Said;
+use numbers::said::say_refused;
+use numbers::said::speak;
 use salvage::rescue::reply::Rescued;
 use salvage::rescue::reply::salvage;
-use uskelzar::Said;
-use uskelzar::say_refused;
-use uskelzar::speak;
 
 fn say_rescued(rescued: Rescued) -> Said
     ensures { λ r. ⌜ r ≡ saidOf countsValues (toldRescued rescued) ⌝ }

@@ -2,15 +2,15 @@
 ghost use mathlib.Core.{Path.{_≡_}, List.{[], _∷_}};
 ghost use lib.ListN.{length};
 ghost use Rattle.build.specs.{Checked.{lentAs}, Room.{workOf}, Whole.{toldBuilt, Cleared}};
-ghost use Rattle.uskelzar.specs.Spoken.{spoken, saidOf};
+ghost use Rattle.numbers.specs.Spoken.{spoken, saidOf};
 ghost use Rattle.office.specs.Written.{lengthValue};
 ghost use Rattle.office.specs.Built.{builtFor, builtSpoken};
 use build::asked::Asked;
 use build::file::Built;
 use build::file::build;
-use uskelzar::Said;
-use uskelzar::say_refused;
-use uskelzar::speak;
+use numbers::said::Said;
+use numbers::said::say_refused;
+use numbers::said::speak;
 
 pub(crate) fn say_built(built: Built) -> Said
     ensures { λ r. ⌜ r ≡ saidOf lengthValue (toldBuilt built) ⌝ }

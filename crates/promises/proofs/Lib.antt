@@ -2,3 +2,4 @@ pub mod AtlasNumbers
 pub mod Built
 pub mod Salvaged
 pub mod Page
+pub mod WorkedSlip

@@ -17,7 +17,7 @@ use Rattle.header.specs.{Header.{headBy, headOf}, declared.header.Head.{Head}}
 use Rattle.index.specs.{Index.{indexed, indexedOf, toldBuilt}, Own.{isIndexOf}, Through.{lookedIndexed}, Tied.{toldTied}, declared.{build.Built.{Built}, tied.Tied.{Tied}}}
 use Rattle.localtime.specs.{Found.{foundOf}, Local.{rulesIn, localTime}}
 use Rattle.localtime.specs.declared.rule.Rules.the-variants as R
-use Rattle.numbers.specs.{Lists.{zeros}, Reply.{given, refused}, declared.refusal.Refusal.{Refusal}}
+use Rattle.numbers.specs.{Lists.{zeros}, Reply.{given, refused}, Spoken.{spoken}, declared.refusal.Refusal.{Refusal}}
 use Rattle.promises.specs.Built.Finds.{FindsInto}
 use Rattle.request.specs.{Clock.{Date, Time, utc}, Nearest.{Nearest}, Only.{OnlyAt}, Request.{Spelt, requestOf, speltOf}, Text.{lineOf}, declared.read.Fix.{Fix}}
 use Rattle.request.specs.Told as Q
@@ -32,7 +32,7 @@ use Rattle.tzif.specs.Last.{Octets, transitionTime, LastNotAfter}
 use Rattle.tzif.specs.Reply as T
 use Rattle.tzrule.specs.{Ask.{corrected, inYears, clockAt}, Summer.{isSummer, IsSummer, IsRule}, declared.rule.{Rule.{Rule}, Tz.{Tz}}}
 use Rattle.office.specs.Calls.{Shelf, Called, Made, TotalsIn}
-use Rattle.uskelzar.specs.{Slips.{Printed, slipSpoken}, Spoken.{zonesValues, spoken, foundSpoken}}
+use Rattle.uskelzar.specs.{Slips.{Printed, slipSpoken}, Spoken.{zonesValues, foundSpoken}}
 use Rattle.verdict.specs.{Stretch.{Stretch}, Verdict.{after, judge, judgedAt}, declared.step.Tally.{Tally}}
 use Rattle.writer.specs.WrittenAt.{WrittenAt}
 use Rattle.zones.specs.{Lookup.{lookedUp, toldLooked}, Simple.{simplyLooked}, Unstopped.{lookedThroughAll}, declared.lookup.{Looked.{Looked}, Zones.{Zones}}}
@@ -134,7 +134,8 @@ pub atlas-safe : (file words : List ℕ) (location : Location) (asked : Bool) (n
 atlas-safe = theorems.atlas-safe
 
 -- So is what `build_atlas` and `is_atlas` answer and leave.
-pub same-atlas : (file words : List ℕ) (n : ℕ) → ((r r′ : Built) (ws ws′ : List ℕ) → indexed (toldBuilt r) ws ≡ atlasMade file n → indexed (toldBuilt r′) ws′ ≡ atlasMade file n → (r ≡ r′) × (ws ≡ ws′))
+pub same-atlas : (file words : List ℕ) (n : ℕ)
+    → ((r r′ : Built) (ws ws′ : List ℕ) → indexed (toldBuilt r) ws ≡ atlasMade file n → indexed (toldBuilt r′) ws′ ≡ atlasMade file n → (r ≡ r′) × (ws ≡ ws′))
     × ((r r′ : Tied) → toldTied r ≡ isAtlasOf file words → toldTied r′ ≡ isAtlasOf file words → r ≡ r′)
 same-atlas file words n = (theorems.same-atlas-built file n, theorems.same-atlas-held file words)
 

@@ -1,4 +1,7 @@
-// What a record of a case holds: numbers, lists and replies.
+// Records of cases: how they are read, what they hold, and what is said of them.
+pub mod input;
 pub mod lists;
 pub mod record;
 pub mod reply;
+pub mod tally;
+pub mod verdict;

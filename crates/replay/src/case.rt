@@ -11,20 +11,18 @@ use crate::slips::judge_request;
 use crate::slips::judge_slip;
 use crate::slips::judge_slip_at;
 use crate::write::run_write;
-use crate::wrong::Verdict;
-use crate::wrong::print_wrong;
 use crate::yards::Asked;
 use crate::yards::run_build;
 use crate::yards::texts_at;
-use libc::STDOUT_FILENO;
-use rebuild::whole::draft_right;
 use recorded::record::byte_at;
-use recorded::record::long_at;
 use recorded::record::same_words;
 use recorded::record::size_at;
 use recorded::reply::Reply;
 use recorded::reply::recorded;
 use recorded::reply::same_reply;
+use recorded::verdict::Verdict;
+use recorded::verdict::judged;
+use recorded::verdict::print_wrong;
 
 fn filled_slots() -> [u32; 4096]
     ensures { λ r. ⌜ 4096 ≡ length r ⌝ }
@@ -244,19 +242,6 @@ fn judge_many(record: &[u8]) -> Verdict {
     )
 }
 
-// Of a record whose parts are looked at elsewhere.
-fn judged(right: bool, record: &[u8]) -> Verdict {
-    if right {
-        return Verdict::Right;
-    }
-    io::write_all(STDOUT_FILENO, b"wrong: op ");
-    io::print_decimal(STDOUT_FILENO, byte_at(record, 0) as u64);
-    io::write_all(STDOUT_FILENO, b" id ");
-    io::print_decimal(STDOUT_FILENO, long_at(record, 1));
-    io::write_all(STDOUT_FILENO, b"\n");
-    Verdict::Wrong
-}
-
 // A record of salvage: 17 bytes of sizes, the file, the reply's 34 bytes, the list, the output.
 fn run_salvaged(record: &[u8], reply: usize, list: &mut [u32], out: &mut [u8]) -> Verdict
     requires { ⌜ (17 ≤ reply) × (reply + 34 + 4 * length (now list) + length (now out) ≡ length (now «record»)) ⌝ }
@@ -367,7 +352,6 @@ fn judge_build(record: &[u8]) -> Verdict {
 pub fn judge(record: &[u8]) -> Verdict {
     match byte_at(record, 0) {
         13 | 18 => judged(index_right(record), record),
-        11 => judged(draft_right(record), record),
         1 | 2 | 3 | 5 | 6 | 7 | 8 | 14 | 15 | 16 | 20 | 21 => judge_file(record),
         4 => judge_write(record),
         9 | 17 => judge_many(record),

@@ -7,9 +7,6 @@ use crate::calls::in_four;
 use crate::calls::leave_out;
 use numbers::float::bits::of_bits;
 use office::tiles::uskelzar_build_index;
-use office::tiles::uskelzar_index_tied;
-use office::tiles::uskelzar_lookup_indexed;
-use office::tiles::uskelzar_lookup_through;
 use recorded::record::byte_at;
 use recorded::record::long_at;
 use recorded::record::same_bytes_at;
@@ -24,6 +21,9 @@ use recorded::reply::spoken;
 use recorded::reply::unspoken;
 use std::num::wrapping_add_u64;
 use std::num::wrapping_add_usize;
+use uskelzar::tiles::uskelzar_index_tied;
+use uskelzar::tiles::uskelzar_lookup_indexed;
+use uskelzar::tiles::uskelzar_lookup_through;
 
 // So many words' and so many fixes' bytes.
 fn times_4(count: usize) -> usize {

@@ -1,15 +1,13 @@
 -- `nearestTo` gives the f32 nearest to a fraction, ties to even (`nearest-to`). Assumes nothing.
-use mathlib.Core.{Path.{_≡_, refl, sym, ap, _∙_, subst}, Logic.{_⊎_, inl, inr}, Bool.{Bool, true, false, Bool·beq}}
-use Prim.Native.Nat.{ℕ, zero, suc, _+_, _-_, _*_, _/_, _%_, _^_, _≤_, _<_, compare, Ordering, Ordering·lt, Ordering·eq, Ordering·gt}
-use native.Mathlib.Nat.{le-trans, le-of-eq, lt-of-lt-of-le, lt-of-le-of-lt, le-of-lt, eq-or-lt-of-le, mul-assoc, mul-comm, mul-right-comm, mul-one, one-mul, add-mul, mul-le-mul-right}
-use native.Mathlib.Nat.{mul-lt-mul-of-pos-right, mul-pos, mod-lt, div-add-mod', div-div-eq-div-mul, div-lt-iff-lt-mul, mul-div-cancel, div-one, zero-mul}
-use native.Mathlib.Omega.{arith}
-use borrow.Author.Tests.{eqb-true}
-use lib.{Dec.{T, eqb}, IntN.{pos}, Pow.{pow-add, pow-pos, pow-mono, shl-lt}}
-use lib.Ieee.{Float, nan, inf, fin, odd, Scale.{finite}, binary32, size, nearest, units, round, fits, Digits.{size-le, back}, Fits.{round-is, round-fits, nearest-le, kept-lt}}
-use lib.Ieee.{Nearest.{closest, nearest-ge}, Exact.{HasValue, units-val}}
-use Rattle.numbers.proofs.float.{Rounding.{Cmp, order-is, size-is, no-overflow, reaches-size, kept-least}, Squares.{le-or-lt}, Smallest.{value-units, shape}}
-use Rattle.numbers.specs.{Answer.{if_then_else_}, Float.Root.{unitsOf}}
+use Rattle.numbers.proofs.Prelude.{ℕ, suc, _+_, _-_, _*_, _/_, _%_, _^_, _≤_, _<_, eqb-true, eqb, T, Float, binary32, fin, nan, inf, pos, pow-pos, pow-mono, pow-add, Bool, true, false, _⊎_, inl, inr}
+use Rattle.numbers.proofs.Prelude.{_≡_, refl, sym, ap, subst, _∙_, le-trans, le-of-lt, le-of-eq, lt-of-lt-of-le, mul-comm, mul-assoc, mul-one, one-mul, zero-mul, add-mul, mul-pos, mul-le-mul-right}
+use Rattle.numbers.proofs.Prelude.{mod-lt, div-lt-iff-lt-mul, arith}
+use Rattle.numbers.{proofs.float.{Rounding.{order-is, size-is, no-overflow, kept-least}, Smallest.{value-units, shape}, Squares.{le-or-lt}}, specs.{Answer.{if_then_else_}, Float.Root.{unitsOf}}}
+use mathlib.Core.Bool.{Bool·beq}
+use Prim.Native.Nat.{compare, Ordering·lt, Ordering·eq, Ordering·gt}
+use native.Mathlib.Nat.{eq-or-lt-of-le, mul-right-comm, mul-lt-mul-of-pos-right, div-add-mod', div-div-eq-div-mul, mul-div-cancel, div-one}
+use lib.Ieee.{odd, size, nearest, units, round, fits, Digits.{size-le, back}, Exact.{HasValue, units-val}, Fits.{round-is, round-fits, nearest-le, kept-lt}, Nearest.{closest, nearest-ge}}
+use lib.{Ieee.Scale.{finite}, Pow.{shl-lt}}
 use Rattle.request.specs.{Nearest.{gap, isNegative, away, Nearest}, Number.{Fraction, nearestTo}}
 
 -- ---- whole numbers: w * u + r is n, and multiples of u around it
@@ -66,11 +64,7 @@ cancel a b d D e =
 
 -- the three ways that twice a remainder stands to the divisor
 order : (a b : ℕ) → (a < b) ⊎ ((a ≡ b) ⊎ (b < a))
-order a b =
-    elim (le-or-lt b a) [
-      | inl h ↦ elim (eq-or-lt-of-le h) [ inl e ↦ inr (inl (sym e)) | inr l ↦ inr (inr l) ]
-      | inr h ↦ inl h
-    ]
+order a b = elim (le-or-lt b a) [ inl h ↦ elim (eq-or-lt-of-le h) [ inl e ↦ inr (inl (sym e)) | inr l ↦ inr (inr l) ] | inr h ↦ inl h ]
 
 -- the nearest whole number to n / u, and any other
 record Close (n u q c : ℕ) : Type 0 where
@@ -78,11 +72,7 @@ record Close (n u q c : ℕ) : Type 0 where
   alone : gap n (c * u) ≡ gap n (q * u) → (c ≡ q → ⊥) → q % 2 ≡ 0
 
 close : (n u c : ℕ) → 0 < u → Close n u (closest n u) c
-close n u c U =
-    let w = n / u in
-    let r = n % u in
-    let e = div-add-mod' n u in
-    let l = mod-lt n U in
+close n u c U = let w = n / u in let r = n % u in let e = div-add-mod' n u in let l = mod-lt n U in
     elim (order (r * 2) u) [
       | inl h ↦ subst (λ (q : ℕ). Close n u q c) (ap (nearest w) (sym (order-is (r * 2) u Ordering·lt h))) (record {
         near = low-near n u w r e l c (omega arith);
@@ -95,14 +85,13 @@ close n u c U =
         alone = λ t d. absurd (d
             (high-alone n u w r e l c h t));
       })
-    ]
-  where
-    tied : (w r : ℕ) → w * u + r ≡ n → r < u → r * 2 ≡ u → Close n u (w + w % 2) c
-    tied w r e l h =
-        elim (le-or-lt 1 (w % 2)) [
-          | inl o ↦ subst (λ (q : ℕ). Close n u q c) (let s : suc w ≡ w + w % 2 = omega arith in s) (record { near = high-near n u w r e l c (omega arith); alone = λ t d. omega arith })
-          | inr z ↦ subst (λ (q : ℕ). Close n u q c) (let s : w ≡ w + w % 2 = omega arith in s) (record { near = low-near n u w r e l c (omega arith); alone = λ t d. omega arith })
-        ]
+    ] where
+      tied : (w r : ℕ) → w * u + r ≡ n → r < u → r * 2 ≡ u → Close n u (w + w % 2) c
+      tied w r e l h =
+          elim (le-or-lt 1 (w % 2)) [
+            | inl o ↦ subst (λ (q : ℕ). Close n u q c) (let s : suc w ≡ w + w % 2 = omega arith in s) (record { near = high-near n u w r e l c (omega arith); alone = λ t d. omega arith })
+            | inr z ↦ subst (λ (q : ℕ). Close n u q c) (let s : w ≡ w + w % 2 = omega arith in s) (record { near = low-near n u w r e l c (omega arith); alone = λ t d. omega arith })
+          ]
 
 -- ---- the 24 leading digits
 even-digits : (q k : ℕ) → q % 2 ≡ 0 → q ≤ 2 ^ 24 → (k ≡ 0) ⊎ (2 ^ 23 ≤ q) → (q * 2 ^ k) / 2 ^ (size (q * 2 ^ k) - 24) % 2 ≡ 0
@@ -113,30 +102,27 @@ even-digits q k e hi place =
         | inl g ↦ full l g
         | inr g ↦ elim place [ inl z ↦ short l z | inr b ↦ absurd (omega arith) ]
       ]
-    ]
-  where
-    last : (s : ℕ) → size (q * 2 ^ k) - 24 ≡ s → (m : ℕ) → q * 2 ^ k / 2 ^ s ≡ m → m % 2 ≡ 0 → (q * 2 ^ k) / 2 ^ (size (q * 2 ^ k) - 24) % 2 ≡ 0
-    last s f m g h = ap (λ (x : ℕ). q * 2 ^ k / 2 ^ x % 2) f ∙ ap (λ (x : ℕ). x % 2) g ∙ h
+    ] where
+      last : (s : ℕ) → size (q * 2 ^ k) - 24 ≡ s → (m : ℕ) → q * 2 ^ k / 2 ^ s ≡ m → m % 2 ≡ 0 → (q * 2 ^ k) / 2 ^ (size (q * 2 ^ k) - 24) % 2 ≡ 0
+      last s f m g h = ap (λ (x : ℕ). q * 2 ^ k / 2 ^ x % 2) f ∙ ap (λ (x : ℕ). x % 2) g ∙ h
 
-    full : q < 2 ^ 24 → 2 ^ 23 ≤ q → (q * 2 ^ k) / 2 ^ (size (q * 2 ^ k) - 24) % 2 ≡ 0
-    full l g =
-        let s = size-is (23 + k) (q * 2 ^ k) (subst (λ (y : ℕ). y ≤ q * 2 ^ k) (sym (pow-add 2 23 k)) (mul-le-mul-right (2 ^ k) g)) (subst (λ (y : ℕ). q * 2 ^ k < 2 ^ y) (let u : 24 + k ≡ suc
-        (23 + k) = omega arith in u) (shl-lt 24 k l)) in
-        last k (omega arith) q (mul-div-cancel q (pow-pos k)) e
+      full : q < 2 ^ 24 → 2 ^ 23 ≤ q → (q * 2 ^ k) / 2 ^ (size (q * 2 ^ k) - 24) % 2 ≡ 0
+      full l g =
+          let s = size-is (23 + k) (q * 2 ^ k) (subst (λ (y : ℕ). y ≤ q * 2 ^ k) (sym (pow-add 2 23 k)) (mul-le-mul-right (2 ^ k) g)) (subst (λ (y : ℕ). q * 2 ^ k < 2 ^ y) (let u : 24 + k ≡ suc
+          (23 + k) = omega arith in u) (shl-lt 24 k l)) in
+          last k (omega arith) q (mul-div-cancel q (pow-pos k)) e
 
-    carried : q ≡ 2 ^ 24 → (q * 2 ^ k) / 2 ^ (size (q * 2 ^ k) - 24) % 2 ≡ 0
-    carried c =
-        let a : q * 2 ^ k ≡ 2 ^ 23 * 2 ^ (k + 1) = ap (λ (x : ℕ). x * 2 ^ k) c ∙ sym (pow-add 2 24 k) ∙ ap (λ (x : ℕ). 2 ^ x) (let u : 24 + k ≡ 23 + (k + 1) = omega arith in u)
-        ∙ pow-add 2 23 (k + 1) in
-        let s = size-is (24 + k) (q * 2 ^ k) (subst (λ (y : ℕ). y ≤ q * 2 ^ k) (sym (pow-add 2 24 k)) (mul-le-mul-right (2 ^ k) (le-of-eq (sym c)))) (subst (λ (y : ℕ). q * 2 ^ k < 2 ^ y)
-        (let u : 25 + k ≡ suc (24 + k) = omega arith in u) (shl-lt 25 k (omega arith))) in
-        last (k + 1) (omega arith) (2 ^ 23) (ap (λ (x : ℕ). x / 2 ^ (k + 1)) a ∙ mul-div-cancel (2 ^ 23) (pow-pos (k + 1))) refl
+      carried : q ≡ 2 ^ 24 → (q * 2 ^ k) / 2 ^ (size (q * 2 ^ k) - 24) % 2 ≡ 0
+      carried c =
+          let a : q * 2 ^ k ≡ 2 ^ 23 * 2 ^ (k + 1) = ap (λ (x : ℕ). x * 2 ^ k) c ∙ sym (pow-add 2 24 k) ∙ ap (λ (x : ℕ). 2 ^ x) (let u : 24 + k ≡ 23 + (k + 1) = omega arith in u)
+          ∙ pow-add 2 23 (k + 1) in
+          let s = size-is (24 + k) (q * 2 ^ k) (subst (λ (y : ℕ). y ≤ q * 2 ^ k) (sym (pow-add 2 24 k)) (mul-le-mul-right (2 ^ k) (le-of-eq (sym c)))) (subst (λ (y : ℕ). q * 2 ^ k < 2 ^ y)
+          (let u : 25 + k ≡ suc (24 + k) = omega arith in u) (shl-lt 25 k (omega arith))) in
+          last (k + 1) (omega arith) (2 ^ 23) (ap (λ (x : ℕ). x / 2 ^ (k + 1)) a ∙ mul-div-cancel (2 ^ 23) (pow-pos (k + 1))) refl
 
-    short : q < 2 ^ 24 → k ≡ 0 → (q * 2 ^ k) / 2 ^ (size (q * 2 ^ k) - 24) % 2 ≡ 0
-    short l z =
-        let a : q * 2 ^ k ≡ q = ap (λ (x : ℕ). q * 2 ^ x) z ∙ mul-one q in
-        let s = size-le (q * 2 ^ k) 24 (subst (λ (y : ℕ). y < 2 ^ 24) (sym a) l) in
-        last 0 (omega arith) q (div-one (q * 2 ^ k) ∙ a) e
+      short : q < 2 ^ 24 → k ≡ 0 → (q * 2 ^ k) / 2 ^ (size (q * 2 ^ k) - 24) % 2 ≡ 0
+      short l z = let a : q * 2 ^ k ≡ q = ap (λ (x : ℕ). q * 2 ^ x) z ∙ mul-one q in let s = size-le (q * 2 ^ k) 24 (subst (λ (y : ℕ). y < 2 ^ 24) (sym a) l) in
+          last 0 (omega arith) q (div-one (q * 2 ^ k) ∙ a) e
 
 -- ---- the rounded fraction
 module _ (s : Bool) (num den : ℕ) (D : 0 < den) (under : num / den < 16777216) where
@@ -202,8 +188,7 @@ module _ (s : Bool) (num den : ℕ) (D : 0 < den) (under : num / den < 16777216)
   -- any other f32 is a multiple of 2 ^ k too, or below what is kept of the fraction
   placed : (y : Float) → T (fits binary32 y) → (Close n u q (unitsOf y * den / u) × (unitsOf y * den / u * u ≡ unitsOf y * den)) ⊎ (unitsOf y * den < n / u * u)
   unfolding n u q
-  placed y f =
-      let f32 = shape y f in
+  placed y f = let f32 = shape y f in
       elim (le-or-lt k (f32 .place)) [
         | inl h ↦
             let e : unitsOf y * den ≡ f32 .digits * 2 ^ (f32 .place - k) * u = ap (λ (x : ℕ). x * den) (f32 .whole ∙ multiple (f32 .digits) (f32 .place) h)
@@ -282,21 +267,19 @@ module _ (fraction : Fraction) (y : Float) where
 
   away-either : (away fraction y ≡ gap a b) ⊎ (away fraction y ≡ a + b)
   unfolding away
-  away-either = go (Bool·beq (isNegative y) (fraction .minus))
-    where
-      go : (t : Bool) → ((if t then gap a b else a + b) ≡ gap a b) ⊎ ((if t then gap a b else a + b) ≡ a + b)
-      go true = inl refl
-      go false = inr refl
+  away-either = go (Bool·beq (isNegative y) (fraction .minus)) where
+    go : (t : Bool) → ((if t then gap a b else a + b) ≡ gap a b) ⊎ ((if t then gap a b else a + b) ≡ a + b)
+    go true = inl refl
+    go false = inr refl
 
   away-same : isNegative y ≡ fraction .minus → away fraction y ≡ gap a b
   unfolding away
-  away-same e = go (isNegative y) (fraction .minus) e
-    where
-      go : (s t : Bool) → s ≡ t → (if Bool·beq s t then gap a b else a + b) ≡ gap a b
-      go true true e = refl
-      go false false e = refl
-      go true false e = absurd (let z : _≡_ {A = ℕ} 0 1 = cc in omega arith)
-      go false true e = absurd (let z : _≡_ {A = ℕ} 0 1 = cc in omega arith)
+  away-same e = go (isNegative y) (fraction .minus) e where
+    go : (s t : Bool) → s ≡ t → (if Bool·beq s t then gap a b else a + b) ≡ gap a b
+    go true true e = refl
+    go false false e = refl
+    go true false e = absurd (let z : _≡_ {A = ℕ} 0 1 = cc in omega arith)
+    go false true e = absurd (let z : _≡_ {A = ℕ} 0 1 = cc in omega arith)
 
 grown : (a b : ℕ) → a ≤ a + b
 grown a b = omega arith
@@ -320,36 +303,33 @@ module _ (fraction : Fraction) (D : 0 < fraction .size .den) (under : fraction .
 
   round-nearest : Nearest fraction x
   unfolding n
-  round-nearest =
-      let s = fraction .minus in
-      record {
-        held = round-fits binary32 s num den;
-        is-finite = finite-of x s _ _ (sign-and-size s num den D under);
-        none-nearer =
-            λ y f t.
-            elim (away-either fraction y) [
-              | inl e ↦ le-trans (le-of-eq away-x) (le-trans (size-near s num den D under y f) (le-of-eq (sym e)))
-              | inr e ↦ le-trans (le-of-eq away-x) (le-trans (le-trans (no-farther s num den D under) (grown (num * 2 ^ 149) (unitsOf y * den))) (le-of-eq (sym e)))
-            ];
-        tie-even =
-            λ y f t e d.
-            leading-even s num den D under
-            (elim (away-either fraction y) [
-              | inl g ↦ size-even s num den D under y f (sym g ∙ e ∙ away-x) (λ c. d (same y (c ∙ sym (at-x s num den D under))))
-              | inr g ↦ none y (sym g ∙ e ∙ away-x) d
-            ]);
-      }
-    where
-      same : (y : Float) → unitsOf y * den ≡ unitsOf x * den → unitsOf y ≡ unitsOf x
-      same y e = cancel (unitsOf y) (unitsOf x) den D e
+  round-nearest = let s = fraction .minus in record {
+    held = round-fits binary32 s num den;
+    is-finite = finite-of x s _ _ (sign-and-size s num den D under);
+    none-nearer =
+        λ y f t.
+        elim (away-either fraction y) [
+          | inl e ↦ le-trans (le-of-eq away-x) (le-trans (size-near s num den D under y f) (le-of-eq (sym e)))
+          | inr e ↦ le-trans (le-of-eq away-x) (le-trans (le-trans (no-farther s num den D under) (grown (num * 2 ^ 149) (unitsOf y * den))) (le-of-eq (sym e)))
+        ];
+    tie-even =
+        λ y f t e d.
+        leading-even s num den D under
+        (elim (away-either fraction y) [
+          | inl g ↦ size-even s num den D under y f (sym g ∙ e ∙ away-x) (λ c. d (same y (c ∙ sym (at-x s num den D under))))
+          | inr g ↦ none y (sym g ∙ e ∙ away-x) d
+        ]);
+  } where
+    same : (y : Float) → unitsOf y * den ≡ unitsOf x * den → unitsOf y ≡ unitsOf x
+    same y e = cancel (unitsOf y) (unitsOf x) den D e
 
-      none : (y : Float) → num * 2 ^ 149 + unitsOf y * den ≡ gap (num * 2 ^ 149) (q (fraction .minus) num den D under * u (fraction .minus) num den D under) → (unitsOf y ≡ unitsOf x → ⊥)
-          → q (fraction .minus) num den D under % 2 ≡ 0
-      none y e d =
-          let z = settled (num * 2 ^ 149) (unitsOf y * den) (gap (num * 2 ^ 149) (q (fraction .minus) num den D under * u (fraction .minus) num den D under)) e (no-farther
-          (fraction .minus) num den D under) in
-          zero-even (fraction .minus) num den D under (z .1) (λ w. d (same y (z .0 ∙ sym (at-x (fraction .minus) num den D under ∙ ap (λ (m : ℕ). m * u (fraction .minus) num den D under) w
-          ∙ zero-mul (u (fraction .minus) num den D under)))))
+    none : (y : Float) → num * 2 ^ 149 + unitsOf y * den ≡ gap (num * 2 ^ 149) (q (fraction .minus) num den D under * u (fraction .minus) num den D under) → (unitsOf y ≡ unitsOf x → ⊥)
+        → q (fraction .minus) num den D under % 2 ≡ 0
+    none y e d =
+        let z = settled (num * 2 ^ 149) (unitsOf y * den) (gap (num * 2 ^ 149) (q (fraction .minus) num den D under * u (fraction .minus) num den D under)) e (no-farther
+        (fraction .minus) num den D under) in
+        zero-even (fraction .minus) num den D under (z .1) (λ w. d (same y (z .0 ∙ sym (at-x (fraction .minus) num den D under ∙ ap (λ (m : ℕ). m * u (fraction .minus) num den D under) w
+        ∙ zero-mul (u (fraction .minus) num den D under)))))
 
 -- of zero
 zero-nearest : (fraction : Fraction) → fraction .size .num ≡ 0 → Nearest fraction (fin false 0 (pos 0))
@@ -360,23 +340,21 @@ zero-nearest fraction e =
       is-finite = tt;
       none-nearer = λ y f t. subst (λ (m : ℕ). m ≤ away fraction y) (sym here) (omega arith);
       tie-even = λ y f t g d. refl;
-    }
-  where
-    zero-rounded : round binary32 false 0 1 ≡ fin false 0 (pos 0)
-    zero-rounded = refl
+    } where
+      zero-rounded : round binary32 false 0 1 ≡ fin false 0 (pos 0)
+      zero-rounded = refl
 
-    here : away fraction (fin false 0 (pos 0)) ≡ 0
-    here =
-        elim (away-either fraction (fin false 0 (pos 0))) [
-          | inl g ↦ g ∙ ap (λ (m : ℕ). gap (m * 2 ^ 149) (0 * fraction .size .den)) e ∙ ap (λ (m : ℕ). gap 0 m) (zero-mul (fraction .size .den))
-          | inr g ↦ g ∙ ap (λ (m : ℕ). m * 2 ^ 149 + 0 * fraction .size .den) e ∙ ap (λ (m : ℕ). 0 + m) (zero-mul (fraction .size .den))
-        ]
+      here : away fraction (fin false 0 (pos 0)) ≡ 0
+      here =
+          elim (away-either fraction (fin false 0 (pos 0))) [
+            | inl g ↦ g ∙ ap (λ (m : ℕ). gap (m * 2 ^ 149) (0 * fraction .size .den)) e ∙ ap (λ (m : ℕ). gap 0 m) (zero-mul (fraction .size .den))
+            | inr g ↦ g ∙ ap (λ (m : ℕ). m * 2 ^ 149 + 0 * fraction .size .den) e ∙ ap (λ (m : ℕ). 0 + m) (zero-mul (fraction .size .den))
+          ]
 
 -- the f32 that a request's fraction means
 pub nearest-to : (fraction : Fraction) → 0 < fraction .size .den → fraction .size .num / fraction .size .den < 16777216 → Nearest fraction (nearestTo fraction)
 unfolding nearestTo
-nearest-to fraction D under = go (eqb (fraction .size .num) 0) refl
-  where
-    go : (t : Bool) → eqb (fraction .size .num) 0 ≡ t → Nearest fraction (if t then fin false 0 (pos 0) else round binary32 (fraction .minus) (fraction .size .num) (fraction .size .den))
-    go false e = round-nearest fraction D under
-    go true e = zero-nearest fraction (eqb-true (fraction .size .num) 0 e)
+nearest-to fraction D under = go (eqb (fraction .size .num) 0) refl where
+  go : (t : Bool) → eqb (fraction .size .num) 0 ≡ t → Nearest fraction (if t then fin false 0 (pos 0) else round binary32 (fraction .minus) (fraction .size .num) (fraction .size .den))
+  go false e = round-nearest fraction D under
+  go true e = zero-nearest fraction (eqb-true (fraction .size .num) 0 e)

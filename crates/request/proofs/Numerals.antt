@@ -1,14 +1,11 @@
 -- Numbers that digits spell, and their sizes. Assumes nothing.
-use mathlib.Core.{Path.{_≡_, refl, ap, sym, _∙_, subst}, Bool.{Bool, true, false, _&&_}, List.{List, [], _∷_}}
-use Prim.Native.Nat.{ℕ, suc, _+_, _-_, _*_, _/_, _^_, _≤_, _<_}
-use borrow.Author.Tests.{le-leb, lt-leb, leb-true, eq-eqb, ne-eqb, eqb-true}
-use lib.{Dec.{leb, eqb}, Ieee.{Float}, ListN.{length, getD, take, drop, length-drop, length-take}}
-use native.Mathlib.{Nat.{pow-le-pow-right, pow-suc, one-le-pow, zero-lt-suc, mul-comm, mul-assoc, le-trans, div-lt-iff-lt-mul, mul-le-mul-left, mul-le-mul-right}, Omega.{arith}}
+use Rattle.numbers.proofs.Prelude.{ℕ, suc, _+_, _-_, _*_, _/_, _^_, _≤_, _<_, eq-eqb, ne-eqb, le-leb, leb-true, lt-leb, eqb, leb, Float, length, take, drop, getD, length-drop, Bool, true, false}
+use Rattle.numbers.proofs.Prelude.{_&&_, List, [], _∷_, _≡_, refl, sym, ap, subst, _∙_, le-trans, mul-comm, mul-assoc, mul-le-mul-right, pow-suc, div-lt-iff-lt-mul, arith}
 use Rattle.numbers.specs.{Answer.{Answer, found, failed, if_then_else_, _>>=_}, Reply.{given, refused, refusal}, declared.refusal.Refusal.{Refusal}}
+use native.Mathlib.Nat.{pow-le-pow-right, one-le-pow, zero-lt-suc, mul-le-mul-left}
 use Rattle.request.proofs.Texts.{here, ended}
-use Rattle.request.specs.Text.{isDigit, digits, formed, until}
-use Rattle.request.specs.Number.{Size, Fraction, spelled, digitOf, valueFrom, valueOf, partOf, isTail, hasForm, angleOf, sideOf, decimalOf, unsigned, isMinus, degreesOf, nearestTo}
-use Rattle.request.specs.{Request.{at}, Told.{shown, limitedTo, toldSize, IsSize}, declared.{number.Digits.{Digits}, degrees.Sized.{Sized}}}
+use Rattle.request.specs.{Number.{Size, spelled, digitOf, valueFrom, partOf, isTail, hasForm, angleOf, sideOf, decimalOf, unsigned, isMinus, degreesOf, nearestTo}, Request.{at}}
+use Rattle.request.specs.{Text.{digits, formed, until}, Told.{shown, limitedTo, toldSize, IsSize}, declared.{degrees.Sized.{Sized}, number.Digits.{Digits}}}
 use Rattle.request.specs.declared.degrees.Sized.the-variants as S
 use Rattle.numbers.specs.Answer as A
 
@@ -24,13 +21,12 @@ ten-some k = one-le-pow k 10 (zero-lt-suc 9)
 
 -- ---- values
 digit-small : (byte : ℕ) → digitOf byte ≤ 9
-digit-small byte = go (leb 48 byte) (leb byte 57) refl
-  where
-    go : (a b : Bool) → leb byte 57 ≡ b → (if a && b then byte - 48 else 0) ≤ 9
-    go true true e = omega (arith, leb-true byte 57 e)
-    go true false e = omega arith
-    go false true e = omega arith
-    go false false e = omega arith
+digit-small byte = go (leb 48 byte) (leb byte 57) refl where
+  go : (a b : Bool) → leb byte 57 ≡ b → (if a && b then byte - 48 else 0) ≤ 9
+  go true true e = omega (arith, leb-true byte 57 e)
+  go true false e = omega arith
+  go false true e = omega arith
+  go false false e = omega arith
 
 pub value-least : (n : ℕ) (text : List ℕ) → n ≤ valueFrom n text
 unfolding valueFrom
@@ -85,40 +81,36 @@ module _ (most : ℕ) where
     tail-point h = sym (tail-some text some ∙ simp (ne-eqb (getD text 0 0) 46 h))
 
     pub tail-empty : length text < 2 → false ≡ isTail most text
-    tail-empty h = sym (tail-some text some ∙ go (eqb (getD text 0 0) 46) (digits (drop 1 text)) (leb 1 (length (drop 1 text))) (lt-leb 1 (length (drop 1 text)) (omega (arith, rest-long))))
-      where
-        go : (p q r : Bool) → r ≡ false → (p && q && r && leb (length (drop 1 text)) most) ≡ false
-        go true true r e = rw e refl
-        go true false r e = refl
-        go false q r e = refl
+    tail-empty h = sym (tail-some text some ∙ go (eqb (getD text 0 0) 46) (digits (drop 1 text)) (leb 1 (length (drop 1 text))) (lt-leb 1 (length (drop 1 text)) (omega (arith, rest-long)))) where
+      go : (p q r : Bool) → r ≡ false → (p && q && r && leb (length (drop 1 text)) most) ≡ false
+      go true true r e = rw e refl
+      go true false r e = refl
+      go false q r e = refl
 
     pub tail-long : most < length text - 1 → false ≡ isTail most text
     tail-long h = sym (tail-some text some ∙ go (eqb (getD text 0 0) 46 && digits (drop 1 text) && leb 1 (length (drop 1 text))) (leb (length (drop 1 text)) most) (lt-leb (length
-        (drop 1 text)) most (omega (arith, rest-long))))
-      where
-        go : (p r : Bool) → r ≡ false → (p && r) ≡ false
-        go true r e = e
-        go false r e = refl
+        (drop 1 text)) most (omega (arith, rest-long)))) where
+          go : (p r : Bool) → r ≡ false → (p && r) ≡ false
+          go true r e = e
+          go false r e = refl
 
     pub tail-is : getD text 0 0 ≡ 46 → 2 ≤ length text → length text - 1 ≤ most → digits (drop 1 text) ≡ isTail most text
     tail-is p l h = sym (tail-some text some ∙ go (digits (drop 1 text)) (eq-eqb (getD text 0 0) 46 p) (le-leb 1 (length (drop 1 text)) (omega (arith, rest-long))) (le-leb (length
-        (drop 1 text)) most (omega (arith, rest-long))))
-      where
-        go : (q : Bool) {a b d : Bool} → a ≡ true → b ≡ true → d ≡ true → (a && q && b && d) ≡ q
-        go true e f g = rw (e, f, g) refl
-        go false e f g = rw e refl
+        (drop 1 text)) most (omega (arith, rest-long)))) where
+          go : (q : Bool) {a b d : Bool} → a ≡ true → b ≡ true → d ≡ true → (a && q && b && d) ≡ q
+          go true e f g = rw (e, f, g) refl
+          go false e f g = rw e refl
 
   tail-length : (text : List ℕ) → isTail most text ≡ true → length text ≤ most + 1
   unfolding isTail
   tail-length [] h = omega arith
-  tail-length (b ∷ bs) h = go (eqb b 46) (digits bs) (leb 1 (length bs)) (leb (length bs) most) refl h
-    where
-      go : (p q r s : Bool) → leb (length bs) most ≡ s → (p && q && r && s) ≡ true → length (b ∷ bs) ≤ most + 1
-      go p q r true e h = omega (arith, leb-true (length bs) most e)
-      go true true true false e h = absurd (let z : _≡_ {A = ℕ} 0 1 = cc in omega arith)
-      go true true false false e h = absurd (let z : _≡_ {A = ℕ} 0 1 = cc in omega arith)
-      go true false r false e h = absurd (let z : _≡_ {A = ℕ} 0 1 = cc in omega arith)
-      go false q r false e h = absurd (let z : _≡_ {A = ℕ} 0 1 = cc in omega arith)
+  tail-length (b ∷ bs) h = go (eqb b 46) (digits bs) (leb 1 (length bs)) (leb (length bs) most) refl h where
+    go : (p q r s : Bool) → leb (length bs) most ≡ s → (p && q && r && s) ≡ true → length (b ∷ bs) ≤ most + 1
+    go p q r true e h = omega (arith, leb-true (length bs) most e)
+    go true true true false e h = absurd (let z : _≡_ {A = ℕ} 0 1 = cc in omega arith)
+    go true true false false e h = absurd (let z : _≡_ {A = ℕ} 0 1 = cc in omega arith)
+    go true false r false e h = absurd (let z : _≡_ {A = ℕ} 0 1 = cc in omega arith)
+    go false q r false e h = absurd (let z : _≡_ {A = ℕ} 0 1 = cc in omega arith)
 
 module _ (width most : ℕ) (text : List ℕ) where
   pub form-short : length text < width → false ≡ hasForm width most text
@@ -137,13 +129,12 @@ module _ (width most : ℕ) (text : List ℕ) where
 -- a text of a form is so long
 pub form-holds : (width most : ℕ) (text : List ℕ) → hasForm width most text ≡ true → (width ≤ length text) × (length text ≤ width + most + 1)
 unfolding hasForm
-form-holds width most text h = go (leb width (length text)) (digits (take width text)) (isTail most (drop width text)) refl refl h
-  where
-    go : (a b t : Bool) → leb width (length text) ≡ a → isTail most (drop width text) ≡ t → (a && b && t) ≡ true → (width ≤ length text) × (length text ≤ width + most + 1)
-    go true true true e f h = (leb-true width (length text) e, omega (arith, leb-true width (length text) e, tail-length most (drop width text) f, length-drop width text))
-    go true true false e f h = absurd (let z : _≡_ {A = ℕ} 0 1 = cc in omega arith)
-    go true false t e f h = absurd (let z : _≡_ {A = ℕ} 0 1 = cc in omega arith)
-    go false b t e f h = absurd (let z : _≡_ {A = ℕ} 0 1 = cc in omega arith)
+form-holds width most text h = go (leb width (length text)) (digits (take width text)) (isTail most (drop width text)) refl refl h where
+  go : (a b t : Bool) → leb width (length text) ≡ a → isTail most (drop width text) ≡ t → (a && b && t) ≡ true → (width ≤ length text) × (length text ≤ width + most + 1)
+  go true true true e f h = (leb-true width (length text) e, omega (arith, leb-true width (length text) e, tail-length most (drop width text) f, length-drop width text))
+  go true true false e f h = absurd (let z : _≡_ {A = ℕ} 0 1 = cc in omega arith)
+  go true false t e f h = absurd (let z : _≡_ {A = ℕ} 0 1 = cc in omega arith)
+  go false b t e f h = absurd (let z : _≡_ {A = ℕ} 0 1 = cc in omega arith)
 
 -- ---- sizes
 pub limit-over : (limit num den place : ℕ) → limit * den < num → refused (refusal 84 0 place) ≡ at place (limitedTo limit num den)
@@ -167,8 +158,7 @@ module _ (width limit : ℕ) (text : List ℕ) where
     angle-over h place = simp (e, lt-leb (partOf width 2 text) 59 h)
 
     pub angle-limited : partOf width 2 text ≤ 59 → {num den : ℕ} → den ≡ 60 * 10 ^ length (drop (width + 3) text)
-        → num ≡ partOf 0 width text * den + valueFrom (partOf width 2 text) (drop (width + 3) text)
-        → limitedTo limit num den ≡ angleOf width limit text
+        → num ≡ partOf 0 width text * den + valueFrom (partOf width 2 text) (drop (width + 3) text) → limitedTo limit num den ≡ angleOf width limit text
     unfolding angleOf spelled
     angle-limited h f g = simp (e, le-leb (partOf width 2 text) 59 h, g, f)
 
@@ -199,13 +189,11 @@ pub record Small (value scale : ℕ) : Type 0 where
 
 pub decimals-small : (text : List ℕ) (from start : ℕ) → start < 1000 → length text ≤ from + 9 → {value scale : ℕ} → value ≡ valueFrom start (drop from text)
     → scale ≡ 10 ^ length (drop from text) → Small value scale
-decimals-small text from start h l v s =
-    let few : length (drop from text) ≤ 9 = omega (arith, length-drop from text) in
-    record {
-      some = omega (arith, ten-some (length (drop from text)));
-      short = omega (arith, tens few);
-      small = omega (arith, value-short start 1000 9 (drop from text) h few);
-    }
+decimals-small text from start h l v s = let few : length (drop from text) ≤ 9 = omega (arith, length-drop from text) in record {
+  some = omega (arith, ten-some (length (drop from text)));
+  short = omega (arith, tens few);
+  small = omega (arith, value-short start 1000 9 (drop from text) h few);
+}
 
 pub degrees-small : (degrees width den : ℕ) → degrees < 10 ^ width → width ≤ 3 → den ≤ 60000000000 → degrees * den ≤ 60000000000000
 degrees-small degrees width den h w d = le-trans (mul-le-mul-right den (let s : degrees ≤ 1000 = omega (arith, tens w) in s)) (omega arith)
@@ -252,23 +240,20 @@ module _ (limit : ℕ) (text : List ℕ) (place : ℕ) {r : Sized} (e : toldSize
   pub degrees-are : {num den : ℕ} → r ≡ S.Is num den → {x : Float} → x ≡ nearestTo (record { minus = isMinus text; size = record { num = num; den = den } })
       → given x ≡ shown (at place (degreesOf limit text)) nearestTo
   unfolding degreesOf
-  degrees-are is f = ap given f ∙ go (decimalOf limit (unsigned text)) (rw is at e)
-    where
-      go : (a : Answer Size) {num den : ℕ} → given (record { num = num; den = den }) ≡ at place a
-          → given (nearestTo (record { minus = isMinus text; size = record { num = num; den = den } })) ≡ shown (at place (a >>= λ size. found
-          (record { minus = isMinus text; size = size }))) nearestTo
-      go (found a) e = cc
-      go failed e = absurd (let z : _≡_ {A = ℕ} 0 1 = cc in omega arith)
-      go (A.refused n) e = absurd (let z : _≡_ {A = ℕ} 0 1 = cc in omega arith)
+  degrees-are is f = ap given f ∙ go (decimalOf limit (unsigned text)) (rw is at e) where
+    go : (a : Answer Size) {num den : ℕ} → given (record { num = num; den = den }) ≡ at place a
+        → given (nearestTo (record { minus = isMinus text; size = record { num = num; den = den } })) ≡ shown (at place (a >>= λ size. found (record { minus = isMinus text; size = size }))) nearestTo
+    go (found a) e = cc
+    go failed e = absurd (let z : _≡_ {A = ℕ} 0 1 = cc in omega arith)
+    go (A.refused n) e = absurd (let z : _≡_ {A = ℕ} 0 1 = cc in omega arith)
 
   pub degrees-refused : {why : Refusal} → r ≡ S.Refused why → refused why ≡ shown (at place (degreesOf limit text)) nearestTo
   unfolding degreesOf
-  degrees-refused is = go (decimalOf limit (unsigned text)) (rw is at e)
-    where
-      go : (a : Answer Size) {why : Refusal} → refused why ≡ at place a → refused why ≡ shown (at place (a >>= λ size. found (record { minus = isMinus text; size = size }))) nearestTo
-      go (found a) e = absurd (let z : _≡_ {A = ℕ} 0 1 = cc in omega arith)
-      go failed e = cc
-      go (A.refused n) e = cc
+  degrees-refused is = go (decimalOf limit (unsigned text)) (rw is at e) where
+    go : (a : Answer Size) {why : Refusal} → refused why ≡ at place a → refused why ≡ shown (at place (a >>= λ size. found (record { minus = isMinus text; size = size }))) nearestTo
+    go (found a) e = absurd (let z : _≡_ {A = ℕ} 0 1 = cc in omega arith)
+    go failed e = cc
+    go (A.refused n) e = cc
 
 -- where the point is, counted from 0
 pub whole-is : (text : List ℕ) (whole : ℕ) → whole ≡ 0 + length (until 46 46 text) → whole ≡ length (until 46 46 text)

@@ -1,13 +1,10 @@
 -- Which numbers a request can be refused with: 80 to 84 alone. Assumes nothing.
-use mathlib.Core.{Path.{_≡_, refl}, Bool.{Bool, true, false, not}, List.{List, [], _∷_}}
-use Prim.Native.Nat.{ℕ, _+_}
-use lib.{Dec.{leb, eqb}, ListN.{length, getD}}
-use Rattle.numbers.proofs.{Refusals.{Listed, Numbered, as-found, as-failed, as-refused, either, then-numbered}, Replies.{NumberedReply, answers, refuses, then-reply, and-then, demands}}
-use Rattle.numbers.specs.{Answer.{Answer, found, failed}, Reply.{Reply, given, refusal, plain}}
+use Rattle.numbers.proofs.{Prelude.{ℕ, eqb, leb, length, getD, Bool, true, false, not, List, [], _∷_, refl}, Refusals.{Listed, Numbered, as-found, as-failed, as-refused, either, then-numbered}}
+use Rattle.numbers.{proofs.Replies.{NumberedReply, answers, refuses, then-reply, and-then, demands}, specs.{Answer.{Answer, found, failed}, Reply.{Reply, refusal, plain}}}
+use Rattle.request.specs.{Clock.{timeOf, dateOf, momentForm, momentOf, secondsOf, whenOf}, Number.{spelled, angleOf, sideOf, decimalOf, degreesOf}}
+use Rattle.request.specs.Request.{at, starOf, bodyOf, placeOf, placeIn, isSealed, isAddress, isRmc, isMode, turned, fixOf, fieldsOf, sentenceOf, plainOf, speltOf, requestOf}
+use Rattle.request.specs.Text.{formed, count, field, pastWord, nextWord, lineOf}
 use Rattle.numbers.specs.Answer as A
-use Rattle.request.specs.{Text.{formed, count, field, pastWord, nextWord, lineOf}, Number.{spelled, angleOf, sideOf, decimalOf, degreesOf, unsigned}}
-use Rattle.request.specs.Clock.{timeOf, dateOf, momentForm, momentOf, secondsOf, whenOf}
-use Rattle.request.specs.Request.{at, starOf, bodyOf, placeOf, placeIn, isSealed, isAddress, isRmc, isMode, turned, fixOf, fieldsOf, sentenceOf, plainOf, speltOf, meaning, requestOf}
 
 abbrev pub fiveNumbers : List ℕ
 fiveNumbers = 80 ∷ 81 ∷ 82 ∷ 83 ∷ 84 ∷ []
@@ -66,13 +63,9 @@ fix-told body =
 fields-told : (body : List ℕ) (star : ℕ) → Told (fieldsOf body star)
 unfolding fieldsOf
 fields-told body star =
-    and-then (demands (isAddress (field 0 body)) (refusal 80 0 1) refl)
-    (and-then (demands (isRmc (field 0 body)) (plain 83) refl)
-    (and-then (demands (leb 9 (count 44 body)) (refusal 80 0 star) refl)
-    (and-then (demands (not (formed (86 ∷ []) (field 2 body))) (plain 81) refl)
-    (and-then (demands (formed (65 ∷ []) (field 2 body)) (refusal 80 0 (placeOf 2 body)) refl)
-    (and-then (demands (isMode (field 12 body)) (plain 81) refl)
-    (fix-told body))))))
+    and-then (demands (isAddress (field 0 body)) (refusal 80 0 1) refl) (and-then (demands (isRmc (field 0 body)) (plain 83) refl)
+    (and-then (demands (leb 9 (count 44 body)) (refusal 80 0 star) refl) (and-then (demands (not (formed (86 ∷ []) (field 2 body))) (plain 81) refl)
+    (and-then (demands (formed (65 ∷ []) (field 2 body)) (refusal 80 0 (placeOf 2 body)) refl) (and-then (demands (isMode (field 12 body)) (plain 81) refl) (fix-told body))))))
 
 sentence-told : (line : List ℕ) → Told (sentenceOf line)
 unfolding sentenceOf

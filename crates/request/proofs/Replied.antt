@@ -1,20 +1,13 @@
 -- Replies that follow one another, as the code meets them. Assumes nothing.
-use mathlib.Core.{Path.{_≡_, refl, ap, sym, _∙_}, Bool.{Bool, true, false, not, _&&_, _||_}, List.{List, [], _∷_}}
-use Prim.Native.Nat.{ℕ, zero, suc, _+_, _-_, _/_, _%_, _≤_, _<_}
-use borrow.Author.Tests.{le-leb, lt-leb, eq-eqb, ne-eqb, le-ltb, lt-ltb}
-use lib.{Dec.{leb, eqb}, Ieee.{Float}, IntN.{ℤ}, ListN.{length, getD, take, drop}}
-use native.Mathlib.Omega.{arith}
-use Rattle.numbers.proofs.Replies.{From, given-from, refused-from}
-use Rattle.numbers.specs.{Answer.{Answer, if_then_else_}, Reply.{Reply, given, refused, refusal, plain, demand, _>>=_, _>>_}, declared.refusal.Refusal.{Refusal}}
+use Rattle.numbers.proofs.Prelude.{ℕ, zero, suc, _+_, _-_, _/_, _%_, _≤_, _<_, eq-eqb, ne-eqb, le-leb, lt-leb, eqb, Float, ℤ, length, take, drop, getD, length-drop, drop-drop, take-length, Bool}
+use Rattle.numbers.proofs.Prelude.{true, false, _||_, List, [], _∷_, _≡_, refl, sym, ap, _∙_, arith}
+use Rattle.numbers.{proofs.Replies.{given-from, refused-from}, specs.{Answer.{Answer}, Reply.{Reply, given, refused, refusal, plain, demand, _>>=_, _>>_}, declared.refusal.Refusal.{Refusal}}}
 use Rattle.calendar.specs.Moments.{instantOf}
-use lib.{ListN.{length-drop}, Seq.{drop-drop, take-length}}
 use Rattle.request.proofs.Texts.{form-length, behind-on, behind-end, until-take, part-is, place-is}
-use Rattle.request.specs.Text.{every, formed, count, xors, until, behind, field, toComma, word, unblanked, pastWord, nextWord, unended, lineOf}
-use Rattle.request.specs.Number.{Size, Fraction, angleOf, sideOf, degreesOf, nearestTo}
-use Rattle.request.specs.Clock.{Date, Time, When, utc, timeOf, dateOf, whenOf, dayOf, secondOf, instantAt}
-use Rattle.request.specs.Request.{Spelt, at, starOf, bodyOf, isHex, isSealed, isAddress, isRmc, isMode, placeOf, inField, turned, fixOf, fieldsOf, sentenceOf, placeIn, inWord, plainOf}
-use Rattle.request.specs.Request.{speltOf, meaning, requestOf}
-use Rattle.request.specs.{Told.{shown, Below}, declared.{read.Fix.{Fix}, clock.Whole.{Whole}}}
+use Rattle.request.specs.{Clock.{Date, Time, When, utc, timeOf, dateOf, whenOf, dayOf, secondOf, instantAt}, Number.{Size, Fraction, angleOf, sideOf, degreesOf, nearestTo}}
+use Rattle.request.specs.Request.{Spelt, at, starOf, bodyOf, isHex, isSealed, isAddress, isRmc, isMode, placeOf, inField, turned, fixOf, fieldsOf, sentenceOf, placeIn, inWord, plainOf, speltOf}
+use Rattle.request.specs.{Request.{meaning, requestOf}, Text.{every, formed, count, xors, behind, field, toComma, word, unblanked, pastWord, nextWord, unended, lineOf}, Told.{shown, Below}}
+use Rattle.request.specs.declared.{clock.Whole.{Whole}, read.Fix.{Fix}}
 use Rattle.request.specs.declared.clock.Whole.the-variants as W
 
 -- ---- fields
@@ -136,11 +129,8 @@ module _ (body : List ℕ) where
         pub fix-is : {day : ℕ} → given day ≡ shown (inField 9 body dateOf) dayOf → {z : ℤ} → z ≡ instantOf day second
             → given (record { lat = lat; lon = lon; instant = z }) ≡ shown (fixOf body) meaning
         unfolding fixOf meaning instantAt
-        fix-is h i =
-            let t = shown-from (inField 1 body timeOf) secondOf e in
-            let l = shown-from (turned 3 2 90 78 83 body) nearestTo f in
-            let o = shown-from (turned 5 3 180 69 87 body) nearestTo g in
-            let d = shown-from (inField 9 body dateOf) dayOf h in
+        fix-is h i = let t = shown-from (inField 1 body timeOf) secondOf e in let l = shown-from (turned 3 2 90 78 83 body) nearestTo f in
+            let o = shown-from (turned 5 3 180 69 87 body) nearestTo g in let d = shown-from (inField 9 body dateOf) dayOf h in
             ap given (same-fix (l .shows) (o .shows) (i ∙ ap (λ (n : ℕ). instantOf n second) (d .shows) ∙ ap (instantOf (dayOf (d .it))) (t .shows)))
             ∙ fix-5 (inField 1 body timeOf) (turned 3 2 90 78 83 body) (turned 5 3 180 69 87 body) (inField 9 body dateOf) (t .is) (l .is) (o .is) (d .is)
 

@@ -1,12 +1,9 @@
 -- The bytes of a text, one after the other. Assumes nothing.
-use mathlib.Core.{Path.{_≡_, refl, ap, sym, _∙_}, Bool.{Bool, true, false, _&&_, _||_}, List.{List, [], _∷_}}
-use Prim.Native.Nat.{ℕ, zero, suc, _+_, _-_, _≤_, _<_}
-use native.Mathlib.{Numerals.{add-one}, Omega.{arith}}
-use lib.{Bits.{bitXor, xor-lt}, Dec.{eqb}, ListN.{length, getD, take, drop, length-drop, length-take, drop-of-length-le}, Seq.{drop-cons, drop-drop, take-all, take-take, length-take-le, getD-take}}
-use borrow.Author.Tests.{eq-eqb, ne-eqb}
-use Rattle.numbers.proofs.Answers.{chosen, other}
-use Rattle.numbers.specs.Answer.{if_then_else_}
-use Rattle.request.specs.{Text.{isDigit, every, formed, count, xors, until, behind, unblanked, toComma, unended}, Told.{taken, likened}}
+use Rattle.numbers.proofs.Prelude.{ℕ, zero, suc, _+_, _-_, _≤_, _<_, eq-eqb, ne-eqb, eqb, length, take, drop, getD, length-drop, drop-of-length-le, length-take-le, drop-cons, drop-drop, take-all}
+use Rattle.numbers.proofs.Prelude.{getD-take, take-take, Bool, true, false, _&&_, _||_, List, [], _∷_, _≡_, refl, sym, ap, _∙_, add-one, arith}
+use Rattle.numbers.{proofs.Answers.{chosen, other}, specs.Answer.{if_then_else_}}
+use lib.Bits.{bitXor}
+use Rattle.request.specs.{Text.{every, formed, count, xors, until, behind, unblanked, toComma, unended}, Told.{taken, likened}}
 
 -- the byte at a place, and what is left behind it
 pub here : (text : List ℕ) (at : ℕ) → at < length text → drop at text ≡ getD text at 0 ∷ drop (at + 1) text
@@ -36,22 +33,20 @@ unfolding formed
 form-length [] [] h = absurd (h refl)
 form-length [] (b ∷ bs) h = refl
 form-length (m ∷ ms) [] h = refl
-form-length (m ∷ ms) (b ∷ bs) h = go (likened m b) (form-length ms bs (λ e. h (ap suc e)))
-  where
-    go : (t : Bool) → false ≡ formed ms bs → false ≡ (t && formed ms bs)
-    go true e = e
-    go false e = refl
+form-length (m ∷ ms) (b ∷ bs) h = go (likened m b) (form-length ms bs (λ e. h (ap suc e))) where
+  go : (t : Bool) → false ≡ formed ms bs → false ≡ (t && formed ms bs)
+  go true e = e
+  go false e = refl
 
 pub form-lengths : (form text : List ℕ) → formed form text ≡ true → length text ≡ length form
 unfolding formed
 form-lengths [] [] h = refl
 form-lengths [] (b ∷ bs) h = let z : _≡_ {A = Bool} false true = h in absurd (let n : _≡_ {A = ℕ} 0 1 = cc in omega arith)
 form-lengths (m ∷ ms) [] h = let z : _≡_ {A = Bool} false true = h in absurd (let n : _≡_ {A = ℕ} 0 1 = cc in omega arith)
-form-lengths (m ∷ ms) (b ∷ bs) h = ap suc (form-lengths ms bs (go (likened m b) h))
-  where
-    go : (t : Bool) → (t && formed ms bs) ≡ true → formed ms bs ≡ true
-    go true e = e
-    go false e = absurd (let n : _≡_ {A = ℕ} 0 1 = cc in omega arith)
+form-lengths (m ∷ ms) (b ∷ bs) h = ap suc (form-lengths ms bs (go (likened m b) h)) where
+  go : (t : Bool) → (t && formed ms bs) ≡ true → formed ms bs ≡ true
+  go true e = e
+  go false e = absurd (let n : _≡_ {A = ℕ} 0 1 = cc in omega arith)
 
 module _ (form text : List ℕ) (at : ℕ) (same : length text ≡ length form) where
   pub formed-end : length text ≤ at → true ≡ formed (drop at form) (drop at text)
@@ -79,11 +74,10 @@ count-on byte text at h = rw (here text at h)
 pub count-le : (byte : ℕ) (text : List ℕ) → count byte text ≤ length text
 unfolding count
 count-le byte [] = omega arith
-count-le byte (b ∷ bs) = go (eqb b byte) (count-le byte bs)
-  where
-    go : (t : Bool) → count byte bs ≤ length bs → (if t then 1 else 0) + count byte bs ≤ length (b ∷ bs)
-    go true h = omega arith
-    go false h = omega arith
+count-le byte (b ∷ bs) = go (eqb b byte) (count-le byte bs) where
+  go : (t : Bool) → count byte bs ≤ length bs → (if t then 1 else 0) + count byte bs ≤ length (b ∷ bs)
+  go true h = omega arith
+  go false h = omega arith
 
 pub xors-end : (text : List ℕ) (at : ℕ) → length text ≤ at → 0 ≡ xors (drop at text)
 unfolding xors
@@ -98,11 +92,10 @@ module _ (a b : ℕ) where
   pub until-take : (text : List ℕ) → take (length (until a b text)) text ≡ until a b text
   unfolding until
   until-take [] = refl
-  until-take (x ∷ xs) = go (eqb x a || eqb x b) (until-take xs)
-    where
-      go : (t : Bool) → take (length (until a b xs)) xs ≡ until a b xs → take (length (if t then [] else (x ∷ until a b xs))) (x ∷ xs) ≡ (if t then [] else (x ∷ until a b xs))
-      go true h = refl
-      go false h = ap (λ (ys : List ℕ). x ∷ ys) h
+  until-take (x ∷ xs) = go (eqb x a || eqb x b) (until-take xs) where
+    go : (t : Bool) → take (length (until a b xs)) xs ≡ until a b xs → take (length (if t then [] else (x ∷ until a b xs))) (x ∷ xs) ≡ (if t then [] else (x ∷ until a b xs))
+    go true h = refl
+    go false h = ap (λ (ys : List ℕ). x ∷ ys) h
 
   module _ (text : List ℕ) (at : ℕ) where
     pub until-end : length text ≤ at → length (until a b (drop at text)) ≡ 0
@@ -163,14 +156,11 @@ module _ (text : List ℕ) (at : ℕ) (h : 0 < at) (l : at ≤ length text) wher
 
   pub count-back : (byte sum : ℕ) → sum ≡ count byte (drop at text) → sum + (if eqb (getD text (at - 1) 0) byte then 1 else 0) ≡ count byte (drop (at - 1) text)
   count-back byte sum e =
-      let s : count byte (drop (at - 1) text) ≡ (if eqb (getD text (at - 1) 0) byte then 1 else 0) + count byte (drop at text) = count-on byte text (at - 1) (omega arith)
-      ∙ ap (λ (k : ℕ). (if eqb (getD text (at - 1) 0) byte then 1 else 0) + count byte (drop k text)) back in
-      omega arith
+      let s : count byte (drop (at - 1) text) ≡ (if eqb (getD text (at - 1) 0) byte then 1 else 0) + count byte (drop at text) = count-on byte text (at - 1)
+      (omega arith) ∙ ap (λ (k : ℕ). (if eqb (getD text (at - 1) 0) byte then 1 else 0) + count byte (drop k text)) back in omega arith
 
   pub xors-back : (sum : ℕ) → sum ≡ xors (drop at text) → bitXor (getD text (at - 1) 0) sum ≡ xors (drop (at - 1) text)
-  xors-back sum e =
-      ap (bitXor (getD text (at - 1) 0)) (e ∙ ap (λ (k : ℕ). xors (drop k text)) (sym back))
-      ∙ sym (xors-on text (at - 1) (omega arith))
+  xors-back sum e = ap (bitXor (getD text (at - 1) 0)) (e ∙ ap (λ (k : ℕ). xors (drop k text)) (sym back)) ∙ sym (xors-on text (at - 1) (omega arith))
 
 -- ---- a part up to the end
 pub rest-is : (text : List ℕ) (from : ℕ) → take (length text - from) (drop from text) ≡ drop from text
@@ -178,11 +168,10 @@ rest-is text from = take-all (length text - from) (drop from text) (omega (arith
 
 -- ---- without its last byte
 pub none-ended : (byte : ℕ) (text : List ℕ) → take 0 text ≡ unended byte (take 0 text)
-none-ended byte text = go (eqb 0 byte)
-  where
-    go : (t : Bool) → _≡_ {A = List ℕ} [] (if t then [] else [])
-    go true = refl
-    go false = refl
+none-ended byte text = go (eqb 0 byte) where
+  go : (t : Bool) → _≡_ {A = List ℕ} [] (if t then [] else [])
+  go true = refl
+  go false = refl
 
 module _ (byte : ℕ) (text : List ℕ) (size : ℕ) (h : 0 < size) (l : size ≤ length text) where
   all-of-it : length (take size text) ≡ size
@@ -193,8 +182,7 @@ module _ (byte : ℕ) (text : List ℕ) (size : ℕ) (h : 0 < size) (l : size �
 
   pub last-ended : getD text (size - 1) 0 ≡ byte → take (size - 1) text ≡ unended byte (take size text)
   last-ended e =
-      sym (ap (λ (n : ℕ). take (n - 1) (take size text)) all-of-it ∙ take-take (size - 1) size text (omega arith))
-      ∙ chosen (eq-eqb _ byte (last-is ∙ e)) _ _
+      sym (ap (λ (n : ℕ). take (n - 1) (take size text)) all-of-it ∙ take-take (size - 1) size text (omega arith)) ∙ chosen (eq-eqb _ byte (last-is ∙ e)) _ _
 
   pub last-kept : (getD text (size - 1) 0 ≡ byte → ⊥) → take size text ≡ unended byte (take size text)
   last-kept n = other (ne-eqb _ byte (λ e. n (sym last-is ∙ e))) _ _

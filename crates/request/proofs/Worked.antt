@@ -1,13 +1,10 @@
 -- Document 03's example sentence and plain lines, and a request for each refusal and rule of places, worked by computation.
-use mathlib.Core.{Path.{_≡_, refl}, List.{List, [], _∷_, _++_, map}}
-use Prim.Native.Nat.{ℕ}
-use lib.{Ieee.{binary32, toBits, round}, IntN.{ℤ, pos}}
+use Rattle.numbers.{proofs.Prelude.{ℕ, binary32, ℤ, pos, List, [], _∷_, map, _≡_, refl}, specs.Reply.{Reply, given, refused}}
+use lib.Ieee.{toBits, round}
 use Rattle.calendar.specs.{Calendar.{isLeap, yearLength, daysOfYears, monthLength, daysOfMonths, dayNumber}, Moments.{secondsTo, instantOf}}
-use Rattle.numbers.specs.Reply.{Reply, given, refused, refusal}
-use Rattle.request.specs.{Text.{every, formed, count, xors, until, behind, unblanked}, Number.{spelled, valueFrom, partOf, isTail, hasForm, angleOf, sideOf, decimalOf, degreesOf, nearestTo}}
-use Rattle.request.specs.Clock.{isDate, isTime, timeOf, fullYear, dateOf, momentOf, secondsOf, whenOf, instantAt}
-use Rattle.request.specs.Request.{isSealed, isAddress, isMode, turned, fixOf, fieldsOf, sentenceOf, plainOf, speltOf, meaning, requestOf}
-use Rattle.request.specs.declared.read.Fix.{Fix}
+use Rattle.request.specs.{Clock.{isDate, isTime, timeOf, fullYear, dateOf, momentOf, secondsOf, whenOf, instantAt}, Number.{spelled, valueFrom, partOf, isTail, hasForm, angleOf, sideOf}}
+use Rattle.request.specs.{Number.{decimalOf, degreesOf, nearestTo}, Request.{isSealed, isAddress, isMode, turned, fixOf, fieldsOf, sentenceOf, plainOf, speltOf, meaning, requestOf}}
+use Rattle.request.specs.{Text.{every, formed, count, xors, until, behind, unblanked}, declared.read.Fix.{Fix}}
 
 -- latitude and longitude as bits, and the instant; or number and detail
 pub data Worked : Type 0 where
@@ -76,7 +73,7 @@ worked =
 
 -- the definitions and the document agree on every row
 pub worked-hold : map computed worked ≡ worked
-unfolding worked computed row shownAs every formed count xors until behind unblanked spelled valueFrom partOf isTail hasForm angleOf sideOf decimalOf degreesOf nearestTo isDate isTime timeOf
-    fullYear dateOf momentOf secondsOf whenOf instantAt isSealed isAddress isMode turned fixOf fieldsOf sentenceOf plainOf speltOf meaning requestOf isLeap yearLength daysOfYears monthLength
-    daysOfMonths dayNumber secondsTo instantOf toBits round
+unfolding worked computed row shownAs every formed count xors until behind unblanked spelled valueFrom partOf isTail hasForm angleOf sideOf decimalOf degreesOf
+    nearestTo isDate isTime timeOf fullYear dateOf momentOf secondsOf whenOf instantAt isSealed isAddress isMode turned fixOf fieldsOf sentenceOf plainOf
+    speltOf meaning requestOf isLeap yearLength daysOfYears monthLength daysOfMonths dayNumber secondsTo instantOf toBits round
 worked-hold = refl

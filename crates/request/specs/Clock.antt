@@ -1,10 +1,7 @@
 -- Dates, times of day and instants that a request spells.
-use mathlib.Core.{Bool.{Bool, _&&_}, List.{List, [], _∷_}}
-use Prim.Native.Nat.{ℕ, suc, _+_, _-_, _*_, _^_}
-use lib.{Dec.{leb, ltb, eqb}, IntN.{ℤ, pos, negsuc}, ListN.{length}}
+use Rattle.numbers.specs.{Answer.{Answer, if_then_else_}, Prelude.{ℕ, _+_, _-_, _*_, _^_, eqb, ltb, leb, ℤ, pos, negsuc, length, Bool, _&&_, List, [], _∷_}}
 use Rattle.calendar.specs.{Calendar.{isLeap, monthLength, dayNumber}, Moments.{instantOf}}
-use Rattle.numbers.specs.Answer.{Answer, found, if_then_else_, _>>=_}
-use Rattle.request.specs.{Text.{digits, formed}, Number.{spelled, partOf, valueOf, hasForm, unsigned, isMinus}}
+use Rattle.request.specs.{Number.{spelled, partOf, valueOf, hasForm, unsigned, isMinus}, Text.{digits, formed}}
 
 pub record Date : Type 0 where
   pub year : ℕ

@@ -1,8 +1,7 @@
 -- What "the f32 nearest to a fraction, ties to even" means, over whole numbers: a finite f32 is in size a whole number of times 2 ^ -149.
-use mathlib.Core.{Bool.{Bool, false, Bool·beq}, Logic.{_⊎_}, Path.{_≡_}}
-use Prim.Native.Nat.{ℕ, _+_, _-_, _*_, _/_, _%_, _^_, _≤_}
-use lib.{Dec.{T}, Ieee.{Float, nan, inf, fin, binary32, size, fits, Scale.{finite}}}
-use Rattle.numbers.specs.{Answer.{if_then_else_}, Float.Root.{unitsOf}}
+use Rattle.numbers.specs.{Answer.{if_then_else_}, Float.Root.{unitsOf}, Prelude.{ℕ, _+_, _-_, _*_, _/_, _%_, _^_, _≤_, T, Float, binary32, fin, nan, inf, Bool, false, _≡_}}
+use mathlib.Core.Bool.{Bool·beq}
+use lib.Ieee.{size, fits, Scale.{finite}}
 use Rattle.request.specs.Number.{Fraction}
 
 -- how far two numbers are apart

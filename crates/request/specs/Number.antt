@@ -1,8 +1,7 @@
 -- Numbers that digits spell, degrees as exact fractions, and the f32 nearest to one.
-use mathlib.Core.{Bool.{Bool, true, false, _&&_, _||_}, List.{List, [], _∷_}}
-use Prim.Native.Nat.{ℕ, _+_, _-_, _*_, _^_}
-use lib.{Dec.{leb, eqb}, Ieee.{Float, fin, binary32, round}, IntN.{pos}, ListN.{length, getD, take, drop}}
+use Rattle.numbers.specs.Prelude.{ℕ, _+_, _-_, _*_, _^_, eqb, leb, Float, binary32, fin, pos, length, take, drop, getD, Bool, true, false, _&&_, _||_, List, [], _∷_}
 use Rattle.numbers.specs.Answer.{Answer, found, failed, refused, if_then_else_, _>>=_}
+use lib.Ieee.{round}
 use Rattle.request.specs.Text.{isDigit, digits, formed, until}
 
 -- what bytes spell: nothing where they have not the form, 84 where they have it but are out of range

@@ -1,6 +1,5 @@
 -- What `request-instant` says of a request: the one instant at which a clock in UTC shows its date and time.
-use lib.IntN.{ℤ, pos}
-use mathlib.Core.Path.{_≡_}
+use Rattle.numbers.specs.Prelude.{ℤ, pos, _≡_}
 use Rattle.calendar.specs.{Calendar.{weekdayOf, dayNumber}, Civil.{CivilOf}, declared.civil.{Civil.the-variants.{Shown}, Reading.{Reading}}}
 use Rattle.request.specs.Clock.{Date, Time}
 

@@ -1,10 +1,8 @@
 -- S-1, the request: a sentence of a receiver or a plain line, its refusals in their order, and what it means.
-use mathlib.Core.{Bool.{Bool, true, false, not, _&&_, _||_}, List.{List, [], _∷_}}
-use Prim.Native.Nat.{ℕ, _+_, _-_, _/_, _%_}
-use lib.{Dec.{leb, ltb, eqb}, ListN.{length, getD, take, drop}}
+use Rattle.numbers.specs.Prelude.{ℕ, _+_, _-_, _/_, _%_, eqb, ltb, leb, length, take, drop, getD, Bool, true, false, _&&_, _||_, not, List, [], _∷_}
 use Rattle.numbers.specs.{Answer.{Answer, found, failed, if_then_else_}, Reply.{Reply, given, refused, refusal, plain, demand, _>>=_, _>>_}}
-use Rattle.request.specs.{Text.{every, formed, count, xors, behind, field, word, unblanked, pastWord, nextWord, lineOf}, Number.{Fraction, angleOf, sideOf, degreesOf, nearestTo}}
-use Rattle.request.specs.{Clock.{When, utc, timeOf, dateOf, whenOf, instantAt}, declared.read.Fix.{Fix}}
+use Rattle.request.specs.{Clock.{When, utc, timeOf, dateOf, whenOf, instantAt}, Number.{Fraction, angleOf, sideOf, degreesOf, nearestTo}}
+use Rattle.request.specs.{Text.{every, formed, count, xors, behind, field, word, pastWord, nextWord, lineOf}, declared.read.Fix.{Fix}}
 use Rattle.numbers.specs.Answer as A
 
 -- what a request spells

@@ -1,8 +1,6 @@
 -- Bytes of a line: what they are, and the fields and words that they make.
-use mathlib.Core.{Bool.{Bool, true, false, _&&_, _||_}, List.{List, [], _∷_}}
-use Prim.Native.Nat.{ℕ, zero, suc, _+_, _-_}
-use lib.{Bits.{bitXor}, Dec.{leb, eqb}, ListN.{length, getD, take, drop}}
-use Rattle.numbers.specs.Answer.{if_then_else_}
+use Rattle.numbers.specs.{Answer.{if_then_else_}, Prelude.{ℕ, zero, suc, _+_, _-_, eqb, leb, length, take, drop, getD, Bool, true, false, _&&_, _||_, List, [], _∷_}}
+use lib.Bits.{bitXor}
 
 -- 0 to 9
 abbrev pub isDigit : ℕ → Bool

@@ -1,11 +1,8 @@
 -- What the code's answers say, and what its inner functions say to each other.
-use mathlib.Core.{Bool.{Bool, true, _&&_, _||_}, List.{List}}
-use Prim.Native.Nat.{ℕ, suc, _+_, _-_, _*_, _/_, _^_, _≤_, _<_}
-use lib.{Dec.{leb, eqb}, Ieee.{Float}, IntN.{ℤ}}
-use Rattle.numbers.specs.{Answer.{Answer, found, if_then_else_}, Reply.{Reply, given, refused, _>>=_}}
+use Rattle.numbers.specs.{Answer.{Answer, found, if_then_else_}, Prelude.{ℕ, _-_, _*_, _/_, _^_, _<_, eqb, leb, Float, ℤ, Bool, _&&_, _||_}, Reply.{Reply, given, refused, _>>=_}}
+use Rattle.request.specs.{Clock.{Date, Time, isDate, isTime, dayOf, secondOf, signedOf}, Number.{Size}, Text.{isDigit, isCapital}, declared.clock.{Instant.{Instant}, Whole.{Whole}}}
+use Rattle.request.specs.declared.{degrees.{Degrees.{Degrees}, Sided.{Sided}, Sized.{Sized}}, read.{Asked.{Asked}, Fix.{Fix}}}
 use Rattle.numbers.specs.Answer as A
-use Rattle.request.specs.{Text.{isDigit, isCapital}, Number.{Size, Fraction, nearestTo}, Clock.{Date, Time, isDate, isTime, dayOf, secondOf, signedOf}}
-use Rattle.request.specs.declared.{degrees.{Sized.{Sized}, Sided.{Sided}, Degrees.{Degrees}}, clock.{Whole.{Whole}, Instant.{Instant}}, read.{Fix.{Fix}, Asked.{Asked}}}
 use Rattle.request.specs.declared.degrees.Sized.the-variants as S
 use Rattle.request.specs.declared.degrees.Sided.the-variants as T
 use Rattle.request.specs.declared.degrees.Degrees.the-variants as D

@@ -1,13 +1,10 @@
 -- The new file: document 02, Q-7, "version and metadata section stay, names and notice go inline".
-use Prim.Native.Nat.{ℕ, zero, suc, _+_, _-_, _%_, _^_, _<_, _≤_}
-use mathlib.Core.{Bool.{Bool, true, false, _&&_}, Path.{_≡_}, List.{List, [], _∷_, _++_, flatMap}}
-use lib.{Dec.{leb, ltb}, IntN.{ℤ}, ListN.{length, take, drop}}
-use Rattle.header.specs.{Text.{stringAt}, declared.header.Head.{Head}}
-use Rattle.salvage.specs.{inner.Moves.Laid.{cap, Capped}, Moves.Moves.{movesAt, movesBytes}}
-use Rattle.border.specs.Encoding.{versionOf}
+use Rattle.numbers.specs.Prelude.{ℕ, zero, suc, _+_, _-_, _%_, _^_, _≤_, _<_, ltb, leb, ℤ, length, take, drop, Bool, true, false, _&&_, List, [], _∷_, _++_, flatMap, _≡_}
 use Rattle.numbers.specs.{Point.{readI32}, Reply.{Reply, given, refused, plain, demand, _orElse_, _>>=_, _>>_}, Spelling.{varintOf, signedForm}}
+use Rattle.header.specs.{Text.{stringAt}, declared.header.Head.{Head}}
+use Rattle.salvage.specs.{Kept.{encodingIn, borderPlace}, Moves.Moves.{movesAt, movesBytes}, inner.Moves.Laid.{cap, Capped}}
+use Rattle.border.specs.Encoding.{versionOf}
 use Rattle.table.specs.declared.{rows.Row.{Row}, table.Bounds.{Bounds}}
-use Rattle.salvage.specs.Kept.{encodingIn, borderPlace}
 
 -- ---- header
 -- so many texts from a place on, inline: 26 "for a 256-byte name or notice". The bytes are stored as they stand.

@@ -1,15 +1,12 @@
 -- Which entries of a damaged file are kept, and why the others are dropped: document 02, Q-7.
-use Prim.Native.Nat.{ℕ, zero, suc, _+_, _-_, _%_, _^_, _<_}
-use mathlib.Core.{Bool.{Bool, true, false, _&&_}, Path.{_≡_}, List.{List, [], _∷_}}
-use lib.Dec.{ltb, leb}
+use Rattle.numbers.specs.Prelude.{ℕ, zero, suc, _+_, _-_, _%_, _^_, _<_, ltb, leb, Bool, true, false, _&&_, List, [], _∷_, _≡_}
+use Rattle.numbers.specs.{Answer.{Answer, found, failed, if_then_else_}, Reply.{Reply, given, refused, plain, demand, _orElse_, _>>=_, _>>_}, Varint.{Numeral, readingOf}}
 use Rattle.border.specs.{Encoding.{versionOf, encodedBy}, Trace.{traceOf, borderAt}, declared.reader.Encoding.{Encoding}}
 use Rattle.header.specs.{Text.{textAt}, declared.header.Head.{Head}}
-use Rattle.salvage.specs.Moves.Moves.{endOf}
-use Rattle.numbers.specs.{Answer.{Answer, found, failed, if_then_else_}, Reply.{Reply, given, refused, plain, demand, _orElse_, _>>=_, _>>_}, Varint.{Numeral, readingOf}}
-use Rattle.numbers.specs.Answer as A
+use Rattle.salvage.specs.{Moves.Moves.{endOf}, declared.{strings.{Field.{Field}, Good.{Good}}, walk.Kept.{Kept}}}
 use Rattle.table.specs.{Rows.{Rows, row, tableEnd, unreadable, rowsFrom, after}, declared.rows.{Cursor.{Cursor}, Row.{Row}}}
+use Rattle.numbers.specs.Answer as A
 use Rattle.table.specs.Rows as T
-use Rattle.salvage.specs.declared.{walk.Kept.{Kept}, strings.{Field.{Field}, Good.{Good}}}
 use Rattle.salvage.specs.declared.walk.Kept.the-variants as K
 use Rattle.salvage.specs.declared.strings.Field.the-variants as F
 use Rattle.salvage.specs.declared.strings.Good.the-variants as G

@@ -1,15 +1,12 @@
 -- What salvage promises, as statements: document 02, Q-7. docs/changes/Q-07.md says which of them are proved.
-use Prim.Native.Nat.{ℕ, zero, suc, _+_, _≤_, _<_}
-use mathlib.Core.{Bool.{Bool, true, false}, List.{List, [], _∷_}, Path.{_≡_}}
-use lib.ListN.{length}
+use Rattle.numbers.specs.Prelude.{ℕ, zero, suc, _+_, _≤_, _<_, length, Bool, true, false, List, [], _∷_, _≡_}
+use Rattle.numbers.specs.{Answer.{Answer, found, failed}, Reply.{Reply, given, refused, _>>=_}, Varint.{readingOf}, declared.refusal.Refusal.{Refusal}}
 use Rattle.verdict.specs.Verdict.{judgedAt}
 use Rattle.border.specs.{Trace.{traceOf, borderAt}, declared.place.{FixedLat.{FixedLat}, FixedLon.{FixedLon}}}
 use Rattle.header.specs.{Header.{headBy}, Text.{textAt, bytesOf}, declared.{header.Head.{Head}, text.Text.{Text}}}
-use Rattle.salvage.specs.Moves.Moves.{endOf}
-use Rattle.numbers.specs.{Answer.{Answer, found, failed}, Reply.{Reply, given, refused, _>>=_}, Varint.{readingOf}, declared.refusal.Refusal.{Refusal}}
-use Rattle.numbers.specs.Answer as A
+use Rattle.salvage.specs.{Kept.{encodingIn, borderPlace, recordPlace, stringInside}, Moves.Moves.{endOf}, Salvage.{Salvaged, salvagedOf}}
 use Rattle.table.specs.{Rows.{Rows, row, tableEnd, after, startAt, rowBy, rowsIn}, declared.rows.{Cursor.{Cursor}, Row.{Row}}}
-use Rattle.salvage.specs.{Kept.{encodingIn, borderPlace, recordPlace, stringInside}, Salvage.{Salvaged, salvagedOf}}
+use Rattle.numbers.specs.Answer as A
 
 -- ---- `salvage-list`: the list is exactly the dropped entries with their first reasons, in the old order, and ends after an unreadable one
 -- how an entry's border ends, read to its end

@@ -1,9 +1,6 @@
 -- Salvage: the reply and both lent outputs. Document 02, Q-7.
-use Prim.Native.Nat.{ℕ, _/_, _^_, min}
-use mathlib.Core.{Bool.{true, _&&_}, List.{List}}
-use lib.{Dec.{ltb, leb}, ListN.{length}}
+use Rattle.numbers.specs.{Lists.{zeros, padded}, Prelude.{ℕ, _/_, _^_, min, ltb, leb, length, true, _&&_, List}, Reply.{Reply, given, refused, plain, demand, _>>=_, _>>_}}
 use Rattle.header.specs.Header.{headBy}
-use Rattle.numbers.specs.{Lists.{zeros, padded}, Reply.{Reply, given, refused, plain, demand, _>>=_, _>>_}}
 use Rattle.table.specs.{Rows.{rowsIn}, declared.rows.Row.{Row}}
 use Rattle.salvage.specs.{File.{headTexts, newFile}, Kept.{keptOf, linesFrom}}
 

@@ -1,17 +1,11 @@
 -- What is written for a request: the slip's line with its end, or the reason. Assumes nothing.
-use Prim.Native.Nat.{ℕ, _+_, _-_, _≤_, _<_}
-use borrow.Author.Tests.{eq-eqb, ne-eqb}
-use lib.{ListN.{length, take, drop, set, length-append, length-drop, length-set}, Seq.{take-suc-set, take-at}}
-use mathlib.Core.{List.{List, [], _∷_, _++_, append-assoc}, Path.{_≡_, refl, sym, ap, _∙_, subst}}
-use native.Mathlib.{Numerals.{add-one}, Omega.{arith}}
+use Rattle.numbers.proofs.Prelude.{ℕ, _+_, _-_, _≤_, _<_, eq-eqb, ne-eqb, length, take, drop, set, length-append, length-drop, length-set, take-at, take-suc-set, List, [], _∷_, _++_, append-assoc}
+use Rattle.numbers.proofs.Prelude.{_≡_, refl, sym, ap, subst, _∙_, add-one, arith}
+use Rattle.numbers.{proofs.Replies.{given-one}, specs.{Lists.{zeros, padded}, Reply.{Reply, given, refused, _>>=_}, declared.refusal.Refusal.{Refusal}}}
 use Rattle.line.{proofs.{Decimals.{decimal-short}, Puts.{put-front, put-length}}, specs.Put.{Put, decimal}}
-use Rattle.numbers.proofs.Replies.{given-one}
-use Rattle.numbers.specs.{Lists.{zeros, padded}, Reply.{Reply, given, refused, _>>=_}, declared.refusal.Refusal.{Refusal}}
 use Rattle.shell.proofs.Saying.{words-short}
-use Rattle.shell.specs.Answer.{hitWords, textRoom, lineRoom, slipFor, reasonLine, lineFor, faultFor, Rooms, Answers}
-use Rattle.shell.specs.{Text.{bytes}, Words.{wordsOf}}
-use Rattle.slip.proofs.Length.{slip-length}
-use Rattle.slip.specs.{Slip.{Slip, slipOf, Replied, replied, repliedOf, slipped}, Told.{told}, declared.slip.{Stamped.{Stamped}, Slipped.{Slipped}}}
+use Rattle.shell.specs.{Answer.{hitWords, textRoom, lineRoom, slipFor, reasonLine, lineFor, faultFor, Rooms, Answers}, Text.{bytes}, Words.{wordsOf}}
+use Rattle.slip.{proofs.Length.{slip-length}, specs.{Slip.{Slip, slipOf, Replied, replied, repliedOf, slipped}, Told.{told}, declared.slip.{Slipped.{Slipped}, Stamped.{Stamped}}}}
 use Rattle.slip.specs.declared.slip.Slipped.the-variants as S
 
 -- ---- a reason
@@ -21,12 +15,8 @@ said-short = omega arith
 
 reason-short : (why : Refusal) → length (reasonLine why) ≤ lineRoom + 1
 unfolding reasonLine
-reason-short why =
-    let words = bytes (wordsOf (why .number)) in
-    let behind = words ++ (10 ∷ []) in
-    let detail = decimal (why .detail) ++ (32 ∷ behind) in
-    let cause = decimal (why .cause) ++ (32 ∷ detail) in
-    let number = decimal (why .number) ++ (32 ∷ cause) in
+reason-short why = let words = bytes (wordsOf (why .number)) in let behind = words ++ (10 ∷ []) in let detail = decimal (why .detail) ++ (32 ∷ behind) in
+    let cause = decimal (why .cause) ++ (32 ∷ detail) in let number = decimal (why .number) ++ (32 ∷ cause) in
     omega (
       arith,
       said-short,
@@ -62,10 +52,8 @@ passed-over why rooms e = record { rooms = rooms; fits = omega arith; line = lin
 
 pub said-why : {hits text before out : List ℕ} (why : Refusal) (size : ℕ) → Rooms hits text before → (why .number ≡ 83 → ⊥) → Put before 0 (reasonLine why) out size
     → Answers (refused why) hits text out (record { size = size; fault = 1 })
-said-why {hits} {text} {before} {out} why size rooms n put =
-    let short = reason-short why in
-    let front = put-front put (omega (arith, short, rooms .line-room)) in
-    record {
+said-why {hits} {text} {before} {out} why size rooms n put = let short = reason-short why in
+    let front = put-front put (omega (arith, short, rooms .line-room)) in record {
       rooms = record { hit-room = rooms .hit-room; text-room = rooms .text-room; line-room = put-length put ∙ rooms .line-room };
       fits = omega (arith, short, front .0);
       line = front .1 ∙ line-why why n;
@@ -96,9 +84,8 @@ unfolding repliedOf
 by-refused n room size why (given slip) e r = let said = sym r ∙ ap (λ (x : Replied). x .reply) e in let z : _≡_ {A = ℕ} 0 1 = cc in absurd (omega arith)
 by-refused n room size why (refused other) e r = let said = sym r ∙ ap (λ (x : Replied). x .reply) e in let same : why ≡ other = cc in ap refused same
 
-pub slip-refused : (request map zones : List ℕ) {n room size : ℕ} {answer : Slipped} {hits text out : List ℕ} {why : Refusal}
-    → n ≡ hitWords → room ≡ textRoom → size ≡ lineRoom → answer ≡ S.Refused why → replied (told answer) hits text out ≡ slipped request map [] zones n room size
-    → refused why ≡ slipFor request map zones
+pub slip-refused : (request map zones : List ℕ) {n room size : ℕ} {answer : Slipped} {hits text out : List ℕ} {why : Refusal} → n ≡ hitWords → room ≡ textRoom
+    → size ≡ lineRoom → answer ≡ S.Refused why → replied (told answer) hits text out ≡ slipped request map [] zones n room size → refused why ≡ slipFor request map zones
 unfolding slipped
 slip-refused request map zones {n} {room} {size} {why = why} en er es is e = by-refused n room size why _ e (ap told is) ∙ in-rooms request map zones en er es
 
@@ -125,22 +112,18 @@ by-given n room size stamped (given slip) e r law =
     }
 by-given n room size stamped (refused why) e r law = let said = sym r ∙ ap (λ (x : Replied). x .reply) e in let z : _≡_ {A = ℕ} 0 1 = cc in absurd (omega arith)
 
-pub stood : (request map zones : List ℕ) (n room size : ℕ) {answer : Slipped} {hits text out : List ℕ} {stamped : Stamped}
-    → answer ≡ S.Stamped stamped → replied (told answer) hits text out ≡ slipped request map [] zones n room size
-    → Stood (slipOf request map [] zones n room size) size stamped out
+pub stood : (request map zones : List ℕ) (n room size : ℕ) {answer : Slipped} {hits text out : List ℕ} {stamped : Stamped} → answer ≡ S.Stamped stamped
+    → replied (told answer) hits text out ≡ slipped request map [] zones n room size → Stood (slipOf request map [] zones n room size) size stamped out
 unfolding slipped
 stood request map zones n room size {stamped = stamped} is e = by-given n room size stamped _ e (ap told is) (λ slip given. slip-length request map [] zones n room size given)
 
 -- it is no longer than its room
 pub stood-fits : {s : Reply Slip} {size : ℕ} {stamped : Stamped} {out : List ℕ} → Stood s size stamped out → length out ≡ size → stamped .length ≤ size
-stood-fits {s} {size} {stamped} {out} st e =
-    omega (arith, st .long, e, ap length (st .padded-out), length-append (st .line) (zeros (size - length (st .line))))
+stood-fits {s} {size} {stamped} {out} st e = omega (arith, st .long, e, ap length (st .padded-out), length-append (st .line) (zeros (size - length (st .line))))
 
 end-line : (line rest : List ℕ) (k : ℕ) → k ≡ length line → k < length (line ++ rest) → take (k + 1) (set (line ++ rest) k 10) ≡ line ++ (10 ∷ [])
 end-line line rest k e h =
-    ap (λ (n : ℕ). take n (set (line ++ rest) k 10)) (add-one k)
-    ∙ take-suc-set (line ++ rest) k 10 h
-    ∙ ap (λ (l : List ℕ). l ++ (10 ∷ [])) (take-at line rest k (sym e))
+    ap (λ (n : ℕ). take n (set (line ++ rest) k 10)) (add-one k) ∙ take-suc-set (line ++ rest) k 10 h ∙ ap (λ (l : List ℕ). l ++ (10 ∷ [])) (take-at line rest k (sym e))
 
 line-given : {reply : Reply (List ℕ)} (line : List ℕ) → given line ≡ reply → line ++ (10 ∷ []) ≡ lineFor reply
 unfolding lineFor
@@ -155,19 +138,13 @@ pub stood-in : {s : Reply Slip} {size : ℕ} {stamped : Stamped} {out : List ℕ
     → stamped .length < length (out ++ drop lineRoom before)
 stood-in {out = out} st before eb eo es = omega (arith, stood-fits st eo, es, back out before eb (eo ∙ es))
 
-pub stamped-line : (request map zones before : List ℕ) {n room size : ℕ} {after hits text out : List ℕ} {stamped : Stamped}
-    → n ≡ hitWords → room ≡ textRoom → size ≡ lineRoom → length hits ≡ n → length text ≡ room → length before ≡ lineRoom + 1 → length out ≡ size
-    → Stood (slipOf request map [] zones n room size) size stamped out → after ≡ set (out ++ drop lineRoom before) (stamped .length) 10
-    → Answers (slipFor request map zones) hits text after (record { size = stamped .length + 1; fault = 0 })
-stamped-line request map zones before {n} {room} {size} {after} {hits} {text} {out} {stamped} en er es eh et eb eo st ea =
-    let k = stamped .length in
-    let tail = drop lineRoom before in
-    let fits = stood-fits st eo in
-    let whole = back out before eb (eo ∙ es) in
-    let reply = st .is ∙ in-rooms request map zones en er es in
-    let rest = zeros (size - length (st .line)) ++ tail in
-    let apart : out ++ tail ≡ st .line ++ rest = ap (λ (l : List ℕ). l ++ tail) (st .padded-out) ∙ append-assoc (st .line) (zeros (size - length (st .line))) tail in
-    record {
+pub stamped-line : (request map zones before : List ℕ) {n room size : ℕ} {after hits text out : List ℕ} {stamped : Stamped} → n ≡ hitWords → room ≡ textRoom
+    → size ≡ lineRoom → length hits ≡ n → length text ≡ room → length before ≡ lineRoom + 1 → length out ≡ size → Stood (slipOf request map [] zones n room size) size stamped out
+    → after ≡ set (out ++ drop lineRoom before) (stamped .length) 10 → Answers (slipFor request map zones) hits text after (record { size = stamped .length + 1; fault = 0 })
+stamped-line request map zones before {n} {room} {size} {after} {hits} {text} {out} {stamped} en er es eh et eb eo st ea = let k = stamped .length in
+    let tail = drop lineRoom before in let fits = stood-fits st eo in let whole = back out before eb (eo ∙ es) in
+    let reply = st .is ∙ in-rooms request map zones en er es in let rest = zeros (size - length (st .line)) ++ tail in
+    let apart : out ++ tail ≡ st .line ++ rest = ap (λ (l : List ℕ). l ++ tail) (st .padded-out) ∙ append-assoc (st .line) (zeros (size - length (st .line))) tail in record {
       rooms =
           record {
             hit-room = eh ∙ en;

@@ -1,10 +1,6 @@
 -- The requests of an input do not depend on the pieces that it comes in. Assumes nothing.
-use Prim.Native.Nat.{ℕ, _+_, _≤_, _<_}
-use borrow.Author.Tests.{eq-eqb, ne-eqb}
-use lib.{Dec.{eqb}, ListN.{length, take, drop, set, getD, length-append}, Seq.{length-take-le, take-all, take-append-le, take-suc-set}}
-use mathlib.Core.{Bool.{Bool, true, false}, List.{List, [], _∷_, _++_, append-assoc}, Path.{_≡_, refl, sym, ap, _∙_}}
-use native.Mathlib.{Numerals.{add-one}, Omega.{arith}}
-use Rattle.numbers.specs.Answer.{if_then_else_}
+use Rattle.numbers.proofs.Prelude.{ℕ, _+_, _≤_, _<_, eq-eqb, ne-eqb, eqb, length, take, drop, getD, set, length-append, length-take-le, take-all, take-suc-set, take-append-le, Bool, true, false}
+use Rattle.numbers.{proofs.Prelude.{List, [], _∷_, _++_, append-assoc, _≡_, refl, sym, ap, _∙_, add-one, arith}, specs.Answer.{if_then_else_}}
 use Rattle.request.proofs.Texts.{here}
 use Rattle.shell.specs.{Kept.{most, push, ended, left}, Turn.{Took, doneOf, restOf}}
 
@@ -26,11 +22,10 @@ unfolding left
 left-by line bytes byte h = rw (ne-eqb byte 10 h) refl
 
 -- ---- pieces
-ended-pieces-if : (line b a : List ℕ) (byte : ℕ) (t : Bool)
-    → ended [] (a ++ b) ≡ ended [] a ++ ended (left [] a) b
+ended-pieces-if : (line b a : List ℕ) (byte : ℕ) (t : Bool) → ended [] (a ++ b) ≡ ended [] a ++ ended (left [] a) b
     → ended (push line byte) (a ++ b) ≡ ended (push line byte) a ++ ended (left (push line byte) a) b
-    → (if t then (line ∷ ended [] (a ++ b)) else ended (push line byte) (a ++ b))
-    ≡ (if t then (line ∷ ended [] a) else ended (push line byte) a) ++ ended (if t then left [] a else left (push line byte) a) b
+    → (if t then (line ∷ ended [] (a ++ b)) else ended (push line byte) (a ++ b)) ≡ (if t then (line ∷ ended [] a) else ended (push line byte) a) ++ ended
+    (if t then left [] a else left (push line byte) a) b
 ended-pieces-if line b a byte true p q = ap (λ (r : List (List ℕ)). line ∷ r) p
 ended-pieces-if line b a byte false p q = q
 
@@ -40,9 +35,7 @@ unfolding ended left
 ended-pieces [] b line = refl
 ended-pieces (byte ∷ a) b line = ended-pieces-if line b a byte (eqb byte 10) (ended-pieces a b []) (ended-pieces a b (push line byte))
 
-left-pieces-if : (line b a : List ℕ) (byte : ℕ) (t : Bool)
-    → left [] (a ++ b) ≡ left (left [] a) b
-    → left (push line byte) (a ++ b) ≡ left (left (push line byte) a) b
+left-pieces-if : (line b a : List ℕ) (byte : ℕ) (t : Bool) → left [] (a ++ b) ≡ left (left [] a) b → left (push line byte) (a ++ b) ≡ left (left (push line byte) a) b
     → (if t then left [] (a ++ b) else left (push line byte) (a ++ b)) ≡ left (if t then left [] a else left (push line byte) a) b
 left-pieces-if line b a byte true p q = p
 left-pieces-if line b a byte false p q = q
@@ -56,8 +49,7 @@ left-pieces (byte ∷ a) b line = left-pieces-if line b a byte (eqb byte 10) (le
 pub took-none : (chunk : List ℕ) (from : ℕ) (line : List ℕ) → Took chunk from line [] from line
 took-none chunk from line = record { requests = refl; rest = refl }
 
-pub took-end : {chunk line l : List ℕ} {from at : ℕ} → Took chunk from line [] at l → at < length chunk → getD chunk at 0 ≡ 10
-    → Took chunk from line (doneOf 1 l) (at + 1) (restOf 1 l)
+pub took-end : {chunk line l : List ℕ} {from at : ℕ} → Took chunk from line [] at l → at < length chunk → getD chunk at 0 ≡ 10 → Took chunk from line (doneOf 1 l) (at + 1) (restOf 1 l)
 unfolding doneOf restOf
 took-end {chunk} {line} {l} {from} {at} t h e =
     record {
@@ -88,13 +80,11 @@ took-plain t = t
 pub push-room : (space : List ℕ) (size byte : ℕ) → length space ≡ most → size < most → take (size + 1) (set space size byte) ≡ push (take size space) byte
 unfolding push
 push-room space size byte h k =
-    ap (λ (n : ℕ). take n (set space size byte)) (add-one size)
-    ∙ take-suc-set space size byte (omega arith)
-    ∙ sym (take-all most (take size space ++ (byte ∷ [])) (omega (arith, length-append (take size space) (byte ∷ []), length-take-le size space (omega arith))))
+    ap (λ (n : ℕ). take n (set space size byte)) (add-one size) ∙ take-suc-set space size byte (omega arith) ∙ sym (take-all most (take size space ++ (byte ∷ []))
+    (omega (arith, length-append (take size space) (byte ∷ []), length-take-le size space (omega arith))))
 
 pub push-full : (space : List ℕ) (size byte : ℕ) → length space ≡ most → most ≤ size → take size space ≡ push (take size space) byte
 unfolding push
-push-full space size byte h k =
-    let e : take size space ≡ space = take-all size space (omega arith) in
+push-full space size byte h k = let e : take size space ≡ space = take-all size space (omega arith) in
     let whole : length (take size space) ≡ most = ap length e ∙ h in
     sym (take-append-le most (take size space) (byte ∷ []) (omega arith) ∙ take-all most (take size space) (omega arith))

@@ -1,14 +1,12 @@
 -- The words of a refusal: the code's text has those of the table, and they are short. Assumes nothing.
-use Prim.Native.{Nat.{ℕ, zero, suc, _+_, _≤_, _<_}, String.{String}}
-use borrow.Author.Tests.{eq-eqb, ne-eqb}
-use lib.{Dec.{T, eqb, leb, eqb→eq, leb→le}, ListN.{length, getD, drop, drop-of-length-le}}
-use mathlib.Core.{Bool.{Bool, true, false}, List.{List, [], _∷_, _++_, append-assoc, append-nil}, Path.{_≡_, refl, sym, ap, _∙_}}
-use native.Mathlib.Omega.{arith}
+use Rattle.numbers.proofs.Prelude.{ℕ, zero, suc, _+_, _≤_, _<_, eq-eqb, ne-eqb, eqb, leb, T, length, drop, getD, drop-of-length-le, Bool, true, false, List, [], _∷_, _++_, append-assoc, append-nil}
+use Rattle.numbers.{proofs.Prelude.{_≡_, refl, sym, ap, _∙_, arith}, specs.Answer.{if_then_else_}}
+use Prim.Native.String.{String}
+use lib.Dec.{eqb→eq, leb→le}
 use Rattle.calendar.proofs.Below.{all, below}
 use Rattle.line.{proofs.Puts.{put-length, put-then, put-none, put-as}, specs.Put.{Put}}
-use Rattle.numbers.specs.Answer.{if_then_else_}
-use Rattle.request.proofs.Texts as T
 use Rattle.shell.specs.{Text.{bytes}, Words.{table, wordsIn, wordsOf, lineAt, Says}}
+use Rattle.request.proofs.Texts as T
 
 -- ---- a line of a text
 line-end : (text : List ℕ) (byte : ℕ) → byte ≡ 10 → lineAt 0 (byte ∷ text) ≡ []
@@ -65,18 +63,15 @@ module _ {before whole text out : List ℕ} {at next left i : ℕ} (s : Still be
   -- one of its bytes
   pub still-byte : {out′ : List ℕ} {next′ : ℕ} → i < length text → (getD text i 0 ≡ 10 → ⊥) → left ≡ 0 → Put out next (getD text i 0 ∷ []) out′ next′
       → Still before at whole text out′ next′ left (i + 1)
-  still-byte h n z p =
-      let byte = getD text i 0 in
-      let behind = drop (i + 1) text in
-      record {
-        within = omega arith;
-        done = s .done ++ (byte ∷ []);
-        put = put-then (s .done) (byte ∷ []) (s .put) p;
-        rest =
-            append-assoc (s .done) (byte ∷ []) (lineAt left behind)
-            ∙ ap (λ (l : List ℕ). s .done ++ l) (sym (here h (ap (λ (k : ℕ). lineAt k (byte ∷ behind)) z ∙ line-byte behind byte n ∙ ap (λ (k : ℕ). byte ∷ lineAt k behind) (sym z))))
-            ∙ s .rest;
-      }
+  still-byte h n z p = let byte = getD text i 0 in let behind = drop (i + 1) text in record {
+    within = omega arith;
+    done = s .done ++ (byte ∷ []);
+    put = put-then (s .done) (byte ∷ []) (s .put) p;
+    rest =
+        append-assoc (s .done) (byte ∷ []) (lineAt left behind)
+        ∙ ap (λ (l : List ℕ). s .done ++ l) (sym (here h (ap (λ (k : ℕ). lineAt k (byte ∷ behind)) z ∙ line-byte behind byte n ∙ ap (λ (k : ℕ). byte ∷ lineAt k behind) (sym z))))
+        ∙ s .rest;
+  }
 
   -- a line before it ends, or goes on
   passed : (less : ℕ) → i < length text → lineAt left (getD text i 0 ∷ drop (i + 1) text) ≡ lineAt less (drop (i + 1) text) → Still before at whole text out next less (i + 1)
@@ -120,9 +115,8 @@ abbrev short : List (ℕ × String) → Bool
 short [] = true
 short ((known, words) ∷ more) = if leb (length (bytes words)) 80 then short more else false
 
-short-if : (known : ℕ) (words : String) (more : List (ℕ × String)) (number : ℕ) (t u : Bool) → (T t → length (bytes words) ≤ 80) → (T (short more) → length (bytes (wordsIn more number)) ≤ 80)
-    → T (if t then short more else false)
-    → length (bytes (if u then words else wordsIn more number)) ≤ 80
+short-if : (known : ℕ) (words : String) (more : List (ℕ × String)) (number : ℕ) (t u : Bool) → (T t → length (bytes words) ≤ 80)
+    → (T (short more) → length (bytes (wordsIn more number)) ≤ 80) → T (if t then short more else false) → length (bytes (if u then words else wordsIn more number)) ≤ 80
 short-if known words more number true true p q h = p tt
 short-if known words more number true false p q h = q h
 short-if known words more number false u p q h = absurd h

@@ -1,8 +1,6 @@
 -- What stands between the turns of a piece, and at the input's end. Assumes nothing.
-use Prim.Native.Nat.{ℕ, _≤_, max}
-use lib.ListN.{length, take, drop, drop-of-length-le}
-use mathlib.Core.{List.{List, [], _∷_, _++_, append-nil}, Path.{_≡_, refl, sym, ap, _∙_}}
-use native.Mathlib.Omega.{arith}
+use Rattle.numbers.proofs.Prelude.{ℕ, _≤_, length, take, drop, drop-of-length-le, List, [], _∷_, _++_, append-nil, _≡_, refl, sym, ap, _∙_, arith}
+use Prim.Native.Nat.{max}
 use Rattle.shell.proofs.Pieces.{took-none, took-then}
 use Rattle.shell.specs.{Answer.{slipFor, Rooms, Answers}, Kept.{most, ended, left}, Requests.{last}, Stream.{Served, Ready, Finished}, Turn.{Took, Turned}, Written.{worst}}
 use Rattle.shell.specs.declared.{answer.Answered.{Answered}, turn.Turn.{Turn}}
@@ -49,11 +47,9 @@ left-none line = refl
 
 pub sofar-served : {chunk line map zones space hits text out : List ℕ} {status at used w : ℕ} → Sofar chunk line status map zones at used space hits text out w → length chunk ≤ at
     → Served chunk line status map zones space hits text out (record { used = used; status = w })
-sofar-served {chunk} {line} {map} {zones} {space} {status = status} {at = at} {used = used} s h =
-    let l = take used space in
+sofar-served {chunk} {line} {map} {zones} {space} {status = status} {at = at} {used = used} s h = let l = take used space in
     let past : drop at chunk ≡ [] = drop-of-length-le chunk h in
-    let all : ended line chunk ≡ s .done = s .took .requests ∙ ap (λ (r : List (List ℕ)). s .done ++ r) (ap (ended l) past ∙ ended-none l) ∙ append-nil (s .done) in
-    record {
+    let all : ended line chunk ≡ s .done = s .took .requests ∙ ap (λ (r : List (List ℕ)). s .done ++ r) (ap (ended l) past ∙ ended-none l) ∙ append-nil (s .done) in record {
       fits = s .ready .fits;
       kept = s .ready .kept;
       rooms = s .ready .rooms;

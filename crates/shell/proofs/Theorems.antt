@@ -1,7 +1,6 @@
 -- What the program writes, and its exit status, by name. Assumes nothing.
-use Prim.Native.Nat.{ℕ}
-use mathlib.Core.{List.{List, [], flatten}, Path.{_≡_, sym, ap, _∙_}}
-use native.Mathlib.Omega.{arith}
+use Rattle.numbers.proofs.Prelude.{ℕ, List, [], _≡_, sym, ap, _∙_, arith}
+use mathlib.Core.List.{flatten}
 use Rattle.shell.proofs.Whole.{kept-lines, kept-worst, run-lines, exit-status}
 use Rattle.shell.specs.{Run.{Run, Exit}, Written.{written, statusOf}}
 

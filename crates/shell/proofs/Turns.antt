@@ -1,10 +1,7 @@
 -- What a turn takes and writes. Assumes nothing.
-use Prim.Native.Nat.{ℕ, zero, suc}
-use lib.ListN.{take}
-use mathlib.Core.{List.{List, [], _∷_, append-nil}, Path.{_≡_, refl, sym, _∙_}}
-use native.Mathlib.Omega.{arith}
-use Rattle.shell.specs.{Answer.{slipFor, lineFor, faultFor, Rooms, Answers}, Turn.{Took, Gathered, Turned, doneOf, restOf}, Written.{linesOf, worst}}
-use Rattle.shell.specs.declared.{answer.Answered.{Answered}, gather.Step.{Step}}
+use Rattle.numbers.proofs.Prelude.{ℕ, zero, suc, take, List, [], _∷_, append-nil, _≡_, refl, sym, _∙_, arith}
+use Rattle.shell.specs.{Answer.{slipFor, lineFor, faultFor, Rooms, Answers}, Turn.{Took, Gathered, Turned, doneOf, restOf}, Written.{linesOf, worst}, declared.answer.Answered.{Answered}}
+use Rattle.shell.specs.declared.gather.Step.{Step}
 
 as-plain : {chunk line l : List ℕ} {from next : ℕ} (ended : ℕ) → ended ≡ 0 → Took chunk from line (doneOf ended l) next (restOf ended l) → Took chunk from line [] next l
 unfolding doneOf restOf
@@ -44,17 +41,15 @@ worst-one map zones request = omega arith
 pub turned-one : {chunk line space : List ℕ} {from : ℕ} (map zones : List ℕ) {hits text out : List ℕ} (step : Step) (answered : Answered) → Gathered chunk from line space step → (step .ended ≡ 0 → ⊥)
     → Answers (slipFor (take (step .used) space) map zones) hits text out answered
     → Turned chunk from line space map zones hits text out (record { next = step .next; used = 0; size = answered .size; fault = answered .fault })
-turned-one {chunk} {line} {space} {from} map zones step answered g n a =
-    let request = take (step .used) space in
-    record {
-      done = request ∷ [];
-      within = g .within;
-      onward = g .onward;
-      fits = omega arith;
-      kept = g .kept;
-      rooms = a .rooms;
-      takes = a .fits;
-      took = as-ended (step .ended) n (g .took);
-      lines = a .line ∙ lines-one map zones request;
-      faults = a .fault ∙ worst-one map zones request;
-    }
+turned-one {chunk} {line} {space} {from} map zones step answered g n a = let request = take (step .used) space in record {
+  done = request ∷ [];
+  within = g .within;
+  onward = g .onward;
+  fits = omega arith;
+  kept = g .kept;
+  rooms = a .rooms;
+  takes = a .fits;
+  took = as-ended (step .ended) n (g .took);
+  lines = a .line ∙ lines-one map zones request;
+  faults = a .fault ∙ worst-one map zones request;
+}

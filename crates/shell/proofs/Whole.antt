@@ -1,16 +1,13 @@
 -- A whole input: what a run writes is the lines of its requests, and its status is theirs, however the input comes in pieces. Assumes nothing.
-use Prim.Native.Nat.{ℕ, zero, suc, _+_, _-_, _≤_, _<_, max}
-use borrow.Author.Tests.{lt-leb, leb-true, leb-false}
-use lib.{Dec.{eqb, leb}, ListN.{length, take, drop, getD, drop-of-length-le}, Seq.{length-take-le, take-all}}
-use mathlib.Core.{Bool.{Bool, true, false}, List.{List, [], _∷_, _++_, append-assoc, flatten}, Path.{_≡_, refl, sym, ap, _∙_}}
-use native.Mathlib.Omega.{arith}
-use Rattle.numbers.specs.{Answer.{if_then_else_}, Reply.{refused, refusal}}
+use Rattle.numbers.proofs.Prelude.{ℕ, zero, suc, _+_, _-_, _≤_, _<_, leb-true, lt-leb, leb-false, eqb, leb, length, take, drop, getD, drop-of-length-le, length-take-le, take-all, Bool, true, false}
+use Rattle.numbers.{proofs.Prelude.{List, [], _∷_, _++_, append-assoc, _≡_, refl, sym, ap, _∙_, arith}, specs.{Answer.{if_then_else_}, Reply.{refused, refusal}}}
+use Prim.Native.Nat.{max}
+use mathlib.Core.List.{flatten}
 use Rattle.request.specs.{Request.{requestOf, speltOf}, Text.{unended, lineOf}}
 use Rattle.shell.proofs.{Pieces.{ended-pieces, left-pieces}, Streams.{worst-both, ended-none, left-none}, Turns.{lines-one}}
-use Rattle.shell.specs.Answer.{slipFor, lineFor, faultFor}
-use Rattle.shell.specs.{Kept.{most, push, ended, left}, Requests.{last, requestsFrom, requests}, Written.{linesOf, worst, written, statusOf}}
+use Rattle.shell.specs.{Answer.{slipFor, lineFor, faultFor}, Kept.{most, push, ended, left}, Requests.{last, requestsFrom, requests}}
+use Rattle.shell.specs.{Run.{Turns, Run, Exit, over, turn, ends, ends-line, piece, finished, served}, Written.{linesOf, worst, written, statusOf}}
 use Rattle.slip.specs.Slip.{slipOf}
-use Rattle.shell.specs.Run.{Turns, Run, Exit, over, turn, ends, ends-line, piece, finished, served}
 
 -- ---- the front of a request that is too long is too long
 unended-if : (text : List ℕ) (t : Bool) → length text ≤ length (if t then take (length text - 1) text else text) + 1
@@ -25,13 +22,11 @@ unfolding requestOf speltOf
 too-long text h = rw (lt-leb (length (lineOf text)) 255 (omega (arith, unended-long 10 text, unended-long 13 (unended 10 text)))) refl
 
 request-front : (text : List ℕ) → requestOf (take most text) ≡ requestOf text
-request-front text = go (leb (length text) most) refl
-  where
-    go : (t : Bool) → leb (length text) most ≡ t → requestOf (take most text) ≡ requestOf text
-    go true e = ap requestOf (take-all most text (leb-true (length text) most e))
-    go false e =
-        let h = leb-false (length text) most e in
-        too-long (take most text) (omega (arith, h, length-take-le most text (omega (arith, h)))) ∙ sym (too-long text (omega (arith, h)))
+request-front text = go (leb (length text) most) refl where
+  go : (t : Bool) → leb (length text) most ≡ t → requestOf (take most text) ≡ requestOf text
+  go true e = ap requestOf (take-all most text (leb-true (length text) most e))
+  go false e = let h = leb-false (length text) most e in
+      too-long (take most text) (omega (arith, h, length-take-le most text (omega (arith, h)))) ∙ sym (too-long text (omega (arith, h)))
 
 slip-front : (request map zones : List ℕ) → slipFor (take most request) map zones ≡ slipFor request map zones
 unfolding slipFor slipOf
@@ -97,14 +92,12 @@ module _ (map zones : List ℕ) where
   unfolding linesOf
   lines-both [] ys = refl
   lines-both (x ∷ xs) ys =
-      ap (λ (r : List ℕ). lineFor (slipFor x map zones) ++ r) (lines-both xs ys)
-      ∙ sym (append-assoc (lineFor (slipFor x map zones)) (linesOf map zones xs) (linesOf map zones ys))
+      ap (λ (r : List ℕ). lineFor (slipFor x map zones) ++ r) (lines-both xs ys) ∙ sym (append-assoc (lineFor (slipFor x map zones)) (linesOf map zones xs) (linesOf map zones ys))
 
   kept-pieces : (line a b : List ℕ) → kept line (a ++ b) ≡ ended line a ++ kept (left line a) b
   unfolding kept
   kept-pieces line a b =
-      (λ i. ended-pieces a b line i ++ last (left-pieces a b line i))
-      ∙ append-assoc (ended line a) (ended (left line a) b) (last (left (left line a) b))
+      (λ i. ended-pieces a b line i ++ last (left-pieces a b line i)) ∙ append-assoc (ended line a) (ended (left line a) b) (last (left (left line a) b))
 
   -- ---- the turns of a piece
   pub record Wrote (line rest-of : List ℕ) (bytes rest : List ℕ) : Type 0 where
@@ -117,12 +110,10 @@ module _ (map zones : List ℕ) where
 
   wrote-turns : {chunk : List ℕ} {at : ℕ} {line bytes rest : List ℕ} → Turns map zones chunk at line bytes rest → Wrote line (drop at chunk) bytes rest
   wrote-turns {chunk} {at} {line} (over h) = rw (drop-of-length-le chunk {i = at} h) (wrote-none line)
-  wrote-turns {chunk} {at} {line} (turn turned t more) =
-      let after = wrote-turns more in
-      record {
-        lines = (λ i. t .lines i ++ after .lines i) ∙ sym (lines-both (t .done) _) ∙ ap (linesOf map zones) (sym (t .took .requests));
-        leaves = after .leaves ∙ sym (t .took .rest);
-      }
+  wrote-turns {chunk} {at} {line} (turn turned t more) = let after = wrote-turns more in record {
+    lines = (λ i. t .lines i ++ after .lines i) ∙ sym (lines-both (t .done) _) ∙ ap (linesOf map zones) (sym (t .took .requests));
+    leaves = after .leaves ∙ sym (t .took .rest);
+  }
 
   -- ---- the run
   kept-end : (line : List ℕ) → kept line [] ≡ last line
@@ -140,9 +131,8 @@ module _ (map zones : List ℕ) where
   run-piece : (line chunk pieces : List ℕ) {bytes rest more : List ℕ} → Wrote line chunk bytes rest → more ≡ linesOf map zones (kept rest pieces)
       → bytes ++ more ≡ linesOf map zones (kept line (chunk ++ pieces))
   run-piece line chunk pieces {bytes} {rest} {more} w e =
-      (λ i. w .lines i ++ e i)
-      ∙ sym (lines-both (ended line chunk) (kept rest pieces))
-      ∙ ap (linesOf map zones) (ap (λ (l : List ℕ). ended line chunk ++ kept l pieces) (w .leaves) ∙ sym (kept-pieces line chunk pieces))
+      (λ i. w .lines i ++ e i) ∙ sym (lines-both (ended line chunk) (kept rest pieces)) ∙ ap (linesOf map zones) (ap (λ (l : List ℕ). ended line chunk ++ kept l pieces)
+      (w .leaves) ∙ sym (kept-pieces line chunk pieces))
 
   pub run-lines : {pieces : List (List ℕ)} {line bytes : List ℕ} → Run map zones pieces line bytes → bytes ≡ linesOf map zones (kept line (flatten pieces))
   unfolding flatten
@@ -155,8 +145,7 @@ module _ (map zones : List ℕ) where
       → answer ≡ max now (worst map zones (kept rest pieces)) → answer ≡ max status (worst map zones (kept line (chunk ++ pieces)))
   exit-piece line chunk pieces status now answer {rest} f r e =
       let all = ap (worst map zones) (kept-pieces line chunk pieces) ∙ worst-both map zones (ended line chunk) (kept (left line chunk) pieces) in
-      let left-as = ap (λ (l : List ℕ). worst map zones (kept l pieces)) r in
-      omega (arith, f, e, all, left-as)
+      let left-as = ap (λ (l : List ℕ). worst map zones (kept l pieces)) r in omega (arith, f, e, all, left-as)
 
   pub exit-status : {pieces : List (List ℕ)} {line : List ℕ} {status answer : ℕ} → Exit map zones pieces line status answer → answer ≡ max status (worst map zones (kept line (flatten pieces)))
   unfolding flatten

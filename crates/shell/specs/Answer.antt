@@ -1,9 +1,6 @@
 -- S-4: what is written for a request.
-use Prim.Native.Nat.{ℕ, _+_, _≤_}
-use lib.{Dec.{eqb}, ListN.{length, take}}
-use mathlib.Core.{List.{List, [], _∷_, _++_}, Path.{_≡_}}
+use Rattle.numbers.specs.{Answer.{if_then_else_}, Prelude.{ℕ, _+_, _≤_, eqb, length, take, List, [], _∷_, _++_, _≡_}, Reply.{Reply, given, refused, _>>=_}, declared.refusal.Refusal.{Refusal}}
 use Rattle.line.specs.Put.{decimal}
-use Rattle.numbers.specs.{Answer.{if_then_else_}, Reply.{Reply, given, refused, _>>=_}, declared.refusal.Refusal.{Refusal}}
 use Rattle.shell.specs.{Text.{bytes}, Words.{wordsOf}, declared.answer.Answered.{Answered}}
 use Rattle.slip.specs.Slip.{slipOf}
 

@@ -1,8 +1,5 @@
 -- S-4: the requests of an input. A line is what ends with LF or with the input.
-use Prim.Native.Nat.{ℕ}
-use lib.Dec.{eqb}
-use mathlib.Core.List.{List, [], _∷_, _++_}
-use Rattle.numbers.specs.Answer.{if_then_else_}
+use Rattle.numbers.specs.{Answer.{if_then_else_}, Prelude.{ℕ, eqb, List, [], _∷_, _++_}}
 
 -- at the input's end a line that has begun is a request
 unfoldable pub last : List ℕ → List (List ℕ)

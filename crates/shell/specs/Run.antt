@@ -1,7 +1,5 @@
 -- A run: what it hands to standard output, and its exit status, by what is promised of each turn and piece. The pieces are any.
-use Prim.Native.Nat.{ℕ, _≤_}
-use lib.ListN.{length, take}
-use mathlib.Core.{List.{List, [], _∷_, _++_}, Path.{_≡_}}
+use Rattle.numbers.specs.Prelude.{ℕ, _≤_, length, take, List, [], _∷_, _++_, _≡_}
 use Rattle.shell.specs.{Answer.{Answers, slipFor}, Stream.{Served, Finished}, Turn.{Turned}, declared.{answer.Answered.{Answered}, stream.State.{State}, turn.Turn.{Turn}}}
 
 module _ (map zones : List ℕ) where

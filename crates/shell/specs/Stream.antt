@@ -1,7 +1,6 @@
 -- What is left behind a piece of the input, and the exit status so far.
-use Prim.Native.Nat.{ℕ, _≤_, max}
-use lib.ListN.{length, take}
-use mathlib.Core.{List.{List}, Path.{_≡_}}
+use Rattle.numbers.specs.Prelude.{ℕ, _≤_, length, take, List, _≡_}
+use Prim.Native.Nat.{max}
 use Rattle.shell.specs.{Answer.{Rooms}, Kept.{most, ended, left}, Requests.{last}, Written.{worst}, declared.stream.State.{State}}
 
 -- unless writing failed (status 2), the line so far is what the piece leaves, and the status is 1 where a request of it was not stamped

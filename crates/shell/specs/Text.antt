@@ -1,6 +1,6 @@
 -- Texts as bytes.
-use Prim.Native.{Nat.{ℕ}, Char.{code}, String.{String, [], _∷_}}
-use mathlib.Core.List.{List}
+use Rattle.numbers.specs.Prelude.{ℕ, List}
+use Prim.Native.{Char.{code}, String.{String, [], _∷_}}
 use mathlib.Core.List as L
 
 -- the bytes of a text of ASCII

@@ -1,9 +1,6 @@
 -- What a turn takes from a piece of the input, and what it writes.
-use Prim.Native.Nat.{ℕ, zero, suc, _+_, _≤_, _<_}
-use lib.ListN.{length, take, drop}
-use mathlib.Core.{List.{List, [], _∷_, _++_}, Path.{_≡_}}
-use Rattle.shell.specs.{Answer.{Rooms, lineRoom}, Kept.{most, ended, left}, Written.{linesOf, worst}}
-use Rattle.shell.specs.declared.{gather.Step.{Step}, turn.Turn.{Turn}}
+use Rattle.numbers.specs.Prelude.{ℕ, zero, suc, _+_, _≤_, _<_, length, take, drop, List, [], _∷_, _++_, _≡_}
+use Rattle.shell.specs.{Answer.{Rooms, lineRoom}, Kept.{most, ended, left}, Written.{linesOf, worst}, declared.{gather.Step.{Step}, turn.Turn.{Turn}}}
 
 -- from a piece, a place in it and a line so far: the requests that ended, the next place, and the line so far there
 pub record Took (chunk : List ℕ) (from : ℕ) (line : List ℕ) (done : List (List ℕ)) (next : ℕ) (line′ : List ℕ) : Type 0 where

@@ -1,8 +1,6 @@
 -- The words of the refusals that a slip can meet; docs/FORMAT.md and docs/TZIF.md have the tables.
-use Prim.Native.{Nat.{ℕ, zero, suc, _<_}, String.{String}}
-use lib.Dec.{eqb}
-use mathlib.Core.{List.{List, [], _∷_}, Path.{_≡_}}
-use Rattle.numbers.specs.Answer.{if_then_else_}
+use Rattle.numbers.specs.{Answer.{if_then_else_}, Prelude.{ℕ, zero, suc, _<_, eqb, List, [], _∷_, _≡_}}
+use Prim.Native.String.{String}
 use Rattle.shell.specs.Text.{bytes}
 
 unfoldable pub table : List (ℕ × String)

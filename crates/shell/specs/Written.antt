@@ -1,6 +1,6 @@
 -- S-4: what is written for an input, and the exit status.
-use Prim.Native.Nat.{ℕ, max}
-use mathlib.Core.List.{List, [], _∷_, _++_}
+use Rattle.numbers.specs.Prelude.{ℕ, List, [], _∷_, _++_}
+use Prim.Native.Nat.{max}
 use Rattle.shell.specs.{Answer.{slipFor, lineFor, faultFor}, Requests.{requests}}
 
 module _ (map zones : List ℕ) where

@@ -1,15 +1,11 @@
 -- The hours of the matches, asked one by one. Assumes nothing.
-use Prim.Native.Nat.{ℕ, _+_, _≤_, _<_}
-use borrow.Author.Tests.{le-leb}
-use lib.{IntN.{ℤ, pos, negsuc}, ListN.{length, getD, drop, length-append, drop-of-length-le}, Seq.{drop-cons}}
-use mathlib.Core.{Bool.{Bool, true, false, _&&_, and-true, and-assoc}, List.{List, [], _∷_, _++_, append-nil, append-assoc}, Path.{_≡_, refl, sym, ap, _∙_, subst}}
-use native.Mathlib.{Nat.{le-refl}, Numerals.{add-one}, Omega.{arith}}
+use Rattle.numbers.proofs.Prelude.{ℕ, _+_, _≤_, _<_, ℤ, length, drop, getD, length-append, drop-of-length-le, drop-cons, Bool, true, _&&_, List, [], _∷_, _++_, append-assoc, append-nil, _≡_, refl}
+use Rattle.numbers.{proofs.Prelude.{sym, ap, _∙_, add-one, arith}, specs.{Reply.{Reply, given, refused, _>>=_}, declared.refusal.Refusal.{Refusal}}}
+use mathlib.Core.Bool.{and-true, and-assoc}
 use Rattle.header.specs.declared.header.Head.{Head}
-use Rattle.numbers.specs.{Reply.{Reply, given, refused, _>>=_}, declared.refusal.Refusal.{Refusal}}
-use Rattle.slip.specs.{Hour.{Hour, hourOf, hoursFrom}, Slip.{haveOffset}, Told.{hourAt, Stands, Seen}, declared.{hour.Spot.{Spot}, hours.All.{All}}}
-use Rattle.table.{proofs.Agreeing.{agree-given}, specs.inner.Agreeing.{Agrees}}
-use Rattle.verdict.specs.Edge.{sameZ}
-use Rattle.table.specs.{Hits.{noHit}, declared.hits.Hit.{Hit}}
+use Rattle.slip.specs.{Hour.{Hour, hourOf, hoursFrom}, Slip.{haveOffset}, Told.{hourAt, Stands, Seen}, declared.hour.Spot.{Spot}}
+use Rattle.table.{proofs.Agreeing.{agree-given}, specs.{Hits.{noHit}, declared.hits.Hit.{Hit}, inner.Agreeing.{Agrees}}}
+use Rattle.verdict.{proofs.Compared.{same-self}, specs.Edge.{sameZ}}
 
 -- those that came before the rest
 abbrev behind : List Hour → Reply (List Hour) → Reply (List Hour)
@@ -43,8 +39,7 @@ module _ (map : List ℕ) (head : Head) (zones : List ℕ) (instant : ℤ) where
     module _ (more : i < length matches) {hit : Hit} (is : hit ≡ getD matches i noHit) where
       opened : hours-from (i + 1) (drop i matches) ≡ (hour-of (i + 1) hit >>= λ hour. hours-from (i + 1 + 1) (drop (i + 1) matches) >>= λ hours. given (hour ∷ hours))
       unfolding hoursFrom
-      opened =
-          let cons : drop i matches ≡ hit ∷ drop (i + 1) matches = drop-cons matches i noHit more ∙ (λ j. sym is j ∷ drop (sym (add-one i) j) matches) in
+      opened = let cons : drop i matches ≡ hit ∷ drop (i + 1) matches = drop-cons matches i noHit more ∙ (λ j. sym is j ∷ drop (sym (add-one i) j) matches) in
           ap (hours-from (i + 1)) cons
 
       pub asked-one : {hour : Hour} → hour-of (i + 1) hit ≡ given hour → Asked matches (i + 1) (done ++ (hour ∷ []))
@@ -59,14 +54,11 @@ module _ (map : List ℕ) (head : Head) (zones : List ℕ) (instant : ℤ) where
 
       pub asked-stop : {why : Refusal} → hour-of (i + 1) hit ≡ refused why → refused why ≡ hours-from 1 matches
       asked-stop {why} e =
-          ap (λ (h : Reply Hour). behind done (h >>= λ hour. hours-from (i + 1 + 1) (drop (i + 1) matches) >>= λ hours. given (hour ∷ hours))) (sym e)
-          ∙ ap (behind done) (sym opened)
-          ∙ so-far .whole
+          ap (λ (h : Reply Hour). behind done (h >>= λ hour. hours-from (i + 1 + 1) (drop (i + 1) matches) >>= λ hours. given (hour ∷ hours))) (sym e) ∙ ap (behind done) (sym opened) ∙ so-far .whole
 
     pub asked-all : length matches ≤ i → given done ≡ hours-from 1 matches
     unfolding hoursFrom
-    asked-all h =
-        let none : drop i matches ≡ [] = drop-of-length-le matches {i = i} h in
+    asked-all h = let none : drop i matches ≡ [] = drop-of-length-le matches {i = i} h in
         ap given (sym (append-nil done)) ∙ ap (λ (rest : List Hit). behind done (hours-from (i + 1) rest)) (sym none) ∙ so-far .whole
 
 -- ---- offsets
@@ -74,7 +66,8 @@ module _ (map : List ℕ) (head : Head) (zones : List ℕ) (instant : ℤ) where
 pub offset-one : (offset : ℤ) (done : List Hour) (hour : Hour) → haveOffset offset (done ++ (hour ∷ [])) ≡ (haveOffset offset done && sameZ (hour .offset) offset)
 unfolding haveOffset
 offset-one offset [] hour = and-true (sameZ (hour .offset) offset)
-offset-one offset (one ∷ done) hour = ap (λ (t : Bool). sameZ (one .offset) offset && t) (offset-one offset done hour) ∙ sym (and-assoc (sameZ (one .offset) offset) (haveOffset offset done) (sameZ (hour .offset) offset))
+offset-one offset (one ∷ done) hour =
+    ap (λ (t : Bool). sameZ (one .offset) offset && t) (offset-one offset done hour) ∙ sym (and-assoc (sameZ (one .offset) offset) (haveOffset offset done) (sameZ (hour .offset) offset))
 
 -- ---- the first match, and whether the others agree with it
 module _ (map : List ℕ) (head : Head) (zones : List ℕ) (instant : ℤ) where
@@ -83,10 +76,6 @@ module _ (map : List ℕ) (head : Head) (zones : List ℕ) (instant : ℤ) where
     pub asked : Asked map head zones instant matches i (hourAt map zones first ∷ others)
     pub agrees : agree ≡ haveOffset (first .offset) (hourAt map zones first ∷ others)
     pub stands : Stands (length map) (length zones) first
-
-  same-self : (z : ℤ) → sameZ z z ≡ true
-  same-self (pos n) = rw (le-leb n n (le-refl n))
-  same-self (negsuc n) = rw (le-leb n n (le-refl n))
 
   pub agreeing-one : (matches : List Hit) (first : Spot) {hit : Hit} → 0 < length matches → hit ≡ getD matches 0 noHit → hourOf map head zones instant 1 hit ≡ given (hourAt map zones first)
       → Stands (length map) (length zones) first → Agreeing matches first true 1

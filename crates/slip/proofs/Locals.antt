@@ -1,29 +1,21 @@
 -- What a match says, by how far the code came: its file, the local time in it, the clock. Assumes nothing.
-use Prim.Native.Nat.{ℕ, _+_, _≤_, min}
-use borrow.Author.Tests.{eq-eqb, ne-eqb}
-use lib.{Dec.{eqb}, IntN.{ℤ}, ListN.{length, take, drop}}
-use mathlib.Core.{Bool.{Bool, true, false, not}, List.{List}, Path.{_≡_, refl, sym, ap, _∙_, subst}}
-use native.Mathlib.Omega.{arith}
-use Rattle.bundle.proofs.Theorems.{found-inside}
-use Rattle.bundle.specs.{Bundle.{findOf}, declared.find.File.{File}}
-use Rattle.calendar.proofs.CivilAt.{is-civil-at}
-use Rattle.calendar.specs.{Civil.{civilAt, CivilOf}, declared.civil.{Civil.{Civil}, Reading.{Reading}}}
-use Rattle.calendar.specs.declared.civil.Civil.the-variants as C
+use Rattle.numbers.proofs.Prelude.{ℕ, _+_, _≤_, eq-eqb, ne-eqb, ℤ, length, List, _≡_, refl, sym, ap, subst, _∙_, arith}
+use Rattle.numbers.{proofs.Replies.{carried, onward}, specs.{Reply.{Reply, given, refused, refusal, plain, _>>=_}, declared.refusal.Refusal.{Refusal}}}
+use Rattle.bundle.{proofs.Theorems.{found-inside}, specs.{Bundle.{findOf}, declared.find.File.{File}}}
+use Rattle.calendar.{proofs.CivilAt.{is-civil-at}, specs.{Civil.{civilAt, CivilOf}, declared.civil.{Civil.{Civil}, Reading.{Reading}}}}
 use Rattle.header.specs.declared.header.Head.{Head}
 use Rattle.localtime.specs.{Local.{answerAt, scaleAt, toldSaid, HeldSaid}, declared.local.Said.{Said}}
+use Rattle.slip.specs.{Hour.{Hour, nameOf, plainly, known, localIn, shown, hourIn, blamed, ofMatch, hourOf}, Told.{nameIn, hourAt, toldLocal, HeldTold, toldClock, toldHour, StandsHour}}
+use Rattle.slip.specs.declared.hour.{Hourly.{Hourly}, Spot.{Spot}, Told.{Told}}
+use Rattle.table.specs.declared.hits.Hit.{Hit}
+use Rattle.tzif.specs.{Header.{rfc9636}, Text.{slice}, declared.local.Found.{Found}}
+use Rattle.zones.specs.{Simple.{LiesParts}, declared.simple.Parts.{Parts}}
+use Rattle.calendar.specs.declared.civil.Civil.the-variants as C
 use Rattle.localtime.specs.declared.local.Said.the-variants as S
-use Rattle.numbers.proofs.Replies.{carried, onward}
-use Rattle.numbers.specs.{Reply.{Reply, given, refused, refusal, plain, demand, _>>=_, _>>_}, declared.refusal.Refusal.{Refusal}}
-use Rattle.slip.specs.Hour.{Hour, nameOf, plainly, known, localIn, shown, hourIn, blamed, ofMatch, hourOf}
-use Rattle.slip.specs.{Told.{nameIn, hourAt, toldLocal, HeldTold, toldClock, toldHour, StandsHour, Stands, toldZone}, declared.hour.{Spot.{Spot}, Hourly.{Hourly}, Told.{Told}, Clock.{Clock}}, declared.name.Zone.{Zone}}
 use Rattle.slip.specs.declared.hour.Hourly.the-variants as H
 use Rattle.slip.specs.declared.hour.Told.the-variants as T
 use Rattle.slip.specs.declared.hour.Clock.the-variants as K
-use Rattle.slip.specs.declared.name.Zone.the-variants as Z
-use Rattle.table.specs.declared.hits.Hit.{Hit}
-use Rattle.tzif.specs.{Header.{rfc9636}, Local.{Held}, Text.{slice}, declared.local.Found.{Found}}
 use Rattle.tzif.specs.Reply as R
-use Rattle.zones.specs.{Simple.{LiesParts}, declared.simple.Parts.{Parts}}
 use Rattle.tzif.specs.declared.refusal.Refusal as Q
 
 -- ---- the local time in a file
@@ -38,9 +30,7 @@ module _ (file : List ℕ) (instant : ℤ) {kind : ℕ} (on : kind ≡ scaleAt f
   module _ (other : kind ≡ 2 → ⊥) (said : Said) (e : toldSaid said ≡ answerAt rfc9636 file instant) (held : HeldSaid (length file) said) where
     goes : (plainly (toldSaid said) >>= known) ≡ localIn file instant
     unfolding localIn
-    goes =
-        ap (λ (r : R.Reply _). plainly r >>= known) e
-        ∙ rw (ne-eqb (scaleAt file instant .kind) 2 (λ k. other (on ∙ k))) refl
+    goes = ap (λ (r : R.Reply _). plainly r >>= known) e ∙ rw (ne-eqb (scaleAt file instant .kind) 2 (λ k. other (on ∙ k))) refl
 
     pub is-known : {found : Found} → said ≡ S.Found found → Told-by (T.Found found)
     unfolding plainly known toldSaid HeldTold HeldSaid
@@ -96,7 +86,8 @@ module _ (map zones : List ℕ) (instant : ℤ) (name : Parts) (lies : LiesParts
           → Hour-by (H.Hour (record { name = name; place = file .start + found .place; size = found .length; offset = offset; reading = reading }))
       unfolding hourIn StandsHour
       the-hour {reading} k h o = (
-        ap (λ (z : ℤ). given (hourAt map zones (record { name = name; place = file .start + found .place; size = found .length; offset = z; reading = reading }))) o ∙ onward k _ ∙ onward l _ ∙ onward e _,
+        ap (λ (z : ℤ). given (hourAt map zones (record { name = name; place = file .start + found .place; size = found .length; offset = z; reading = reading }))) o
+            ∙ onward k _ ∙ onward l _ ∙ onward e _,
         record { name = lies; abbreviation = omega (arith, h, file-inside) },
       )
 
@@ -109,7 +100,8 @@ module _ (map : List ℕ) (head : Head) (zones : List ℕ) (instant : ℤ) (numb
   unfolding hourOf StandsHour
   no-name e = (carried e _, tt)
 
-  module _ {name : List ℕ} (e : given name ≡ nameOf map head (hit .metadata)) (hourly : Hourly) (h : toldHour map zones hourly ≡ hourIn zones instant name) (stands : StandsHour (length map) (length zones) hourly) where
+  module _ {name : List ℕ} (e : given name ≡ nameOf map head (hit .metadata)) (hourly : Hourly) (h : toldHour map zones hourly ≡ hourIn zones instant name)
+      (stands : StandsHour (length map) (length zones) hourly) where
     numbered : ofMatch number (toldHour map zones hourly) ≡ hourOf map head zones instant number hit
     unfolding hourOf
     numbered = ap (ofMatch number) h ∙ onward e _

@@ -1,33 +1,23 @@
 -- What a stamped slip was made of: the lookup, the hours of its matches, and the first of them. Assumes nothing.
-use Prim.Native.Nat.{ℕ, _+_, min, _≤_}
-use borrow.Author.Tests.{eqb-true, leb-true}
-use lib.{Dec.{eqb, leb}, IntN.{ℤ, pos, negsuc, _+ℤ_}, ListN.{length}}
-use mathlib.Core.{Bool.{true, false, not}, List.{List, [], _∷_}, Path.{_≡_, refl, sym, ap, subst, _∙_}}
-use mir.{Syntax.{w32}, Val.{SFits}}
-use native.Mathlib.Omega.{arith}
+use Rattle.numbers.proofs.Prelude.{ℕ, _+_, _≤_, min, eqb-true, eqb, leb, ℤ, _+ℤ_, length, true, false, not, List, [], _∷_, _≡_, refl, sym, ap, subst, _∙_, w32, SFits, arith}
+use Rattle.numbers.{proofs.{Replies.{given-from, given-one, demanded}, Tests.{both}}, specs.{Lists.{padded}, Reply.{Reply, given, refused, refusal, plain, demand, _>>=_, _>>_}}}
 use Rattle.atlas.specs.Beside.{zonesBeside}
-use Rattle.bundle.proofs.Theorems.{found-first, entry-bytes}
-use Rattle.bundle.specs.{Bundle.{findOf}, declared.find.File.{File}}
-use Rattle.calendar.proofs.CivilAt.{civil-at}
-use Rattle.calendar.specs.{Civil.{civilAt, Shows, CivilOf}, declared.civil.{Civil.{Civil}, Reading.{Reading}}}
-use Rattle.calendar.specs.declared.civil.Civil.the-variants as C
+use Rattle.bundle.{proofs.Theorems.{found-first, entry-bytes}, specs.{Bundle.{findOf}, declared.find.File.{File}}}
+use Rattle.calendar.{proofs.CivilAt.{civil-at}, specs.{Civil.{civilAt, Shows, CivilOf}, declared.civil.{Civil.{Civil}, Reading.{Reading}}}}
 use Rattle.header.specs.{Header.{headOf}, declared.header.Head.{Head}}
 use Rattle.line.specs.Put.{far}
-use Rattle.localtime.proofs.Offsets.{offset-fits}
-use Rattle.localtime.specs.Local.{answerAt, scaleAt}
-use Rattle.numbers.proofs.{Replies.{given-from, given-one, demanded}, Tests.{both}}
-use Rattle.numbers.specs.{Lists.{padded}, Reply.{Reply, given, refused, refusal, plain, demand, _>>=_, _>>_}}
+use Rattle.localtime.{proofs.Offsets.{offset-fits}, specs.Local.{answerAt, scaleAt}}
 use Rattle.request.specs.{Request.{requestOf}, declared.read.Fix.{Fix}}
 use Rattle.slip.proofs.Zones.{same-match}
 use Rattle.slip.specs.{Hour.{Hour, nameOf, plainly, known, localIn, shown, hourIn, hourOf, hoursFrom}, Line.{lineOf}, Says.{Meant, Says, EachSays}}
-use Rattle.slip.specs.Slip.{Slip, placeOf, onGlobe, haveOffset, agreed, fitted, slipAt, slipOf, Replied, replied, repliedOf, slippedAt, slipped}
-use Rattle.slip.specs.declared.slip.Stamped.{Stamped}
+use Rattle.slip.specs.{Slip.{Slip, placeOf, onGlobe, haveOffset, agreed, fitted, slipAt, slipOf, Replied, replied, repliedOf, slippedAt, slipped}, declared.slip.Stamped.{Stamped}}
 use Rattle.table.specs.{Hits.{words}, declared.hits.Hit.{Hit}}
 use Rattle.tzif.specs.{Header.{rfc9636}, Text.{slice}, declared.local.{Answer.{Answer}, Found.{Found}}}
+use Rattle.verdict.{proofs.Compared.{same-eq}, specs.Edge.{sameZ}}
+use Rattle.zones.specs.{Lent.{Outcome}, declared.lookup.Zones.{Zones}}
+use Rattle.calendar.specs.declared.civil.Civil.the-variants as C
 use Rattle.tzif.specs.declared.local.Answer.the-variants as A
 use Rattle.tzif.specs.Reply as Z
-use Rattle.verdict.specs.Edge.{sameZ}
-use Rattle.zones.specs.{Lent.{Outcome}, declared.lookup.Zones.{Zones}}
 
 -- ---- stamped: what it was made of
 abbrev slipWith : Outcome Zones → List Hour → Hour → List ℕ → Slip
@@ -61,15 +51,11 @@ fits-so size text e = given-one (demanded (leb (length text) size) (refusal 18 0
 
 pub made : (fix : Fix) (map atlas zones : List ℕ) (n room size : ℕ) {slip : Slip} → given slip ≡ slipAt fix map atlas zones n room size → Made fix map atlas zones n room size slip
 unfolding slipAt
-made fix map atlas zones n room size e =
-    let globe = demanded (onGlobe fix) (plain 84) e in
-    let head = given-from (headOf map) _ (globe .1) in
+made fix map atlas zones n room size e = let head = given-from (headOf map) _ (demanded (onGlobe fix) (plain 84) e .1) in
     let looked = given-from (zonesBeside map (head .it) atlas (placeOf fix) false n room) _ (head .onto) in
     let mark = demanded (eqb (looked .it .answer .mark) 1) (refusal 85 0 (looked .it .answer .mark)) (looked .onto) in
     let hours = given-from (hoursFrom map (head .it) zones (fix .instant) 1 (looked .it .matches)) _ (mark .1) in
-    let hour = given-from (agreed (hours .it)) _ (hours .onto) in
-    let line = given-from (fitted size (lineOf (hour .it) (hours .it))) _ (hour .onto) in
-    record {
+    let hour = given-from (agreed (hours .it)) _ (hours .onto) in let line = given-from (fitted size (lineOf (hour .it) (hours .it))) _ (hour .onto) in record {
       head = head .it;
       opened = head .is;
       looked = looked .it;
@@ -95,9 +81,7 @@ pub record Behind (n room size : ℕ) (whole : Reply Slip) (stamped : Stamped) (
 pub behind : (n room size : ℕ) (whole : Reply Slip) (stamped : Stamped) (hs ts os : List ℕ) → replied (given stamped) hs ts os ≡ repliedOf n room size whole
     → Behind n room size whole stamped hs ts os
 unfolding repliedOf
-behind n room size (given slip) stamped hs ts os e =
-    let hits = ap (λ (x : Replied). x .hits) e in
-    let text = ap (λ (x : Replied). x .text) e in
+behind n room size (given slip) stamped hs ts os e = let hits = ap (λ (x : Replied). x .hits) e in let text = ap (λ (x : Replied). x .text) e in
     let out = ap (λ (x : Replied). x .out) e in
     record { slip = slip; is = refl; said = given-one (ap (λ (x : Replied). x .reply) e); hits = hits; text = text; out = out }
 behind n room size (refused why) stamped hs ts os e = let said = ap (λ (x : Replied). x .reply) e in let z : _≡_ {A = ℕ} 0 1 = cc in absurd (omega arith)
@@ -106,26 +90,18 @@ behind n room size (refused why) stamped hs ts os e = let said = ap (λ (x : Rep
 asked-by : (n room size : ℕ) (request : Reply Fix) (at : Fix → Reply Slip) {stamped : Stamped} {hs ts os : List ℕ} → replied (given stamped) hs ts os ≡ repliedOf n room size (request >>= at)
     → (fix : Fix) × (request ≡ given fix) × (replied (given stamped) hs ts os ≡ repliedOf n room size (at fix))
 asked-by n room size (given fix) at e = (fix, refl, e)
-asked-by n room size (refused why) at {stamped} {hs} {ts} {os} e = absurd (nothing (behind n room size (refused why) stamped hs ts os e .is))
-  where
-    nothing : {slip : Slip} → given slip ≡ refused why → ⊥
-    nothing e = let z : _≡_ {A = ℕ} 0 1 = cc in omega arith
+asked-by n room size (refused why) at {stamped} {hs} {ts} {os} e = absurd (nothing (behind n room size (refused why) stamped hs ts os e .is)) where
+  nothing : {slip : Slip} → given slip ≡ refused why → ⊥
+  nothing e = let z : _≡_ {A = ℕ} 0 1 = cc in omega arith
 
 pub meant : (request map atlas zones : List ℕ) (n room size : ℕ) {stamped : Stamped} {hs ts os : List ℕ} {Holds : Fix → Type 0}
     → replied (given stamped) hs ts os ≡ slipped request map atlas zones n room size
     → ((fix : Fix) → replied (given stamped) hs ts os ≡ slippedAt fix map atlas zones n room size → Holds fix) → Meant request Holds
 unfolding slipped slipOf slippedAt
-meant request map atlas zones n room size e k =
-    let a = asked-by n room size (requestOf request) (λ fix. slipAt fix map atlas zones n room size) e in
+meant request map atlas zones n room size e k = let a = asked-by n room size (requestOf request) (λ fix. slipAt fix map atlas zones n room size) e in
     record { fix = a .0; asked = a .1; holds = k (a .0) (a .2) }
 
 -- ---- the matches
-same-eq : (a b : ℤ) → sameZ a b ≡ true → a ≡ b
-same-eq (pos a) (pos b) e = let p = both (leb a b) (leb b a) e in ap pos (omega (arith, leb-true a b (p .0), leb-true b a (p .1)))
-same-eq (pos a) (negsuc b) e = let z : _≡_ {A = ℕ} 0 1 = cc in absurd (omega arith)
-same-eq (negsuc a) (pos b) e = let z : _≡_ {A = ℕ} 0 1 = cc in absurd (omega arith)
-same-eq (negsuc a) (negsuc b) e = let p = both (leb b a) (leb a b) e in ap negsuc (omega (arith, leb-true b a (p .0), leb-true a b (p .1)))
-
 -- an hour that was said, with what it rests on
 pub record Hourly (map : List ℕ) (head : Head) (zones : List ℕ) (instant : ℤ) (match : Hit) (hour : Hour) : Type 0 where
   pub says : Says map head zones instant (hour .offset) match
@@ -152,8 +128,7 @@ said-plainly (Z.refused why) e = let z : _≡_ {A = ℕ} 0 1 = cc in absurd (ome
 local-fits : (file : List ℕ) (instant : ℤ) {found : Found} → given found ≡ localIn file instant → SFits w32 (found .offset)
 unfolding localIn
 local-fits file instant e =
-    let d = demanded (not (eqb (scaleAt file instant .kind) 2)) (plain 91) e in
-    let a = given-from (plainly (answerAt rfc9636 file instant)) _ (d .1) in
+    let a = given-from (plainly (answerAt rfc9636 file instant)) _ (demanded (not (eqb (scaleAt file instant .kind) 2)) (plain 91) e .1) in
     offset-fits rfc9636 file instant (ap Z.given (found-known (a .it) (a .onto)) ∙ said-plainly (answerAt rfc9636 file instant) (a .is))
 
 -- its name has an entry in the bundle
@@ -163,14 +138,11 @@ name-fits zones name e = let f = found-first zones name e in entry-bytes zones n
 pub hourly : (map : List ℕ) (head : Head) (zones : List ℕ) (instant : ℤ) (number : ℕ) (match : Hit) {hour : Hour} → given hour ≡ hourOf map head zones instant number match
     → Hourly map head zones instant match hour
 unfolding hourOf hourIn
-hourly map head zones instant number match {hour} e =
-    let name = given-from (nameOf map head (match .metadata)) _ e in
+hourly map head zones instant number match {hour} e = let name = given-from (nameOf map head (match .metadata)) _ e in
     let file = given-from (findOf zones (name .it)) _ (same-match number _ (name .onto)) in
     let found = given-from (localIn (slice zones (file .it .start) (file .it .length)) instant) _ (file .onto) in
-    let reading = given-from (shown (civilAt instant (found .it .offset))) _ (found .onto) in
-    let is = given-one (reading .onto) in
-    let offset = ap (λ (h : Hour). h .offset) is in
-    record {
+    let reading = given-from (shown (civilAt instant (found .it .offset))) _ (found .onto) in let is = given-one (reading .onto) in
+    let offset = ap (λ (h : Hour). h .offset) is in record {
       says = record { name = name .it; named = sym (name .is); file = file .it; held = sym (file .is); found = found .it; local = sym (found .is); same = sym offset };
       shows =
           subst (λ (r : Reading). Shows (instant +ℤ hour .offset) r) (sym (ap (λ (h : Hour). h .reading) is))
@@ -184,8 +156,7 @@ pub each-says : (map : List ℕ) (head : Head) (zones : List ℕ) (instant : ℤ
     → given hours ≡ hoursFrom map head zones instant number matches → haveOffset offset hours ≡ true → EachSays map head zones instant offset matches
 unfolding EachSays hoursFrom haveOffset
 each-says map head zones instant number [] hours offset e h = tt
-each-says map head zones instant number (match ∷ matches) hours offset e h =
-    let hour = given-from (hourOf map head zones instant number match) _ e in
+each-says map head zones instant number (match ∷ matches) hours offset e h = let hour = given-from (hourOf map head zones instant number match) _ e in
     let rest = given-from (hoursFrom map head zones instant (number + 1) matches) _ (hour .onto) in
     let test = both (sameZ (hour .it .offset) offset) (haveOffset offset (rest .it)) (subst (λ (hs : List Hour). haveOffset offset hs ≡ true) (given-one (rest .onto)) h) in (
       subst (λ (z : ℤ). Says map head zones instant z match) (same-eq (hour .it .offset) offset (test .0)) (hourly map head zones instant number match (hour .is) .says),
@@ -201,19 +172,15 @@ pub record First (hours : List Hour) (hour : Hour) : Type 0 where
 pub first : (hours : List Hour) {hour : Hour} → given hour ≡ agreed hours → First hours hour
 unfolding agreed
 first [] e = let z : _≡_ {A = ℕ} 0 1 = cc in absurd (omega arith)
-first (h ∷ hs) {hour} e =
-    let d = demanded (haveOffset (h .offset) (h ∷ hs)) (plain 92) e in
-    let same : h ≡ hour = sym (given-one (d .1)) in
+first (h ∷ hs) {hour} e = let d = demanded (haveOffset (h .offset) (h ∷ hs)) (plain 92) e in let same : h ≡ hour = sym (given-one (d .1)) in
     record { rest = hs; are = ap (λ (x : Hour). x ∷ hs) same; all = subst (λ (x : Hour). haveOffset (x .offset) (h ∷ hs) ≡ true) same (d .0) }
 
 -- the first one is a match's
 pub first-hourly : (map : List ℕ) (head : Head) (zones : List ℕ) (instant : ℤ) (matches : List Hit) (hours : List Hour) {hour : Hour}
-    → given hours ≡ hoursFrom map head zones instant 1 matches → First hours hour
-    → (match : Hit) × Hourly map head zones instant match hour
+    → given hours ≡ hoursFrom map head zones instant 1 matches → First hours hour → (match : Hit) × Hourly map head zones instant match hour
 unfolding hoursFrom
 first-hourly map head zones instant [] hours e f = let no : [] ≡ _ = given-one (sym e) ∙ f .are in let z : _≡_ {A = ℕ} 0 1 = cc in absurd (omega arith)
-first-hourly map head zones instant (match ∷ matches) hours {hour} e f =
-    let one = given-from (hourOf map head zones instant 1 match) _ e in
+first-hourly map head zones instant (match ∷ matches) hours {hour} e f = let one = given-from (hourOf map head zones instant 1 match) _ e in
     let rest = given-from (hoursFrom map head zones instant 2 matches) _ (one .onto) in
     let same : one .it ≡ hour = (let list : one .it ∷ rest .it ≡ hour ∷ f .rest = sym (given-one (rest .onto)) ∙ f .are in cc) in
     (match, subst (Hourly map head zones instant match) same (hourly map head zones instant 1 match (one .is)))

@@ -1,16 +1,11 @@
--- Names of zones: by the map's type, byte by byte, and compared. Assumes nothing.
-use Prim.Native.Nat.{ℕ, suc, _+_, _-_, _≤_, _<_}
-use borrow.Author.Tests.{eq-eqb, ne-eqb}
-use lib.{Bits.{bitXor}, Dec.{eqb}, ListN.{length, getD, take, drop, length-append, length-map, length-drop, drop-of-length-le, List·getD-append, List·getD-eq-default}}
-use lib.Seq.{drop-cons, getD-take, getD-drop, getD-append-add, length-take-le}
-use mathlib.Core.{Bool.{Bool, true, false, _&&_}, List.{List, [], _∷_, _++_, map}, Option.{some, none}, Path.{_≡_, refl, sym, ap, _∙_, subst}}
-use native.Mathlib.{Numerals.{add-one}, Omega.{arith}}
-use Rattle.header.proofs.Buffers.{map-at}
-use Rattle.header.specs.{Text.{bytesOf}, Utf8.{unmasked}, declared.{header.Head.{Head}, text.Text.{Text}}}
-use Rattle.numbers.specs.{Reply.{Reply, given, refused, plain, _>>=_}, declared.refusal.Refusal.{Refusal}}
+-- Names of zones: by the map's type, and byte by byte. Assumes nothing.
+use Rattle.numbers.proofs.Prelude.{ℕ, _+_, _-_, _≤_, _<_, eq-eqb, ne-eqb, length, take, drop, getD, length-append, length-drop, List·getD-append, List·getD-eq-default, length-take-le, getD-take}
+use Rattle.numbers.{proofs.Prelude.{getD-drop, getD-append-add, List, _≡_, refl, sym, ap, subst, _∙_, arith}, specs.{Reply.{Reply, refused, plain, _>>=_}, declared.refusal.Refusal.{Refusal}}}
+use lib.Bits.{bitXor}
+use Rattle.header.{proofs.Buffers.{map-at}, specs.{Text.{bytesOf}, Utf8.{unmasked}, declared.{header.Head.{Head}, text.Text.{Text}}}}
 use Rattle.slip.specs.{Hour.{named, nameOf}, Told.{nameIn, toldZone, LiesZone}, declared.name.Zone.{Zone}}
+use Rattle.zones.{proofs.simple.Joining.{bytes-length}, specs.{Simple.{descriptionAt, toldNamed, LiesParts, LiesNamed}, declared.simple.{Named.{Named}, Parts.{Parts}}}}
 use Rattle.slip.specs.declared.name.Zone.the-variants as Z
-use Rattle.zones.specs.{Simple.{same, descriptionAt, toldNamed, LiesParts, LiesNamed}, declared.simple.{Parts.{Parts}, Named.{Named}}}
 use Rattle.zones.specs.declared.simple.Named.the-variants as N
 
 -- ---- the zone of a match, by how far the code came
@@ -41,14 +36,9 @@ module _ (file : List ℕ) (head : Head) (metadata : ℕ) where
 
 -- ---- its bytes
 module _ (file : List ℕ) (text : Text) (inside : text .start + text .size ≤ length file) where
-  pub bytes-length : length (bytesOf file text) ≡ text .size
-  unfolding bytesOf
-  bytes-length = length-map (take (text .size) (drop (text .start) file)) unmasked ∙ length-take-le (text .size) (drop (text .start) file) (rw length-drop (omega arith))
-
   pub byte-at : (at : ℕ) → at < text .size → bitXor (getD file (text .start + at) 0) 0x80 ≡ getD (bytesOf file text) at 0
   unfolding bytesOf
-  byte-at at h =
-      let part = take (text .size) (drop (text .start) file) in
+  byte-at at h = let part = take (text .size) (drop (text .start) file) in
       let size : length part ≡ text .size = length-take-le (text .size) (drop (text .start) file) (rw length-drop (omega arith)) in
       sym (map-at unmasked part at (omega (arith, size, h)) ∙ ap unmasked (getD-take (text .size) (drop (text .start) file) at 0 h ∙ getD-drop (text .start) file at 0))
 
@@ -58,7 +48,8 @@ module _ (file : List ℕ) (name : Parts) (lies : LiesParts (length file) name) 
 
   module _ (at : ℕ) where
     pub byte-one : at < name .one .size → bitXor (getD file (name .one .start + at) 0) 0x80 ≡ getD (nameIn file name) at 0
-    byte-one h = byte-at file (name .one) (lies .one) at h ∙ sym (List·getD-append (bytesOf file (name .one)) (bytesOf file (name .two)) 0 at (omega (arith, h, bytes-length file (name .one) (lies .one))))
+    byte-one h =
+        byte-at file (name .one) (lies .one) at h ∙ sym (List·getD-append (bytesOf file (name .one)) (bytesOf file (name .two)) 0 at (omega (arith, h, bytes-length file (name .one) (lies .one))))
 
     module _ (past : name .one .size ≤ at) where
       further : at ≡ length (bytesOf file (name .one)) + (at - name .one .size)
@@ -71,37 +62,3 @@ module _ (file : List ℕ) (name : Parts) (lies : LiesParts (length file) name) 
 
       pub byte-none : name .two .size ≤ at - name .one .size → 0 ≡ getD (nameIn file name) at 0
       byte-none h = sym (List·getD-eq-default (nameIn file name) 0 (omega (arith, h, past, sym name-length)))
-
--- ---- two lists of bytes, compared one by one
-both-false : (t : Bool) {u : Bool} → u ≡ false → (t && u) ≡ false
-both-false true e = e
-both-false false e = refl
-
-pub lengths-differ : (xs ys : List ℕ) → (length xs ≡ length ys → ⊥) → same xs ys ≡ false
-unfolding same
-lengths-differ [] [] h = absurd (h refl)
-lengths-differ [] (y ∷ ys) h = refl
-lengths-differ (x ∷ xs) [] h = refl
-lengths-differ (x ∷ xs) (y ∷ ys) h = both-false (eqb x y) (lengths-differ xs ys (λ e. h (ap suc e)))
-
-module _ (xs ys : List ℕ) (lengths : length xs ≡ length ys) (i : ℕ) {whole : Bool} (so-far : same (drop i xs) (drop i ys) ≡ whole) where
-  pub all-same : length xs ≤ i → true ≡ whole
-  unfolding same
-  all-same h =
-      let one : drop i xs ≡ [] = drop-of-length-le xs {i = i} h in
-      let two : drop i ys ≡ [] = drop-of-length-le ys {i = i} (omega (arith, lengths, h)) in
-      sym (λ j. same (one j) (two j)) ∙ so-far
-
-  module _ (more : i < length xs) where
-    opened : (eqb (getD xs i 0) (getD ys i 0) && same (drop (i + 1) xs) (drop (i + 1) ys)) ≡ whole
-    unfolding same
-    opened =
-        let first : drop i xs ≡ getD xs i 0 ∷ drop (i + 1) xs = drop-cons xs i 0 more ∙ (λ j. getD xs i 0 ∷ drop (sym (add-one i) j) xs) in
-        let second : drop i ys ≡ getD ys i 0 ∷ drop (i + 1) ys = drop-cons ys i 0 (omega (arith, lengths, more)) ∙ (λ j. getD ys i 0 ∷ drop (sym (add-one i) j) ys) in
-        sym (λ j. same (first j) (second j)) ∙ so-far
-
-    pub differs : (getD xs i 0 ≡ getD ys i 0 → ⊥) → false ≡ whole
-    differs n = simp (ne-eqb _ _ n) at opened
-
-    pub goes-on : getD xs i 0 ≡ getD ys i 0 → same (drop (i + 1) xs) (drop (i + 1) ys) ≡ whole
-    goes-on e = simp (eq-eqb _ _ e) at opened

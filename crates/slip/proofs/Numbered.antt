@@ -1,47 +1,26 @@
 -- Which numbers a slip can be refused with. Assumes nothing.
-use Prim.Native.Nat.{ℕ, _+_, min}
-use borrow.Author.Tests.{eqb-true, leb-true, le-leb}
-use lib.{Dec.{eqb, leb}, IntN.{ℤ}, ListN.{length}}
-use mathlib.Core.{Bool.{Bool, true, false, not, _&&_, _||_}, List.{List, [], _∷_}, Option.{Option, none, some}, Path.{_≡_, refl, sym, ap, subst, _∙_}}
-use native.Mathlib.Omega.{arith}
-use Rattle.atlas.{proofs.BesideIsPlain.{zones-beside-is-plain}, specs.Beside.{NoneOrAtlas}}
-use Rattle.bundle.proofs.Theorems.{found-refusals}
-use Rattle.bundle.specs.Bundle.{findOf}
-use Rattle.calendar.specs.{Civil.{civilAt}, declared.civil.Civil.{Civil}}
-use Rattle.calendar.specs.declared.civil.Civil.the-variants as C
-use Rattle.header.proofs.StrictHead.{head-strict}
-use Rattle.header.specs.{Header.{headOf}, declared.header.Head.{Head}}
-use Rattle.line.specs.Put.{far}
-use Rattle.localtime.proofs.Numbered.{footerNumbers, local-time-refusals}
-use Rattle.localtime.specs.Local.{scaleAt, answerAt, localTimeBy}
-use Rattle.numbers.proofs.{Refusals.{Listed, oneOf}, Replies.{NumberedReply, answers, refuses, then-reply, and-then, demands}, Tests.{both, differ}}
+use Rattle.numbers.proofs.Prelude.{ℕ, _+_, min, le-leb, leb-true, eqb, leb, ℤ, length, Bool, true, false, _&&_, _||_, not, List, [], _∷_, _≡_, refl, sym, ap, subst, _∙_, arith}
+use Rattle.numbers.proofs.{Refusals.{Listed, listed-so}, Replies.{NumberedReply, answers, refuses, then-reply, then-with, and-then, demands}, Tests.{both, differ}}
 use Rattle.numbers.specs.{Reply.{Reply, given, refused, refusal, plain, _>>=_}, declared.refusal.Refusal.{Refusal}}
-use Rattle.request.proofs.Refusing.{fiveNumbers, request-told}
-use Rattle.request.specs.declared.read.Fix.{Fix}
+use mathlib.Core.Option.{Option, none, some}
+use Rattle.atlas.{proofs.BesideIsPlain.{zones-beside-is-plain}, specs.Beside.{NoneOrAtlas}}
+use Rattle.bundle.{proofs.Theorems.{found-refusals}, specs.Bundle.{findOf}}
+use Rattle.calendar.specs.{Civil.{civilAt}, declared.civil.Civil.{Civil}}
+use Rattle.header.{proofs.StrictHead.{head-strict}, specs.{Header.{headOf}, declared.header.Head.{Head}}}
+use Rattle.line.specs.Put.{far}
+use Rattle.localtime.{proofs.Numbered.{footerNumbers, local-time-refusals}, specs.Local.{scaleAt, answerAt, localTimeBy}}
+use Rattle.request.{proofs.Refusing.{fiveNumbers, request-told}, specs.declared.read.Fix.{Fix}}
 use Rattle.slip.specs.{Hour.{Hour, named, nameOf, plainly, known, localIn, shown, hourIn, blamed, ofMatch, hourOf, hoursFrom}, Line.{lineOf}, Says.{from, isAtNumber, isSlipNumber}}
 use Rattle.slip.specs.Slip.{placeOf, onGlobe, haveOffset, agreed, fitted, slipAt, slipOf}
 use Rattle.table.specs.declared.{hits.Hit.{Hit}, location.Location.{Location}}
 use Rattle.tzif.specs.{Header.{rfc9636}, Local.{lent}, Text.{slice}, declared.local.Answer.{Answer}}
+use Rattle.zones.{proofs.NumberedLookup.{lookupNumbers, Known, described-at, lookup-refusals}, specs.{Lookup.{zonesWith, zonesIn, lookedUp}, declared.lookup.Zones.{Zones}}}
+use Rattle.calendar.specs.declared.civil.Civil.the-variants as C
 use Rattle.tzif.specs.declared.local.Answer.the-variants as A
 use Rattle.tzif.specs.Reply as Z
-use Rattle.zones.proofs.NumberedLookup.{lookupNumbers, Known, then-with, described-at, lookup-refusals}
-use Rattle.zones.specs.{Lookup.{zonesWith, zonesIn, lookedUp}, declared.lookup.Zones.{Zones}}
 use Rattle.zones.specs.Lent as L
 
 -- ---- lists of numbers
--- every number of a list passes a test
-abbrev all : (ℕ → Bool) → List ℕ → Bool
-all test [] = true
-all test (m ∷ ms) = test m && all test ms
-
-listed-so : (test : ℕ → Bool) (ms : List ℕ) (n : ℕ) → all test ms ≡ true → Listed ms n → test n ≡ true
-listed-so test [] n a h = differ h
-listed-so test (m ∷ ms) n a h = go (eqb n m) refl h (listed-so test ms n (both (test m) (all test ms) a .1))
-  where
-    go : (t : Bool) → eqb n m ≡ t → (t || oneOf ms n) ≡ true → (Listed ms n → test n ≡ true) → test n ≡ true
-    go true e h later = ap test (eqb-true n m e) ∙ both (test m) (all test ms) a .0
-    go false e h later = later h
-
 -- by each refusal that it can be
 by-refusal : {A : Type 0} {P : ℕ → Type 0} (reply : Reply A) → ((why : Refusal) → refused why ≡ reply → P (why .number)) → NumberedReply P reply
 by-refusal (given a) k = answers
@@ -74,32 +53,29 @@ module _ (map : List ℕ) (place : Location) (n room : ℕ) where
   zones-told : (head : Head) → headOf map ≡ given head → Told (zonesWith map head place false n room)
   unfolding lookedUp zonesIn L.repliedOf
   zones-told head o =
-      by-refusal (zonesWith map head place false n room)
-      (λ why e. lookup-mine (why .number) (lookup-refusals map place false n room why
-      (ap looked o ∙ ap (λ x. L.repliedOf n room x .reply) (sym e))))
+      by-refusal (zonesWith map head place false n room) (λ why e. lookup-mine (why .number) (lookup-refusals map place false n room why (ap looked o
+      ∙ ap (λ x. L.repliedOf n room x .reply) (sym e))))
 
 name-told : (map : List ℕ) (head : Head) (metadata : ℕ) → headOf map ≡ given head → Told (nameOf map head metadata)
 unfolding nameOf isAtNumber named
 name-told map head metadata o =
     and-then (demands (eqb (head .preamble .kind) 0x54) (plain 87) refl)
-    (then-reply (wider (λ n h. lookup-mine n (subst (λ (s : Bool). Known s n) (head-strict false map o) h)) (described-at map head metadata)) named-told)
-  where
-    named-told : (name : Option (List ℕ)) → Told (named name)
-    named-told none = refuses refl
-    named-told (some name) = answers
+    (then-reply (wider (λ n h. lookup-mine n (subst (λ (s : Bool). Known s n) (head-strict false map o) h)) (described-at map head metadata)) named-told) where
+      named-told : (name : Option (List ℕ)) → Told (named name)
+      named-told none = refuses refl
+      named-told (some name) = answers
 
 local-told : (file : List ℕ) (instant : ℤ) → Told (localIn file instant)
 unfolding localIn isAtNumber plainly localTimeBy lent known
 local-told file instant =
-    and-then (demands (not (eqb (scaleAt file instant .kind) 2)) (plain 91) refl) (then-reply (go (answerAt rfc9636 file instant) refl) known-told)
-  where
-    go : (reply : Z.Reply Answer) → answerAt rfc9636 file instant ≡ reply → Told (plainly reply)
-    go (Z.given a) e = answers
-    go (Z.refused why) e = refuses (listed-so isAtNumber footerNumbers (why .number) refl (local-time-refusals file instant 0 why (ap (λ (x : Z.Reply Answer). lent file 0 x .reply) e)))
+    and-then (demands (not (eqb (scaleAt file instant .kind) 2)) (plain 91) refl) (then-reply (go (answerAt rfc9636 file instant) refl) known-told) where
+      go : (reply : Z.Reply Answer) → answerAt rfc9636 file instant ≡ reply → Told (plainly reply)
+      go (Z.given a) e = answers
+      go (Z.refused why) e = refuses (listed-so isAtNumber footerNumbers (why .number) refl (local-time-refusals file instant 0 why (ap (λ (x : Z.Reply Answer). lent file 0 x .reply) e)))
 
-    known-told : (answer : Answer) → Told (known answer)
-    known-told (A.Found found) = answers
-    known-told A.Unknown = refuses refl
+      known-told : (answer : Answer) → Told (known answer)
+      known-told (A.Found found) = answers
+      known-told A.Unknown = refuses refl
 
 shown-told : (civil : Civil) → Told (shown civil)
 unfolding shown isAtNumber
@@ -136,26 +112,23 @@ fitted-told size line = and-then (demands (leb (length line) size) (refusal 18 0
 pub slip-at-told : (fix : Fix) (map atlas zones : List ℕ) → NoneOrAtlas map atlas → (n room size : ℕ) → Told (slipAt fix map atlas zones n room size)
 unfolding slipAt isAtNumber
 slip-at-told fix map atlas zones so n room size =
-    and-then (demands (onGlobe fix) (plain 84) refl)
-    (then-with (head-told map (placeOf fix) n room)
-    (λ head o. then-reply (subst (λ (l : Reply (L.Outcome Zones)). Told l) (sym (zones-beside-is-plain map atlas so (sym o) (placeOf fix) false n room)) (zones-told map (placeOf fix) n room head o))
-    (λ looked. and-then (demands (eqb (looked .answer .mark) 1) (refusal 85 0 (looked .answer .mark)) refl)
-    (then-reply (hours-told map head zones (fix .instant) 1 (looked .matches) o)
+    and-then (demands (onGlobe fix) (plain 84) refl) (then-with (head-told map (placeOf fix) n room) (λ head o. then-reply (subst (λ (l : Reply (L.Outcome Zones)). Told l)
+    (sym (zones-beside-is-plain map atlas so (sym o) (placeOf fix) false n room)) (zones-told map (placeOf fix) n room head o)) (λ looked. and-then
+    (demands (eqb (looked .answer .mark) 1) (refusal 85 0 (looked .answer .mark)) refl) (then-reply (hours-told map head zones (fix .instant) 1 (looked .matches) o)
     (λ hours. then-reply (agreed-told hours) (λ hour. then-reply (fitted-told size (lineOf hour hours)) (λ line. answers)))))))
 
 -- ---- of a request
 at-slip : (n : ℕ) → isAtNumber n ≡ true → isSlipNumber n ≡ true
 unfolding isAtNumber isSlipNumber
-at-slip n h = go (from 1 18 n) (from 40 61 n) (from 84 92 n) refl h
-  where
-    late : from 84 92 n ≡ true → from 80 92 n ≡ true
-    late e = let b = both (leb 84 n) (leb n 92) e in ap (λ (t : Bool). t && leb n 92) (le-leb 80 n (omega (arith, leb-true 84 n (b .0)))) ∙ b .1
+at-slip n h = go (from 1 18 n) (from 40 61 n) (from 84 92 n) refl h where
+  late : from 84 92 n ≡ true → from 80 92 n ≡ true
+  late e = let b = both (leb 84 n) (leb n 92) e in ap (λ (t : Bool). t && leb n 92) (le-leb 80 n (omega (arith, leb-true 84 n (b .0)))) ∙ b .1
 
-    go : (a b c : Bool) → from 84 92 n ≡ c → (a || b || c) ≡ true → (a || b || from 80 92 n) ≡ true
-    go true b c e h = refl
-    go false true c e h = refl
-    go false false true e h = late e
-    go false false false e h = differ h
+  go : (a b c : Bool) → from 84 92 n ≡ c → (a || b || c) ≡ true → (a || b || from 80 92 n) ≡ true
+  go true b c e h = refl
+  go false true c e h = refl
+  go false false true e h = late e
+  go false false false e h = differ h
 
 pub slip-told : (request map atlas zones : List ℕ) → NoneOrAtlas map atlas → (n room size : ℕ) → NumberedReply (λ (n : ℕ). isSlipNumber n ≡ true) (slipOf request map atlas zones n room size)
 unfolding slipOf isSlipNumber

@@ -1,14 +1,10 @@
 -- Parts of a map and of a bundle as they are lent: a name, a file, an abbreviation; and an offset by its bits. Assumes nothing.
-use Prim.Native.Nat.{ℕ, zero, suc, _+_, _-_, _^_, _≤_}
-use borrow.Author.Tests.{ltb-true}
-use lib.{Bits.{bitXor}, IntN.{ℤ, pos, negsuc}, ListN.{length, take, drop}, Seq.{length-take-le}, Signed.{ltZ}}
-use mathlib.Core.{Bool.{true, false}, List.{List, [], _∷_, _++_, map, map-append, map-map}, Path.{_≡_, refl, sym, ap, _∙_}}
-use mir.{Syntax.{w32}, Val.{SFits, toZ, ofZ}, ValLaws.{toZ-ofZ, ofZ-fits}}
-use native.Mathlib.Omega.{arith}
+use Rattle.numbers.proofs.Prelude.{ℕ, zero, suc, _+_, _-_, _^_, ℤ, pos, take, drop, ltZ, true, false, List, [], _∷_, _++_, map, _≡_, refl, sym, ap, _∙_, w32, SFits, ofZ, toZ, arith}
+use lib.Bits.{bitXor}
+use mathlib.Core.List.{map-append, map-map}
 use Rattle.bundle.specs.Bundle.{xored}
-use Rattle.header.proofs.Strings.{part, part-is}
-use Rattle.header.specs.{Text.{bytesOf}, Utf8.{unmasked}, declared.text.Text.{Text}}
-use Rattle.line.specs.Clock.{spanText, offsetText, shown}
+use Rattle.header.{proofs.Strings.{part, part-is}, specs.{Text.{bytesOf}, Utf8.{unmasked}, declared.text.Text.{Text}}}
+use Rattle.line.{proofs.Signs.{is-negative, not-negative}, specs.Clock.{spanText, offsetText, shown}}
 use Rattle.slip.specs.{Line.{between, shownText}, Told.{nameIn}}
 use Rattle.tzif.specs.Text.{slice}
 use Rattle.zones.specs.declared.simple.Parts.{Parts}
@@ -36,25 +32,11 @@ between-more zero h = absurd (h refl)
 between-more (suc i) h = refl
 
 -- ---- the text of an offset, by its bits
-negative : (z : ℤ) → SFits w32 z → ltZ z (pos 0) ≡ true → 45 ∷ spanText (2 ^ 32 - ofZ w32 z) ≡ offsetText z
-unfolding offsetText
-negative (pos n) fits e = absurd (omega (arith, ltb-true n 0 e))
-negative (negsuc k) fits e = ap (λ (n : ℕ). 45 ∷ spanText n) (let s : 2 ^ 32 - (2 ^ 32 - suc k) ≡ suc k = omega (arith, fits .sfits) in s)
-
-other : (z : ℤ) → ltZ z (pos 0) ≡ false → 43 ∷ spanText (ofZ w32 z) ≡ offsetText z
-unfolding offsetText
-other (pos n) e = refl
-other (negsuc k) e = let z : _≡_ {A = ℕ} 0 1 = cc in absurd (omega arith)
-
 module _ (z : ℤ) (fits : SFits w32 z) {bits : ℕ} (e : bits ≡ ofZ w32 z) where
-  pub few-bits : bits ≤ 2 ^ 32
-  few-bits = omega (arith, e, ofZ-fits w32 z fits .fits)
-
-  same : toZ w32 (ofZ w32 z) ≡ z
-  same = toZ-ofZ w32 z fits
-
   pub below-zero : ltZ (toZ w32 (ofZ w32 z)) (pos 0) ≡ true → 45 ∷ spanText (2 ^ 32 - bits) ≡ offsetText z
-  below-zero t = ap (λ (b : ℕ). 45 ∷ spanText (2 ^ 32 - b)) e ∙ negative z fits (rw same at t)
+  unfolding offsetText
+  below-zero t = let n = is-negative z fits e t in ap (λ (k : ℕ). 45 ∷ spanText k) (n .size) ∙ ap offsetText (n .is)
 
   pub from-zero : ltZ (toZ w32 (ofZ w32 z)) (pos 0) ≡ false → 43 ∷ spanText bits ≡ offsetText z
-  from-zero t = ap (λ (b : ℕ). 43 ∷ spanText b) e ∙ other z (rw same at t)
+  unfolding offsetText
+  from-zero t = ap offsetText (not-negative z fits e t)

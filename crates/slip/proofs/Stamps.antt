@@ -1,36 +1,23 @@
 -- From the matches to the slip, by how far the code came, and the reply with all that was lent. Assumes nothing.
-use Prim.Native.Nat.{ℕ, suc, _+_, _≤_, _<_, min}
-use borrow.Author.Tests.{le-leb, lt-leb, eq-eqb, ne-eqb}
-use lib.{Dec.{leb, eqb}, IntN.{ℤ}, ListN.{length, take, drop}}
-use mathlib.Core.{Bool.{Bool, true, false, not}, List.{List, [], _∷_, _++_}, Path.{_≡_, refl, sym, ap, _∙_, subst}}
-use native.Mathlib.Omega.{arith}
+use Rattle.numbers.proofs.{Lists.{zeros-drop}, Prelude.{ℕ, suc, _+_, _≤_, _<_, min, eq-eqb, ne-eqb, le-leb, lt-leb, eqb, ℤ, length, take, drop, Bool, true, false, List, [], _∷_, _++_, _≡_, refl}}
+use Rattle.numbers.{proofs.{Prelude.{sym, ap, subst, _∙_, arith}, Replies.{carried, onward, met, unmet, given-from, given-one}}, specs.{Lists.{zeros}, Reply.{Reply, given, refused, refusal, plain}}}
+use Rattle.numbers.specs.{Reply.{demand, _>>=_, _>>_}, declared.refusal.Refusal.{Refusal}}
 use Rattle.atlas.specs.Beside.{zonesBeside}
 use Rattle.header.specs.{Header.{headOf}, declared.header.Head.{Head}}
 use Rattle.line.{proofs.Puts.{put-size, put-whole}, specs.Put.{far}}
-use Rattle.numbers.proofs.{Lists.{zeros-drop}, Replies.{carried, onward, met, unmet, given-from, given-one}}
-use Rattle.numbers.specs.{Lists.{zeros, padded}, Reply.{Reply, given, refused, refusal, plain, demand, _>>=_, _>>_}, declared.refusal.Refusal.{Refusal}}
 use Rattle.request.specs.{Request.{requestOf}, declared.read.Fix.{Fix}}
-use Rattle.slip.specs.{Hour.{Hour, hourOf, hoursFrom}, Line.{lineOf}, Slip.{Slip, placeOf, onGlobe, haveOffset, agreed, fitted, slipAt, slipOf, Replied, replied, repliedOf, slippedAt, slipped}}
-use Rattle.slip.specs.{Told.{hourAt, Seen, Inked, Ink, inkOf, slipWith, Wrote, Filled}, declared.{hour.Spot.{Spot}, hours.All.{All}, slip.Stamped.{Stamped}}}
-use Rattle.table.{proofs.Agreeing.{agree-given, agree-refused, gave, refused-so}, specs.{inner.Agreeing.{Agrees}, Hits.{words, slots}, declared.hits.Hit.{Hit}}}
+use Rattle.slip.specs.{Hour.{Hour, hourOf, hoursFrom}, Line.{lineOf}, Slip.{Slip, placeOf, onGlobe, haveOffset, agreed, fitted, slipAt, slipOf, replied, repliedOf, slippedAt, slipped}}
+use Rattle.slip.specs.{Told.{hourAt, Seen, Inked, Ink, inkOf, slipWith, Wrote, Filled}, declared.{hours.All.{All}, slip.Stamped.{Stamped}}}
+use Rattle.table.{proofs.Agreeing.{agree-given, agree-refused, gave, refused-so}, specs.{Hits.{slots}, declared.hits.Hit.{Hit}, inner.Agreeing.{Agrees}}}
 use Rattle.zones.{proofs.Lent.{Lent}, specs.{Lent.{Outcome}, declared.lookup.Zones.{Zones}}}
 
--- a test that was turned round
-pub true-of : (test : Bool) → not test ≡ false → test ≡ true
-true-of true e = refl
-true-of false e = let z : _≡_ {A = ℕ} 0 1 = cc in absurd (omega arith)
-
-pub false-of : (test : Bool) → not test ≡ true → test ≡ false
-false-of true e = let z : _≡_ {A = ℕ} 0 1 = cc in absurd (omega arith)
-false-of false e = refl
-
 -- an hour for each match
-pub as-many : (map : List ℕ) (head : Head) (zones : List ℕ) (instant : ℤ) (number : ℕ) (matches : List Hit) {hs : List Hour} → given hs ≡ hoursFrom map head zones instant number matches → length hs ≡ length matches
+pub as-many : (map : List ℕ) (head : Head) (zones : List ℕ) (instant : ℤ) (number : ℕ) (matches : List Hit) {hs : List Hour}
+    → given hs ≡ hoursFrom map head zones instant number matches → length hs ≡ length matches
 unfolding hoursFrom
 as-many map head zones instant number [] e = ap length (given-one e)
 as-many map head zones instant number (match ∷ matches) {hs} e =
-    let hour = given-from (hourOf map head zones instant number match) _ e in
-    let rest = given-from (hoursFrom map head zones instant (number + 1) matches) _ (hour .onto) in
+    let rest = given-from (hoursFrom map head zones instant (number + 1) matches) _ (given-from (hourOf map head zones instant number match) _ e .onto) in
     ap length (given-one (rest .onto)) ∙ ap suc (as-many map head zones instant (number + 1) matches (rest .is))
 
 -- ---- steps 5 to 8
@@ -69,16 +56,13 @@ module _ (fix : Fix) (map : List ℕ) (head : Head) (zones : List ℕ) (size : �
       pub no-room : {why : Refusal} (out : List ℕ) → size < next → why ≡ refusal 18 0 next → Says out (refused why)
       unfolding fitted
       no-room out h w =
-          agree-refused (Wrote size out)
-          (ap refused (w ∙ ap (refusal 18 0) length-is)
-          ∙ carried (unmet (lt-leb (length (lineOf hour hs)) size (omega (arith, h, length-is))) (refusal 18 0 (min (length (lineOf hour hs)) far)) (given (lineOf hour hs))) _
-          ∙ onward agreed-so _
-          ∙ onward is _)
+          agree-refused (Wrote size out) (ap refused (w ∙ ap (refusal 18 0) length-is) ∙ carried (unmet (lt-leb (length (lineOf hour hs)) size (omega (arith, h, length-is)))
+          (refusal 18 0 (min (length (lineOf hour hs)) far)) (given (lineOf hour hs))) _ ∙ onward agreed-so _ ∙ onward is _)
 
-      pub stamped-so : {count : ℕ} {offset : ℤ} → before ≡ zeros size → next ≤ size → count ≡ length matches → offset ≡ all .first .offset → Says after (given (record { length = next; matches = count; offset = offset }))
+      pub stamped-so : {count : ℕ} {offset : ℤ} → before ≡ zeros size → next ≤ size → count ≡ length matches → offset ≡ all .first .offset
+          → Says after (given (record { length = next; matches = count; offset = offset }))
       unfolding fitted
-      stamped-so z fits count o =
-          let w = put-whole (ink .line (sym is)) (omega (arith, room, short)) (omega (arith, room, fits)) in
+      stamped-so z fits count o = let w = put-whole (ink .line (sym is)) (omega (arith, room, short)) (omega (arith, room, fits)) in
           let whole : length (lineOf hour hs) ≤ size = omega (arith, w .0, fits) in
           agree-given (Wrote size after)
           (onward (met (le-leb (length (lineOf hour hs)) size whole) (refusal 18 0 (min (length (lineOf hour hs)) far)) (given (lineOf hour hs))) _ ∙ onward agreed-so _ ∙ onward is _)
@@ -119,28 +103,26 @@ module _ (fix : Fix) (map : List ℕ) (head : Head) (atlas zones : List ℕ) (n 
 
       -- what was inked is the slip, with the lookup's matches and text
       whole : (ink : Reply Ink) → ink ≡ inkOf fix map head zones size (l .outcome .matches) → (ink >>= slip-from (l .outcome)) ≡ slipWith fix map head atlas zones n room size
-      whole ink e = ap (λ (x : Reply Ink). x >>= slip-from (l .outcome)) e ∙ joined (hoursFrom map head zones (fix .instant) 1 (l .outcome .matches)) ∙ goes _ ∙ onward (l .is) _
-        where
-          last : (hour : Hour) (hours : List Hour) (line : Reply (List ℕ)) → (line >>= ink-from hour hours >>= slip-from (l .outcome)) ≡ (line >>= λ line. slip-from (l .outcome) (ink-with hour hours line))
-          last hour hours (given line) = refl
-          last hour hours (refused why) = refl
+      whole ink e = ap (λ (x : Reply Ink). x >>= slip-from (l .outcome)) e ∙ joined (hoursFrom map head zones (fix .instant) 1 (l .outcome .matches)) ∙ goes _ ∙ onward (l .is) _ where
+        last : (hour : Hour) (hours : List Hour) (line : Reply (List ℕ)) → (line >>= ink-from hour hours >>= slip-from (l .outcome)) ≡ (line >>= λ line. slip-from (l .outcome)
+            (ink-with hour hours line))
+        last hour hours (given line) = refl
+        last hour hours (refused why) = refl
 
-          middle : (hours : List Hour) (hour : Reply Hour)
-              → ((hour >>= λ hour. fitted size (lineOf hour hours) >>= ink-from hour hours) >>= slip-from (l .outcome)) ≡ (hour >>= λ hour. fitted size (lineOf hour hours) >>= λ line. slip-from (l .outcome) (ink-with hour hours line))
-          middle hours (given hour) = last hour hours (fitted size (lineOf hour hours))
-          middle hours (refused why) = refl
+        middle : (hours : List Hour) (hour : Reply Hour) → ((hour >>= λ hour. fitted size (lineOf hour hours) >>= ink-from hour hours) >>= slip-from (l .outcome)) ≡
+            (hour >>= λ hour. fitted size (lineOf hour hours) >>= λ line. slip-from (l .outcome) (ink-with hour hours line))
+        middle hours (given hour) = last hour hours (fitted size (lineOf hour hours))
+        middle hours (refused why) = refl
 
-          joined : (hours : Reply (List Hour)) → ((hours >>= λ hours. agreed hours >>= λ hour. fitted size (lineOf hour hours) >>= ink-from hour hours) >>= slip-from (l .outcome))
-              ≡ (hours >>= λ hours. agreed hours >>= λ hour. fitted size (lineOf hour hours) >>= λ line. slip-from (l .outcome) (ink-with hour hours line))
-          joined (given hours) = middle hours (agreed hours)
-          joined (refused why) = refl
+        joined : (hours : Reply (List Hour)) → ((hours >>= λ hours. agreed hours >>= λ hour. fitted size (lineOf hour hours) >>= ink-from hour hours) >>= slip-from (l .outcome))
+            ≡ (hours >>= λ hours. agreed hours >>= λ hour. fitted size (lineOf hour hours) >>= λ line. slip-from (l .outcome) (ink-with hour hours line))
+        joined (given hours) = middle hours (agreed hours)
+        joined (refused why) = refl
 
       pub with-ink : (out : List ℕ) (reply : Reply Stamped) → Agrees (Wrote size out) (inkOf fix map head zones size (take (found .matches) (slots hits))) reply → With hits text out reply
       unfolding repliedOf
-      with-ink out (given stamped) a =
-          let g = gave (Wrote size out) _ a refl in
-          agree-given (Filled n room size hits text out)
-          (whole (given (g .it)) (g .is ∙ ap (inkOf fix map head zones size) (l .held)))
+      with-ink out (given stamped) a = let g = gave (Wrote size out) _ a refl in
+          agree-given (Filled n room size hits text out) (whole (given (g .it)) (g .is ∙ ap (inkOf fix map head zones size) (l .held)))
           (λ i. replied (given (g .fits .said i)) (l .lent-hits i) (l .lent-text i) (g .fits .kept i))
       with-ink out (refused why) a =
           agree-refused (Filled n room size hits text out) (whole (refused why) (refused-so (Wrote size out) _ a refl ∙ ap (inkOf fix map head zones size) (l .held)))
@@ -159,7 +141,8 @@ module _ (fix : Fix) (map atlas zones : List ℕ) (n room size : ℕ) where
     unfolding slipAt
     not-opened hits text out e = agree-refused (Filled n room size hits text out) (carried e _ ∙ met placed (plain 84) _)
 
-    pub opened : {head : Head} (hits text out : List ℕ) (reply : Reply Stamped) → given head ≡ headOf map → Agrees (Filled n room size hits text out) (slipWith fix map head atlas zones n room size) reply → At hits text out reply
+    pub opened : {head : Head} (hits text out : List ℕ) (reply : Reply Stamped) → given head ≡ headOf map → Agrees (Filled n room size hits text out)
+        (slipWith fix map head atlas zones n room size) reply → At hits text out reply
     unfolding slipAt
     opened hits text out reply e a = subst (λ (w : Reply Slip). Agrees (Filled n room size hits text out) w reply) (onward e _ ∙ met placed (plain 84) _) a
 
@@ -168,20 +151,21 @@ module _ (whole : ℕ → ℕ → ℕ → Reply Slip) (reply : Reply Stamped) (h
     (agrees : Agrees (Filled n′ room′ size′ hs ts os) (whole n′ room′ size′) reply) where
   settled : Agrees (Filled n room size hs ts os) (whole n room size) reply
   settled =
-      subst (λ (k : ℕ). Agrees (Filled n room k hs ts os) (whole n room k) reply) o
-      (subst (λ (k : ℕ). Agrees (Filled n k size′ hs ts os) (whole n k size′) reply) t
+      subst (λ (k : ℕ). Agrees (Filled n room k hs ts os) (whole n room k) reply) o (subst (λ (k : ℕ). Agrees (Filled n k size′ hs ts os) (whole n k size′) reply) t
       (subst (λ (k : ℕ). Agrees (Filled k room′ size′ hs ts os) (whole k room′ size′) reply) h agrees))
 
   pub given-reply : {stamped : Stamped} → reply ≡ given stamped → replied (given stamped) hs ts os ≡ repliedOf n room size (whole n room size)
   given-reply e = let g = gave (Filled n room size hs ts os) (whole n room size) settled e in g .fits ∙ ap (repliedOf n room size) (g .is)
 
-  pub refused-reply : {why : Refusal} {hs′ ts′ os′ : List ℕ} → reply ≡ refused why → hs′ ≡ zeros n → ts′ ≡ zeros room → os′ ≡ zeros size → replied (refused why) hs′ ts′ os′ ≡ repliedOf n room size (whole n room size)
+  pub refused-reply : {why : Refusal} {hs′ ts′ os′ : List ℕ} → reply ≡ refused why → hs′ ≡ zeros n → ts′ ≡ zeros room → os′ ≡ zeros size
+      → replied (refused why) hs′ ts′ os′ ≡ repliedOf n room size (whole n room size)
   unfolding repliedOf
   refused-reply {why} e zh zt zo = (λ i. replied (refused why) (zh i) (zt i) (zo i)) ∙ ap (repliedOf n room size) (refused-so (Filled n room size hs ts os) (whole n room size) settled e)
 
 -- a request that is none, and what one means
 module _ (request map atlas zones : List ℕ) (n room size : ℕ) where
-  pub no-request : {why : Refusal} {hs ts os : List ℕ} → refused why ≡ requestOf request → hs ≡ zeros n → ts ≡ zeros room → os ≡ zeros size → replied (refused why) hs ts os ≡ slipped request map atlas zones n room size
+  pub no-request : {why : Refusal} {hs ts os : List ℕ} → refused why ≡ requestOf request → hs ≡ zeros n → ts ≡ zeros room → os ≡ zeros size
+      → replied (refused why) hs ts os ≡ slipped request map atlas zones n room size
   unfolding slipped slipOf repliedOf
   no-request {why} e zh zt zo = (λ i. replied (refused why) (zh i) (zt i) (zo i)) ∙ ap (repliedOf n room size) (carried e _)
 

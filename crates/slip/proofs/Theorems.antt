@@ -1,25 +1,18 @@
 -- What the slip promises, by name. Assumes nothing.
-use Prim.Native.Nat.{ℕ, _+_, _-_, _^_, _≤_, _<_}
-use lib.{IntN.{ℤ}, ListN.{length, take, length-append}, Seq.{take-at}, Signed.{mag}}
-use mathlib.Core.{Bool.{true, false}, List.{List, [], _∷_, _++_}, Logic.{_⊎_, inl, inr}, Path.{_≡_, refl, sym, ap, subst, _∙_}}
-use native.Mathlib.Omega.{arith}
+use Rattle.numbers.proofs.Prelude.{ℕ, _+_, _-_, _^_, _≤_, _<_, ℤ, length, take, length-append, take-at, mag, true, false, List, [], _∷_, _++_, inl, inr, _≡_, refl, sym, ap, subst, _∙_, arith}
+use Rattle.numbers.{proofs.Replies.{NumberedReply, number-of, onward}, specs.{Lists.{zeros, padded}, Reply.{Reply, given, refused, plain, demand, _>>=_, _>>_}, declared.refusal.Refusal.{Refusal}}}
 use Rattle.atlas.{proofs.{AtlasIsPlain.{alike-from}, BesideIsPlain.{zones-beside-is-plain}}, specs.{Atlas.{isAtlasOf}, Beside.{NoneOrAtlas}}}
-use Rattle.calendar.proofs.{Laws.{weekday-closed}, Months.{month-short}}
-use Rattle.calendar.specs.{Calendar.{isLeap, dayNumber}, Civil.{Shows}, declared.civil.Reading.{Reading}}
-use Rattle.numbers.proofs.Replies.{NumberedReply, number-of, onward}
-use Rattle.numbers.specs.{Lists.{zeros, padded}, Reply.{Reply, given, refused, plain, demand, _>>=_, _>>_}, declared.refusal.Refusal.{Refusal}}
+use Rattle.calendar.{proofs.{Laws.{weekday-closed}, Months.{month-short}}, specs.{Calendar.{isLeap, dayNumber}, Civil.{Shows}, declared.civil.Reading.{Reading}}}
 use Rattle.header.specs.Header.{headOf}
 use Rattle.request.specs.{Request.{requestOf}, declared.read.Fix.{Fix}}
 use Rattle.slip.proofs.{Clocks.{Fitting, read-back}, Making.{afterLookup, made, behind, meant, each-says, first, first-hourly}, Numbered.{slip-at-told, slip-told}}
 use Rattle.slip.proofs.Shortness.{Named, names-short, clock-short, zones-all}
 use Rattle.slip.specs.{Hour.{Hour}, Line.{clockText, isAmong, between, zoneText, added, zonesFrom, lineOf}, ReadBack.{readBack}}
 use Rattle.slip.specs.Says.{Meant, Whole, AllSay, Agreed, Clocked, Short, isAtNumber, isSlipNumber, zonesMost}
-use Rattle.slip.specs.Slip.{Slip, placeOf, onGlobe, slipAt, slipOf, Replied, replied, repliedOf, slippedAt, slipped}
-use Rattle.slip.specs.{Told.{told}, declared.slip.{Stamped.{Stamped}, Slipped.{Slipped}}}
-use Rattle.slip.specs.declared.slip.Slipped.the-variants as S
+use Rattle.slip.specs.{Slip.{Slip, placeOf, onGlobe, slipAt, slipOf, Replied, replied, repliedOf, slippedAt, slipped}, Told.{told}, declared.slip.{Slipped.{Slipped}, Stamped.{Stamped}}}
 use Rattle.table.specs.{Hits.{words}, declared.hits.Hit.{Hit}}
-use Rattle.zones.proofs.WholeMeansWhole.{whole-means-whole}
-use Rattle.zones.specs.{Lookup.{zonesIn, lookedUp}, declared.lookup.Zones.{Zones}}
+use Rattle.zones.{proofs.WholeMeansWhole.{whole-means-whole}, specs.{Lookup.{zonesIn, lookedUp}, declared.lookup.Zones.{Zones}}}
+use Rattle.slip.specs.declared.slip.Slipped.the-variants as S
 use Rattle.zones.specs.Lent as L
 
 -- ---- one slip
@@ -34,17 +27,17 @@ again (S.Refused why) = refl
 
 one-reply : (whole : Replied) (r r′ : Slipped) (hs hs′ ts ts′ os os′ : List ℕ) → replied (told r) hs ts os ≡ whole → replied (told r′) hs′ ts′ os′ ≡ whole
     → (r ≡ r′) × (hs ≡ hs′) × (ts ≡ ts′) × (os ≡ os′)
-one-reply whole r r′ hs hs′ ts ts′ os os′ e e′ =
-    let same = e ∙ sym e′ in
+one-reply whole r r′ hs hs′ ts ts′ os os′ e e′ = let same = e ∙ sym e′ in
     (sym (again r) ∙ ap (λ (x : Replied). back (x .reply)) same ∙ again r′, ap (λ (x : Replied). x .hits) same, ap (λ (x : Replied). x .text) same, ap (λ (x : Replied). x .out) same)
 
 -- Two replies that the promise permits are one, with all lent output.
 pub one-slip-at : (fix : Fix) (map atlas zones : List ℕ) (n room size : ℕ) (r r′ : Slipped) (hs hs′ ts ts′ os os′ : List ℕ)
-    → replied (told r) hs ts os ≡ slippedAt fix map atlas zones n room size → replied (told r′) hs′ ts′ os′ ≡ slippedAt fix map atlas zones n room size → (r ≡ r′) × (hs ≡ hs′) × (ts ≡ ts′) × (os ≡ os′)
+    → replied (told r) hs ts os ≡ slippedAt fix map atlas zones n room size → replied (told r′) hs′ ts′ os′ ≡ slippedAt fix map atlas zones n room size
+    → (r ≡ r′) × (hs ≡ hs′) × (ts ≡ ts′) × (os ≡ os′)
 one-slip-at fix map atlas zones n room size = one-reply (slippedAt fix map atlas zones n room size)
 
-pub one-slip : (request map atlas zones : List ℕ) (n room size : ℕ) (r r′ : Slipped) (hs hs′ ts ts′ os os′ : List ℕ)
-    → replied (told r) hs ts os ≡ slipped request map atlas zones n room size → replied (told r′) hs′ ts′ os′ ≡ slipped request map atlas zones n room size → (r ≡ r′) × (hs ≡ hs′) × (ts ≡ ts′) × (os ≡ os′)
+pub one-slip : (request map atlas zones : List ℕ) (n room size : ℕ) (r r′ : Slipped) (hs hs′ ts ts′ os os′ : List ℕ) → replied (told r) hs ts os ≡ slipped request map atlas zones n room size
+    → replied (told r′) hs′ ts′ os′ ≡ slipped request map atlas zones n room size → (r ≡ r′) × (hs ≡ hs′) × (ts ≡ ts′) × (os ≡ os′)
 one-slip request map atlas zones n room size = one-reply (slipped request map atlas zones n room size)
 
 -- ---- an atlas
@@ -52,16 +45,17 @@ one-slip request map atlas zones n room size = one-reply (slipped request map at
 slip-at-beside : (fix : Fix) (map atlas zones : List ℕ) → NoneOrAtlas map atlas → (n room size : ℕ) → slipAt fix map atlas zones n room size ≡ slipAt fix map [] zones n room size
 unfolding slipAt
 slip-at-beside fix map atlas zones so n room size =
-    ap (λ (slip : Reply Slip). demand (onGlobe fix) (plain 84) >> slip)
-    (alike-from (headOf map) (λ head opened. ap (λ (looked : Reply (L.Outcome Zones)). looked >>= afterLookup fix map head zones size)
-    (zones-beside-is-plain map atlas so opened (placeOf fix) false n room ∙ sym (zones-beside-is-plain map [] (inl refl) opened (placeOf fix) false n room))))
+    ap (λ (slip : Reply Slip). demand (onGlobe fix) (plain 84) >> slip) (alike-from (headOf map) (λ head opened. ap (λ (looked : Reply (L.Outcome Zones)). looked
+    >>= afterLookup fix map head zones size) (zones-beside-is-plain map atlas so opened (placeOf fix) false n room ∙ sym (zones-beside-is-plain map [] (inl refl) opened (placeOf fix) false n room))))
 
 -- Where `is_atlas` says 0 of map and atlas, whoever wrote it, the slip through it is the slip without: what is stamped, the line, refusals and all lent output.
-pub slip-at-atlas-is-plain : (fix : Fix) (map atlas zones : List ℕ) → isAtlasOf map atlas ≡ given tt → (n room size : ℕ) → slippedAt fix map atlas zones n room size ≡ slippedAt fix map [] zones n room size
+pub slip-at-atlas-is-plain : (fix : Fix) (map atlas zones : List ℕ) → isAtlasOf map atlas ≡ given tt → (n room size : ℕ)
+    → slippedAt fix map atlas zones n room size ≡ slippedAt fix map [] zones n room size
 unfolding slippedAt
 slip-at-atlas-is-plain fix map atlas zones is n room size = ap (repliedOf n room size) (slip-at-beside fix map atlas zones (inr is) n room size)
 
-pub slip-atlas-is-plain : (request map atlas zones : List ℕ) → isAtlasOf map atlas ≡ given tt → (n room size : ℕ) → slipped request map atlas zones n room size ≡ slipped request map [] zones n room size
+pub slip-atlas-is-plain : (request map atlas zones : List ℕ) → isAtlasOf map atlas ≡ given tt → (n room size : ℕ)
+    → slipped request map atlas zones n room size ≡ slipped request map [] zones n room size
 unfolding slipped slipOf
 slip-atlas-is-plain request map atlas zones is n room size =
     ap (repliedOf n room size) (alike-from (requestOf request) (λ fix asked. slip-at-beside fix map atlas zones (inr is) n room size))
@@ -85,27 +79,25 @@ unfolding slipped
 slip-refusal-zeroes request map atlas zones n room size why hs ts os e = zeroes n room size (slipOf request map atlas zones n room size) why hs ts os e
 
 -- ---- stamped
--- Where it is stamped, without an atlas or through one, the search was whole: the lent hits and text are those of the lookup of what is asked about, and this is the answer of a search that never stops early.
-pub slip-at-whole : (fix : Fix) (map atlas zones : List ℕ) → NoneOrAtlas map atlas → (n room size : ℕ) (stamped : Stamped) (hs ts os : List ℕ) → replied (given stamped) hs ts os ≡ slippedAt fix map atlas zones n room size
-    → Whole fix map n room hs ts
+-- Where it is stamped, without an atlas or through one, the search was whole: the lent hits and text are those of the lookup of what is asked about, and this
+-- is the answer of a search that never stops early.
+pub slip-at-whole : (fix : Fix) (map atlas zones : List ℕ) → NoneOrAtlas map atlas → (n room size : ℕ) (stamped : Stamped) (hs ts os : List ℕ)
+    → replied (given stamped) hs ts os ≡ slippedAt fix map atlas zones n room size → Whole fix map n room hs ts
 unfolding slippedAt lookedUp zonesIn L.repliedOf
-slip-at-whole fix map atlas zones so n room size stamped hs ts os e =
-    let b = behind n room size (slipAt fix map atlas zones n room size) stamped hs ts os e in
-    let m = made fix map atlas zones n room size (b .is) in
-    let matches = ap (λ (s : Slip). s .matches) (m .is) in
+slip-at-whole fix map atlas zones so n room size stamped hs ts os e = let b = behind n room size (slipAt fix map atlas zones n room size) stamped hs ts os e in
+    let m = made fix map atlas zones n room size (b .is) in let matches = ap (λ (s : Slip). s .matches) (m .is) in
     let text = ap (λ (s : Slip). s .text) (m .is) in
-    let looked : lookedUp map (placeOf fix) false n room ≡ L.replied (given (m .looked .answer)) hs ts =
-    sym (ap (L.repliedOf n room) (m .found ∙ zones-beside-is-plain map atlas so (m .opened) (placeOf fix) false n room ∙ onward (m .opened) _))
-    ∙ (λ i. L.replied (given (m .looked .answer)) (sym (b .hits ∙ ap (λ (ms : List Hit). padded n (words ms)) matches) i) (sym (b .text ∙ ap (padded room) text) i)) in
-    record {
+    let looked : lookedUp map (placeOf fix) false n room ≡ L.replied (given (m .looked .answer)) hs ts = sym (ap (L.repliedOf n room) (m .found
+    ∙ zones-beside-is-plain map atlas so (m .opened) (placeOf fix) false n room ∙ onward (m .opened) _)) ∙ (λ i. L.replied (given (m .looked .answer))
+    (sym (b .hits ∙ ap (λ (ms : List Hit). padded n (words ms)) matches) i) (sym (b .text ∙ ap (padded room) text) i)) in record {
       zones = m .looked .answer;
       looked = looked;
       mark = m .mark;
       whole = whole-means-whole map (placeOf fix) false n room (m .looked .answer) (ap (λ (x : L.Replied Zones). x .reply) looked) (m .mark);
     }
 
-pub slip-whole : (request map atlas zones : List ℕ) → NoneOrAtlas map atlas → (n room size : ℕ) (stamped : Stamped) (hs ts os : List ℕ) → replied (given stamped) hs ts os ≡ slipped request map atlas zones n room size
-    → Meant request (λ fix. Whole fix map n room hs ts)
+pub slip-whole : (request map atlas zones : List ℕ) → NoneOrAtlas map atlas → (n room size : ℕ) (stamped : Stamped) (hs ts os : List ℕ)
+    → replied (given stamped) hs ts os ≡ slipped request map atlas zones n room size → Meant request (λ fix. Whole fix map n room hs ts)
 slip-whole request map atlas zones so n room size stamped hs ts os e = meant request map atlas zones n room size e (λ fix. slip-at-whole fix map atlas zones so n room size stamped hs ts os)
 
 says-all : (fix : Fix) (map atlas zones : List ℕ) (n room size : ℕ) (slip : Slip) → given slip ≡ slipAt fix map atlas zones n room size
@@ -130,16 +122,15 @@ says-all fix map atlas zones n room size slip e =
 pub slip-at-agrees : (fix : Fix) (map atlas zones : List ℕ) (n room size : ℕ) (stamped : Stamped) (hs ts os : List ℕ) → replied (given stamped) hs ts os ≡ slippedAt fix map atlas zones n room size
     → Agreed fix map zones n size stamped hs os
 unfolding slippedAt
-slip-at-agrees fix map atlas zones n room size stamped hs ts os e =
-    let b = behind n room size (slipAt fix map atlas zones n room size) stamped hs ts os e in
-    let m = made fix map atlas zones n room size (b .is) in
-    record {
+slip-at-agrees fix map atlas zones n room size stamped hs ts os e = let b = behind n room size (slipAt fix map atlas zones n room size) stamped hs ts os e in
+    let m = made fix map atlas zones n room size (b .is) in record {
       matches = b .slip .matches;
       hits = b .hits;
       line = b .slip .line;
       out = b .out;
       long = ap (λ (s : Stamped). s .length) (b .said) ∙ ap (λ (s : Slip). s .stamped .length) (m .is) ∙ sym (ap (λ (s : Slip). length (s .line)) (m .is));
-      says = subst (λ (z : ℤ). AllSay map zones fix (b .slip .matches) z (b .slip .line)) (sym (ap (λ (s : Stamped). s .offset) (b .said))) (says-all fix map atlas zones n room size (b .slip) (b .is));
+      says = subst (λ (z : ℤ). AllSay map zones fix (b .slip .matches) z (b .slip .line)) (sym (ap (λ (s : Stamped). s .offset) (b .said)))
+          (says-all fix map atlas zones n room size (b .slip) (b .is));
     }
 
 pub slip-agrees : (request map atlas zones : List ℕ) (n room size : ℕ) (stamped : Stamped) (hs ts os : List ℕ) → replied (given stamped) hs ts os ≡ slipped request map atlas zones n room size
@@ -149,30 +140,25 @@ slip-agrees request map atlas zones n room size stamped hs ts os e = meant reque
 -- ---- read back
 -- what a clock shows has room in its digits
 shown-fits : {local : ℤ} {reading : Reading} → Shows local reading → Fitting reading
-shown-fits {reading = reading} s =
-    let months = s .date .months in
-    record {
-      year = s .date .range .to;
-      month = omega (arith, months .month-to);
-      day = omega (arith, months .day-to, month-short (isLeap (reading .year)) (reading .month) (months .month-from) (months .month-to));
-      hour = omega (arith, s .hour);
-      minute = omega (arith, s .minute);
-      second = omega (arith, s .second);
-      weekday = omega (arith, s .weekday, weekday-closed (dayNumber (reading .year) (reading .month) (reading .day)));
-    }
+shown-fits {reading = reading} s = let months = s .date .months in record {
+  year = s .date .range .to;
+  month = omega (arith, months .month-to);
+  day = omega (arith, months .day-to, month-short (isLeap (reading .year)) (reading .month) (months .month-from) (months .month-to));
+  hour = omega (arith, s .hour);
+  minute = omega (arith, s .minute);
+  second = omega (arith, s .second);
+  weekday = omega (arith, s .weekday, weekday-closed (dayNumber (reading .year) (reading .month) (reading .day)));
+}
 
 -- Where it is stamped, the printed bytes, read back as weekday, date, time and offset, are the one civil reading of instant and offset, and the offset.
 pub slip-at-clock : (fix : Fix) (map atlas zones : List ℕ) (n room size : ℕ) (stamped : Stamped) (hs ts os : List ℕ) → replied (given stamped) hs ts os ≡ slippedAt fix map atlas zones n room size
     → Clocked fix stamped os
 unfolding slippedAt
-slip-at-clock fix map atlas zones n room size stamped hs ts os e =
-    let b = behind n room size (slipAt fix map atlas zones n room size) stamped hs ts os e in
+slip-at-clock fix map atlas zones n room size stamped hs ts os e = let b = behind n room size (slipAt fix map atlas zones n room size) stamped hs ts os e in
     let m = made fix map atlas zones n room size (b .is) in
     let f = first-hourly map (m .head) zones (fix .instant) (m .looked .matches) (m .hours) (m .said) (first (m .hours) (m .agree)) in
     let same : m .hour .offset ≡ stamped .offset = sym (ap (λ (s : Stamped). s .offset) (b .said) ∙ ap (λ (s : Slip). s .stamped .offset) (m .is)) in
-    let a = slip-at-agrees fix map atlas zones n room size stamped hs ts os e in
-    let says = a .says in
-    record {
+    let a = slip-at-agrees fix map atlas zones n room size stamped hs ts os e in let says = a .says in record {
       reading = says .reading;
       shows = says .shows;
       back =
@@ -195,33 +181,31 @@ refused-of n room size (given slip) why hs ts os e h = let said = ap (λ (x : Re
 refused-of n room size (refused w) why hs ts os e h = number-of h (ap refused (sym (same-why (ap (λ (x : Replied). x .reply) e))))
 
 -- Where it is not stamped, without an atlas or through one, the number is one of the map's, 1 to 18, of a zone file's, 40 to 61, or of the slip's own, 84 to 92;
-pub slip-at-refusals : (fix : Fix) (map atlas zones : List ℕ) → NoneOrAtlas map atlas → (n room size : ℕ) (why : Refusal) (hs ts os : List ℕ) → replied (refused why) hs ts os ≡ slippedAt fix map atlas zones n room size
-    → isAtNumber (why .number) ≡ true
+pub slip-at-refusals : (fix : Fix) (map atlas zones : List ℕ) → NoneOrAtlas map atlas → (n room size : ℕ) (why : Refusal) (hs ts os : List ℕ)
+    → replied (refused why) hs ts os ≡ slippedAt fix map atlas zones n room size → isAtNumber (why .number) ≡ true
 unfolding slippedAt
 slip-at-refusals fix map atlas zones so n room size why hs ts os e = refused-of n room size (slipAt fix map atlas zones n room size) why hs ts os e (slip-at-told fix map atlas zones so n room size)
 
 -- for a request from 80 on.
-pub slip-refusals : (request map atlas zones : List ℕ) → NoneOrAtlas map atlas → (n room size : ℕ) (why : Refusal) (hs ts os : List ℕ) → replied (refused why) hs ts os ≡ slipped request map atlas zones n room size
-    → isSlipNumber (why .number) ≡ true
+pub slip-refusals : (request map atlas zones : List ℕ) → NoneOrAtlas map atlas → (n room size : ℕ) (why : Refusal) (hs ts os : List ℕ)
+    → replied (refused why) hs ts os ≡ slipped request map atlas zones n room size → isSlipNumber (why .number) ≡ true
 unfolding slipped
-slip-refusals request map atlas zones so n room size why hs ts os e = refused-of n room size (slipOf request map atlas zones n room size) why hs ts os e (slip-told request map atlas zones so n room size)
+slip-refusals request map atlas zones so n room size why hs ts os e =
+    refused-of n room size (slipOf request map atlas zones n room size) why hs ts os e (slip-told request map atlas zones so n room size)
 
 -- ---- the longest line
 -- Where it is stamped, the line has at most 36 bytes and for each different zone 43 and its abbreviation: with one name 79 bytes and the abbreviation.
 pub slip-at-short : (fix : Fix) (map atlas zones : List ℕ) (n room size : ℕ) (stamped : Stamped) (hs ts os : List ℕ) → replied (given stamped) hs ts os ≡ slippedAt fix map atlas zones n room size
     → Short fix map zones n stamped hs
 unfolding slippedAt lineOf
-slip-at-short fix map atlas zones n room size stamped hs ts os e =
-    let b = behind n room size (slipAt fix map atlas zones n room size) stamped hs ts os e in
-    let m = made fix map atlas zones n room size (b .is) in
-    let f = first (m .hours) (m .agree) in
+slip-at-short fix map atlas zones n room size stamped hs ts os e = let b = behind n room size (slipAt fix map atlas zones n room size) stamped hs ts os e in
+    let m = made fix map atlas zones n room size (b .is) in let f = first (m .hours) (m .agree) in
     let h = first-hourly map (m .head) zones (fix .instant) (m .looked .matches) (m .hours) (m .said) f .1 in
     let named = names-short map (m .head) zones (fix .instant) 1 (m .looked .matches) (m .hours) (m .said) in
     let clock = clock-short (m .hour .reading) (m .hour .offset) (shown-fits (h .shows) .weekday) (h .fits .sfits) in
-    let rest : length (zonesFrom [] (m .hours)) + 1 ≤ zonesMost [] (m .hours) =
-    subst (λ (hs : List Hour). length (zonesFrom [] hs) + 1 ≤ zonesMost [] hs) (sym (f .are)) (zones-all (m .hour) (f .rest) (subst Named (f .are) named)) in
-    let long : stamped .length ≡ length (lineOf (m .hour) (m .hours)) = ap (λ (s : Stamped). s .length) (b .said) ∙ ap (λ (s : Slip). s .stamped .length) (m .is) in
-    record {
+    let rest : length (zonesFrom [] (m .hours)) + 1 ≤ zonesMost [] (m .hours) = subst (λ (hs : List Hour). length (zonesFrom [] hs) + 1 ≤ zonesMost [] hs)
+    (sym (f .are)) (zones-all (m .hour) (f .rest) (subst Named (f .are) named)) in
+    let long : stamped .length ≡ length (lineOf (m .hour) (m .hours)) = ap (λ (s : Stamped). s .length) (b .said) ∙ ap (λ (s : Slip). s .stamped .length) (m .is) in record {
       matches = m .looked .matches;
       hits = b .hits ∙ ap (λ (s : Slip). padded n (words (s .matches))) (m .is);
       head = m .head;

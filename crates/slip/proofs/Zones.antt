@@ -1,20 +1,18 @@
 -- The zones of a line, one match after another. Assumes nothing.
-use Prim.Native.Nat.{ℕ, zero, suc, _+_, _≤_, _<_}
-use lib.{IntN.{ℤ}, ListN.{length, getD, take, drop, drop-of-length-le}, Seq.{drop-cons, take-suc}}
-use mathlib.Core.{Bool.{Bool, true, false, _||_}, List.{List, [], _∷_, _++_, append-nil, append-assoc}, Path.{_≡_, refl, sym, ap, _∙_, subst}}
-use native.Mathlib.{Numerals.{add-one}, Omega.{arith}}
+use Rattle.numbers.proofs.Prelude.{ℕ, zero, suc, _+_, _≤_, _<_, ℤ, length, take, drop, getD, drop-of-length-le, drop-cons, take-suc, Bool, true, false, _||_, List, [], _∷_, _++_, append-assoc}
+use Rattle.numbers.proofs.Prelude.{append-nil, _≡_, refl, sym, ap, subst, _∙_, add-one, arith}
+use Rattle.numbers.{proofs.Replies.{given-from, given-one}, specs.{Reply.{Reply, given, refused}, declared.refusal.Refusal.{Refusal}}}
 use Rattle.header.specs.declared.header.Head.{Head}
 use Rattle.bundle.specs.Bundle.{findOf}
 use Rattle.calendar.specs.Civil.{civilAt}
 use Rattle.line.{proofs.Puts.{put-none, put-as, put-then, put-length}, specs.Put.{Put}}
-use Rattle.numbers.{proofs.Replies.{given-from, given-one}, specs.{Reply.{Reply, given, refused}, declared.refusal.Refusal.{Refusal}}}
 use Rattle.slip.proofs.Asking.{Asked, asked-none, asked-one, asked-stop, asked-all}
 use Rattle.slip.specs.{Hour.{Hour, nameOf, localIn, shown, hourIn, ofMatch, hourOf, hoursFrom}, Line.{clockText, isAmong, between, zoneText, added, zonesFrom, lineOf}}
 use Rattle.slip.specs.{Told.{nameIn, toldZone, isNamed, isNamedIn, addedBy, Lined, Inked, Seen, FirstAt}, declared.{hours.All.{All}, name.Zone.{Zone}}}
 use Rattle.tzif.specs.Text.{slice}
-use Rattle.slip.specs.declared.name.Zone.the-variants as Z
 use Rattle.table.specs.{Hits.{noHit}, declared.hits.Hit.{Hit}}
 use Rattle.zones.specs.{Simple.{same}, declared.simple.Parts.{Parts}}
+use Rattle.slip.specs.declared.name.Zone.the-variants as Z
 
 first-same : {A : Type 0} {a b : A} {xs ys : List A} → a ∷ xs ≡ b ∷ ys → a ≡ b
 first-same e = cc
@@ -60,8 +58,7 @@ module _ (file : List ℕ) (head : Head) (name : List ℕ) (matches : List Hit) 
   module _ (more : i < length matches) {hit : Hit} (is : hit ≡ getD matches i noHit) {test : Bool} (t : test ≡ isNamed (nameOf file head (hit .metadata)) name) where
     opened : (test || isNamedIn file head name (drop (i + 1) matches)) ≡ whole
     unfolding isNamedIn
-    opened =
-        let cons : drop i matches ≡ hit ∷ drop (i + 1) matches = drop-cons matches i noHit more ∙ (λ j. sym is j ∷ drop (sym (add-one i) j) matches) in
+    opened = let cons : drop i matches ≡ hit ∷ drop (i + 1) matches = drop-cons matches i noHit more ∙ (λ j. sym is j ∷ drop (sym (add-one i) j) matches) in
         ap (λ (x : Bool). x || isNamedIn file head name (drop (i + 1) matches)) t ∙ ap (isNamedIn file head name) (sym cons) ∙ so-far
 
     pub one-is : test ≡ true → true ≡ whole
@@ -87,7 +84,8 @@ module _ (file : List ℕ) (head : Head) where
   Named (match ∷ matches) [] = ⊥
   Named (match ∷ matches) (hour ∷ hours) = (nameOf file head (match .metadata) ≡ given (hour .name)) × Named matches hours
 
-  named-one : (matches : List Hit) (hours : List Hour) (match : Hit) (hour : Hour) → Named matches hours → nameOf file head (match .metadata) ≡ given (hour .name) → Named (matches ++ (match ∷ [])) (hours ++ (hour ∷ []))
+  named-one : (matches : List Hit) (hours : List Hour) (match : Hit) (hour : Hour) → Named matches hours → nameOf file head (match .metadata) ≡ given (hour .name)
+      → Named (matches ++ (match ∷ [])) (hours ++ (hour ∷ []))
   unfolding Named
   named-one [] [] match hour n e = (e, tt)
   named-one [] (h ∷ hours) match hour n e = absurd n
@@ -109,18 +107,15 @@ same-match number (refused why) e = let z : _≡_ {A = ℕ} 0 1 = cc in absurd (
 
 hour-name : (zones : List ℕ) (instant : ℤ) (name : List ℕ) {hour : Hour} → given hour ≡ hourIn zones instant name → hour .name ≡ name
 unfolding hourIn
-hour-name zones instant name {hour} e =
-    let file = given-from (findOf zones name) _ e in
+hour-name zones instant name {hour} e = let file = given-from (findOf zones name) _ e in
     let found = given-from (localIn (slice zones (file .it .start) (file .it .length)) instant) _ (file .onto) in
-    let reading = given-from (shown (civilAt instant (found .it .offset))) _ (found .onto) in
-    ap (λ (h : Hour). h .name) (given-one (reading .onto))
+    let reading = given-from (shown (civilAt instant (found .it .offset))) _ (found .onto) in ap (λ (h : Hour). h .name) (given-one (reading .onto))
 
 -- ---- the zones so far
 module _ (file : List ℕ) (head : Head) (zones : List ℕ) (instant : ℤ) where
   pub says-name : (number : ℕ) (hit : Hit) {hour : Hour} → hourOf file head zones instant number hit ≡ given hour → nameOf file head (hit .metadata) ≡ given (hour .name)
   unfolding hourOf
-  says-name number hit {hour} e =
-      let name = given-from (nameOf file head (hit .metadata)) _ (sym e) in
+  says-name number hit {hour} e = let name = given-from (nameOf file head (hit .metadata)) _ (sym e) in
       sym (ap given (hour-name zones instant (name .it) (same-match number _ (name .onto))) ∙ name .is)
 
   -- the first i matches have added theirs
@@ -171,15 +166,14 @@ pub first-at : (file : List ℕ) (head : Head) (zones : List ℕ) (instant : ℤ
     → Seen file zones hs all → first ≡ getD matches 0 noHit → FirstAt file head zones instant first (all .first)
 unfolding hoursFrom
 first-at file head zones instant [] e seen is = let z : _≡_ {A = List Hour} [] (_ ∷ _) = given-one (sym e) ∙ seen .are in let n : _≡_ {A = ℕ} 0 1 = cc in absurd (omega arith)
-first-at file head zones instant (match ∷ matches) e seen is =
-    let hour = given-from (hourOf file head zones instant 1 match) _ e in
-    let rest = given-from (hoursFrom file head zones instant 2 matches) _ (hour .onto) in
-    record {
+first-at file head zones instant (match ∷ matches) e seen is = let hour = given-from (hourOf file head zones instant 1 match) _ e in
+    let rest = given-from (hoursFrom file head zones instant 2 matches) _ (hour .onto) in record {
       says = ap (hourOf file head zones instant 1) is ∙ sym (hour .is) ∙ ap given (first-same (sym (given-one (rest .onto)) ∙ seen .are));
       stands = seen .stands;
     }
 
 -- the clock, and the zones behind it
-pub inked : {hours : Reply (List Hour)} (hour : Hour) {before middle after : List ℕ} {at next : ℕ} → Put before 0 (clockText (hour .reading) (hour .offset)) middle at → Lined hours middle at after next → Inked hours hour before after next
+pub inked : {hours : Reply (List Hour)} (hour : Hour) {before middle after : List ℕ} {at next : ℕ} → Put before 0 (clockText (hour .reading) (hour .offset)) middle at
+    → Lined hours middle at after next → Inked hours hour before after next
 unfolding lineOf
 inked hour p l = record { line = λ e. put-then _ _ p (l .zones e); kept = l .kept ∙ put-length p }

@@ -1,19 +1,16 @@
 -- S-3, step 6: what a match says of the instant. Its zone's name, the local time by that zone's file, and what a clock shows there.
-use Prim.Native.Nat.{ℕ, _+_, min}
-use lib.{Dec.{eqb}, IntN.{ℤ}}
-use mathlib.Core.{Bool.{not}, List.{List, [], _∷_}, Option.{Option, none, some}}
+use Rattle.numbers.specs.Prelude.{ℕ, _+_, min, eqb, ℤ, not, List, [], _∷_, Option, some, none}
+use Rattle.numbers.specs.{Reply.{Reply, given, refused, refusal, plain, demand, _>>=_, _>>_}, declared.refusal.Refusal.{Refusal}}
 use Rattle.bundle.specs.Bundle.{findOf}
 use Rattle.calendar.specs.{Civil.{civilAt}, declared.civil.{Civil.{Civil}, Reading.{Reading}}}
-use Rattle.calendar.specs.declared.civil.Civil.the-variants as C
 use Rattle.header.specs.declared.header.Head.{Head}
 use Rattle.localtime.specs.Local.{answerAt, scaleAt}
-use Rattle.numbers.specs.Reply.{Reply, given, refused, refusal, plain, demand, _>>=_, _>>_}
-use Rattle.numbers.specs.declared.refusal.Refusal.{Refusal}
 use Rattle.table.specs.declared.hits.Hit.{Hit}
 use Rattle.tzif.specs.{Header.{rfc9636}, Text.{slice}, declared.local.{Answer.{Answer}, Found.{Found}}}
+use Rattle.zones.specs.Simple.{descriptionAt}
+use Rattle.calendar.specs.declared.civil.Civil.the-variants as C
 use Rattle.tzif.specs.declared.local.Answer.the-variants as A
 use Rattle.tzif.specs.Reply as Z
-use Rattle.zones.specs.Simple.{descriptionAt}
 
 -- what a match says: the zone's name, its abbreviation and offset at the instant, and what a clock shows there
 pub record Hour : Type 0 where

@@ -1,10 +1,7 @@
 -- The printed line: "Wed 2026-07-01 13:59:59 +02:00 CEST Europe/Berlin".
-use Prim.Native.Nat.{ℕ, zero, suc}
-use lib.{IntN.{ℤ}, ListN.{length}}
-use mathlib.Core.{Bool.{Bool, true, false, _||_}, List.{List, [], _∷_, _++_, map}}
+use Rattle.numbers.specs.{Answer.{if_then_else_}, Prelude.{ℕ, zero, suc, ℤ, length, Bool, false, _||_, List, [], _∷_, _++_, map}}
 use Rattle.calendar.specs.declared.civil.Reading.{Reading}
 use Rattle.line.specs.Clock.{weekdayText, dateText, timeText, offsetText, shown}
-use Rattle.numbers.specs.Answer.{if_then_else_}
 use Rattle.slip.specs.Hour.{Hour}
 use Rattle.zones.specs.Simple.{same}
 

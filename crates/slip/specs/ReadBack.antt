@@ -1,11 +1,8 @@
 -- A printed line read back as numbers: weekday, date, time and offset, from their letters and digits. Digits count as a request's do.
-use Prim.Native.Nat.{ℕ, zero, suc, _+_, _*_}
-use lib.{Dec.{leb}, IntN.{ℤ}, ListN.{length, getD, take, drop}}
-use mathlib.Core.{Bool.{Bool, _&&_, _||_}, List.{List, [], _∷_}}
+use Rattle.numbers.specs.{Answer.{Answer, found, failed, if_then_else_, _>>=_}, Prelude.{ℕ, zero, suc, _+_, _*_, leb, ℤ, length, take, drop, getD, Bool, _&&_, _||_, List, [], _∷_}}
 use Rattle.calendar.specs.declared.civil.Reading.{Reading}
 use Rattle.line.specs.Clock.{weekdayText}
-use Rattle.numbers.specs.Answer.{Answer, found, failed, if_then_else_, _>>=_}
-use Rattle.request.specs.{Text.{digits, formed, until, word}, Number.{valueOf, partOf, isSign, isMinus}, Clock.{signedOf}}
+use Rattle.request.specs.{Clock.{signedOf}, Number.{valueOf, partOf, isSign, isMinus}, Text.{digits, formed, until, word}}
 use Rattle.zones.specs.Simple.{same}
 
 -- what a line says: what the clock shows, and seconds east of UT

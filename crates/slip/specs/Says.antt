@@ -1,11 +1,8 @@
 -- What a stamped slip says of its search and of its matches: the words of its theorems.
-use Prim.Native.Nat.{ℕ, _+_, _≤_}
-use lib.{Dec.{leb}, IntN.{ℤ, _+ℤ_}, ListN.{length, take}}
-use mathlib.Core.{Bool.{Bool, false, _&&_, _||_}, List.{List, [], _∷_, _++_}, Path.{_≡_}}
+use Rattle.numbers.specs.{Answer.{found, if_then_else_}, Lists.{padded}, Prelude.{ℕ, _+_, _≤_, leb, ℤ, _+ℤ_, length, take, Bool, false, _&&_, _||_, List, [], _∷_, _++_, _≡_}, Reply.{given}}
 use Rattle.bundle.specs.{Bundle.{findOf}, declared.find.File.{File}}
 use Rattle.calendar.specs.{Civil.{Shows}, declared.civil.Reading.{Reading}}
 use Rattle.header.specs.{Header.{headOf}, declared.header.Head.{Head}}
-use Rattle.numbers.specs.{Answer.{found, if_then_else_}, Lists.{padded}, Reply.{given}}
 use Rattle.request.specs.{Request.{requestOf}, declared.read.Fix.{Fix}}
 use Rattle.slip.specs.{Hour.{Hour, nameOf, localIn, hoursFrom}, Line.{clockText, isAmong}, ReadBack.{readBack}, Slip.{placeOf}, declared.slip.Stamped.{Stamped}}
 use Rattle.table.specs.{Hits.{words}, declared.hits.Hit.{Hit}}

@@ -1,16 +1,14 @@
 -- S-3, the slip, in its order.
-use Prim.Native.Nat.{ℕ, min}
-use lib.{Dec.{eqb, leb}, Ieee.{Float, le, neg}, IntN.{ℤ}, ListN.{length}}
-use mathlib.Core.{Bool.{Bool, true, false, _&&_}, List.{List, [], _∷_}}
-use Rattle.atlas.specs.Beside.{zonesBeside}
-use Rattle.header.specs.{Header.{headOf}, declared.header.Head.{Head}}
-use Rattle.line.specs.Put.{far}
+use Rattle.numbers.specs.Prelude.{ℕ, min, eqb, leb, Float, ℤ, length, Bool, true, false, _&&_, List, [], _∷_}
 use Rattle.numbers.specs.{Lists.{zeros, padded}, Reply.{Reply, given, refused, refusal, plain, demand, _>>=_, _>>_}}
+use lib.Ieee.{le, neg}
+use Rattle.atlas.specs.Beside.{zonesBeside}
+use Rattle.header.specs.Header.{headOf}
+use Rattle.line.specs.Put.{far}
 use Rattle.request.specs.{Request.{requestOf}, declared.read.Fix.{Fix}}
 use Rattle.slip.specs.{Hour.{Hour, hoursFrom}, Line.{lineOf}, declared.slip.Stamped.{Stamped}}
 use Rattle.table.specs.{Find.{ninety, halfTurn}, Hits.{words}, declared.{hits.Hit.{Hit}, location.Location.{Location}}}
 use Rattle.verdict.specs.Edge.{sameZ}
-use Rattle.zones.specs.{Lent.{Outcome}, declared.lookup.Zones.{Zones}}
 
 -- ---- what is asked about
 abbrev pub placeOf : Fix → Location

@@ -1,24 +1,22 @@
 -- What the code's answers say: names, abbreviations and lines by where they stand in what was lent.
-use Prim.Native.Nat.{ℕ, _+_, _≤_}
-use lib.{Dec.{eqb}, IntN.{ℤ}, ListN.{length}}
-use mathlib.Core.{Bool.{Bool, true, false, _||_}, List.{List, [], _∷_, _++_}, Path.{_≡_}}
+use Rattle.numbers.specs.Prelude.{ℕ, _+_, _≤_, eqb, ℤ, length, Bool, false, _||_, List, [], _∷_, _++_, _≡_}
+use Rattle.numbers.specs.{Answer.{if_then_else_}, Lists.{padded}, Reply.{Reply, given, refused, refusal, demand, _>>=_, _>>_}}
 use Rattle.atlas.specs.Beside.{zonesBeside}
 use Rattle.header.specs.{Text.{bytesOf}, declared.header.Head.{Head}}
 use Rattle.calendar.specs.declared.civil.Reading.{Reading}
 use Rattle.line.specs.Put.{Put}
-use Rattle.numbers.specs.{Answer.{if_then_else_}, Lists.{padded}, Reply.{Reply, given, refused, refusal, demand, _>>=_, _>>_}}
 use Rattle.request.specs.declared.read.Fix.{Fix}
 use Rattle.slip.specs.{Hour.{Hour, nameOf, hourOf, hoursFrom}, Line.{between, zoneText, zonesFrom, lineOf}, Slip.{Slip, placeOf, agreed, fitted, repliedOf, replied, haveOffset}}
-use Rattle.slip.specs.declared.{hour.{Spot.{Spot}, Hourly.{Hourly}, Told.{Told}, Clock.{Clock}}, hours.{All.{All}, Hours.{Hours}}, name.Zone.{Zone}, slip.{Stamped.{Stamped}, Slipped.{Slipped}}}
+use Rattle.slip.specs.declared.{hour.{Clock.{Clock}, Hourly.{Hourly}, Spot.{Spot}, Told.{Told}}, hours.{All.{All}, Hours.{Hours}}, name.Zone.{Zone}, slip.{Slipped.{Slipped}, Stamped.{Stamped}}}
+use Rattle.table.specs.declared.hits.Hit.{Hit}
+use Rattle.tzif.specs.{Local.{Held}, Text.{slice}, declared.local.Found.{Found}}
+use Rattle.zones.specs.{Simple.{same, LiesParts}, declared.simple.Parts.{Parts}}
 use Rattle.slip.specs.declared.hour.Hourly.the-variants as H
 use Rattle.slip.specs.declared.hour.Told.the-variants as T
 use Rattle.slip.specs.declared.hour.Clock.the-variants as K
 use Rattle.slip.specs.declared.hours.Hours.the-variants as A
 use Rattle.slip.specs.declared.name.Zone.the-variants as Z
 use Rattle.slip.specs.declared.slip.Slipped.the-variants as S
-use Rattle.table.specs.declared.hits.Hit.{Hit}
-use Rattle.tzif.specs.{Local.{Held}, Text.{slice}, declared.local.Found.{Found}}
-use Rattle.zones.specs.{Simple.{same, LiesParts}, declared.simple.Parts.{Parts}}
 
 -- ---- a name in the map
 abbrev pub nameIn : List ℕ → Parts → List ℕ

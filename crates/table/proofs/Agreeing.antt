@@ -1,6 +1,5 @@
 -- Replies that agree: how to show it, and what it shows of the definition's reply. Assumes nothing.
-use mathlib.Core.Path.{_≡_, refl, sym, subst, ap}
-use Rattle.numbers.specs.{Reply.{Reply, given, refused}, declared.refusal.Refusal.{Refusal}}
+use Rattle.numbers.{proofs.Prelude.{_≡_, refl, sym, ap, subst}, specs.{Reply.{Reply, given, refused}, declared.refusal.Refusal.{Refusal}}}
 use Rattle.table.specs.inner.Agreeing.{Agrees}
 
 module _ {A B : Type 0} (so : A → B → Type 0) {whole : Reply A} where
@@ -21,16 +20,14 @@ pub record Gave {A B : Type 0} (so : A → B → Type 0) (whole : Reply A) (b : 
 module _ {A B : Type 0} (so : A → B → Type 0) (whole : Reply A) {reply : Reply B} (agrees : Agrees so whole reply) where
   pub gave : {b : B} → reply ≡ given b → Gave so whole b
   unfolding Agrees
-  gave {b} e = go whole (subst (λ (r : Reply B). Agrees so whole r) e agrees)
-    where
-      go : (whole : Reply A) → Agrees so whole (given b) → Gave so whole b
-      go (given a) h = record { it = a; is = refl; fits = h }
-      go (refused why) h = absurd h
+  gave {b} e = go whole (subst (λ (r : Reply B). Agrees so whole r) e agrees) where
+    go : (whole : Reply A) → Agrees so whole (given b) → Gave so whole b
+    go (given a) h = record { it = a; is = refl; fits = h }
+    go (refused why) h = absurd h
 
   pub refused-so : {why : Refusal} → reply ≡ refused why → refused why ≡ whole
   unfolding Agrees
-  refused-so {why} e = go whole (subst (λ (r : Reply B). Agrees so whole r) e agrees)
-    where
-      go : (whole : Reply A) → Agrees so whole (refused why) → refused why ≡ whole
-      go (given a) h = absurd h
-      go (refused why′) h = ap refused (sym h)
+  refused-so {why} e = go whole (subst (λ (r : Reply B). Agrees so whole r) e agrees) where
+    go : (whole : Reply A) → Agrees so whole (refused why) → refused why ≡ whole
+    go (given a) h = absurd h
+    go (refused why′) h = ap refused (sym h)

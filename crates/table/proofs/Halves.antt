@@ -1,18 +1,13 @@
 -- A search of rows that are two lists one behind the other, and the searches of each: what two boards that each search half of a table join (request Q-12). Assumes nothing.
-use Prim.Native.Nat.{ℕ, _+_, _≤_, _<_}
-use borrow.Author.Tests.{lt-ltb, eqb-true}
-use lib.{Dec.{ltb, eqb}, IntN.{pos}, ListN.{length, length-append}}
-use mathlib.Core.{Bool.{Bool, true, false}, List.{List, [], _∷_, _++_, append-assoc, append-nil}, Path.{_≡_, refl, sym, ap, _∙_}}
-use native.Mathlib.Omega.{arith}
-use Rattle.verdict.{proofs.Unasked.{Agrees, judged-asked-or-not}, specs.Verdict.{Judgement, reached}, specs.declared.step.Verdict.the-variants.{InZone}}
+use Rattle.numbers.proofs.Prelude.{ℕ, _+_, _≤_, _<_, lt-ltb, eqb-true, eqb, ltb, pos, length, length-append, Bool, true, false, List, [], _∷_, _++_, append-assoc, append-nil, _≡_, refl, sym, ap, _∙_}
+use Rattle.numbers.{proofs.{Prelude.{arith}, Replies.{given-one}}, specs.{Answer.{if_then_else_}, Reply.{Reply, given, plain}}}
+use Rattle.verdict.{proofs.Unasked.{Agrees, judged-asked-or-not}, specs.{Verdict.{Judgement, reached}, declared.step.Verdict.the-variants.{InZone}}}
 use Rattle.border.specs.declared.place.Point.{Point}
 use Rattle.header.specs.declared.header.Head.{Head}
-use Rattle.numbers.specs.{Answer.{if_then_else_}, Reply.{Reply, given, plain}}
 use Rattle.table.proofs.Joining.{halves-joined}
 use Rattle.table.specs.{Hits.{hitOf}, Joining.{_⧺_, groupsOf, _⋈_, matchesOf}, Merge.{merged}, Rows.{Rows, row, tableEnd, unreadable}}
-use Rattle.table.specs.{Search.{kindOf, rowHit, judgedTurn, rowTurn, Found, ended, afterTurn, judgeIn, farthest}, Table.{holds}, Unstopped.{seekAll}}
-use Rattle.table.specs.declared.{hits.Hit.{Hit}, rows.Row.{Row}, search.Turn.{the-variants.{On, Met, Stopped, Refused}, Turn}, table.Bounds.{Bounds}}
-use Rattle.numbers.proofs.Replies.{given-one}
+use Rattle.table.specs.{Search.{kindOf, rowHit, judgedTurn, rowTurn, Found, ended, afterTurn, judgeIn, farthest}, Table.{holds}, Unstopped.{seekAll}, declared.{hits.Hit.{Hit}, rows.Row.{Row}}}
+use Rattle.table.specs.declared.{search.Turn.{Turn, the-variants.{On, Met, Stopped, Refused}}, table.Bounds.{Bounds}}
 use Rattle.verdict.specs.Verdict as J
 use Rattle.numbers.specs.Reply as R
 use Rattle.table.specs.Rows as T
@@ -30,22 +25,17 @@ Grows go = (least : ℕ) (hits : List Hit) (f : Found) → go least hits ≡ giv
 
 turn-grows : (room : ℕ) (go : ℕ → List Hit → Reply Found) → Grows go → (turn : Turn) (hits : List Hit) (f : Found) → afterTurn turn hits room go ≡ given f → length hits ≤ length (f .hits)
 turn-grows room go g (On least) hits f e = g least hits f e
-turn-grows room go g (Met hit least) hits f e = slot (ltb (length hits) room) e
-  where
-    slot : (t : Bool) → (if t then go least (hits ++ hit ∷ []) else R.refused (plain 17)) ≡ given f → length hits ≤ length (f .hits)
-    slot true e = omega (arith, g least (hits ++ hit ∷ []) f e, length-append hits (hit ∷ []))
-    slot false e = let z : _≡_ {A = ℕ} 0 1 = cc in absurd (omega arith)
-turn-grows room go g (Stopped mark least) hits f e =
-    let is : record { hits = hits; mark = mark; least = least } ≡ f = cc in
-    let same : length hits ≡ length (f .hits) = ap (λ (x : Found). length (x .hits)) is in
-    omega (arith, same)
+turn-grows room go g (Met hit least) hits f e = slot (ltb (length hits) room) e where
+  slot : (t : Bool) → (if t then go least (hits ++ hit ∷ []) else R.refused (plain 17)) ≡ given f → length hits ≤ length (f .hits)
+  slot true e = omega (arith, g least (hits ++ hit ∷ []) f e, length-append hits (hit ∷ []))
+  slot false e = let z : _≡_ {A = ℕ} 0 1 = cc in absurd (omega arith)
+turn-grows room go g (Stopped mark least) hits f e = let is : record { hits = hits; mark = mark; least = least } ≡ f = cc in
+    let same : length hits ≡ length (f .hits) = ap (λ (x : Found). length (x .hits)) is in omega (arith, same)
 turn-grows room go g (Refused n) hits f e = let z : _≡_ {A = ℕ} 0 1 = cc in absurd (omega arith)
 
 ended-grows : (hits : List Hit) (mark least : ℕ) (f : Found) → ended hits mark least ≡ given f → length hits ≤ length (f .hits)
-ended-grows hits mark least f e =
-    let is : record { hits = hits; mark = mark; least = least } ≡ f = cc in
-    let same : length hits ≡ length (f .hits) = ap (λ (x : Found). length (x .hits)) is in
-    omega (arith, same)
+ended-grows hits mark least f e = let is : record { hits = hits; mark = mark; least = least } ≡ f = cc in
+    let same : length hits ≡ length (f .hits) = ap (λ (x : Found). length (x .hits)) is in omega (arith, same)
 
 seek-grows : (judge : ℕ → ℕ → Judgement) (fix : Point) (room : ℕ) (rows : Rows) → Grows (seekAll judge fix room rows)
 unfolding seekAll
@@ -69,19 +59,17 @@ module _ (judge judge′ : ℕ → ℕ → Judgement) (agree : (polygon least le
     ends-onto : (hits : List Hit) (mark least : ℕ) (f : Found) → ended hits mark least ≡ given f → onto (record { hits = hits; mark = mark; least = least }) ≡ onto f
     ends-onto hits mark least f e = let is : record { hits = hits; mark = mark; least = least } ≡ f = cc in ap onto is
 
-    module _ (room : ℕ) (go go′ : ℕ → List Hit → Reply Found) (grows : Grows go) (carries : Carries go go′) (r : Row) (hits : List Hit) (f : Found) (fits : length before + length (f .hits) ≤ room′) where
+    module _ (room : ℕ) (go go′ : ℕ → List Hit → Reply Found) (grows : Grows go) (carries : Carries go go′) (r : Row) (hits : List Hit) (f : Found)
+        (fits : length before + length (f .hits) ≤ room′) where
       hit-onto : (hit : Hit) (least : ℕ) → afterTurn (Met hit least) hits room go ≡ given f → afterTurn (Met hit least′) (before ++ hits) room′ go′ ≡ onto f
-      hit-onto hit least e = slot (ltb (length hits) room) e
-        where
-          slot : (t : Bool) → (if t then go least (hits ++ hit ∷ []) else R.refused (plain 17)) ≡ given f
-              → (if ltb (length (before ++ hits)) room′ then go′ least′ ((before ++ hits) ++ hit ∷ []) else R.refused (plain 17)) ≡ onto f
-          slot true e =
-              let more = grows least (hits ++ hit ∷ []) f e in
-              let few : length (before ++ hits) < room′ = omega (arith, more, fits, length-append hits (hit ∷ []), length-append before hits) in
-              ap (λ (t : Bool). if t then go′ least′ ((before ++ hits) ++ hit ∷ []) else R.refused (plain 17)) (lt-ltb (length (before ++ hits)) room′ few)
-              ∙ ap (go′ least′) (append-assoc before hits (hit ∷ []))
-              ∙ carries least (hits ++ hit ∷ []) f e fits
-          slot false e = let z : _≡_ {A = ℕ} 0 1 = cc in absurd (omega arith)
+      hit-onto hit least e = slot (ltb (length hits) room) e where
+        slot : (t : Bool) → (if t then go least (hits ++ hit ∷ []) else R.refused (plain 17)) ≡ given f
+            → (if ltb (length (before ++ hits)) room′ then go′ least′ ((before ++ hits) ++ hit ∷ []) else R.refused (plain 17)) ≡ onto f
+        slot true e = let more = grows least (hits ++ hit ∷ []) f e in
+            let few : length (before ++ hits) < room′ = omega (arith, more, fits, length-append hits (hit ∷ []), length-append before hits) in
+            ap (λ (t : Bool). if t then go′ least′ ((before ++ hits) ++ hit ∷ []) else R.refused (plain 17)) (lt-ltb (length (before ++ hits)) room′ few)
+            ∙ ap (go′ least′) (append-assoc before hits (hit ∷ [])) ∙ carries least (hits ++ hit ∷ []) f e fits
+        slot false e = let z : _≡_ {A = ℕ} 0 1 = cc in absurd (omega arith)
 
       reached-onto : (missed : Bool) (hit : Hit) (least : ℕ) → afterTurn (if missed then On least else Met hit least) hits room go ≡ given f
           → afterTurn (if missed then On least′ else Met hit least′) (before ++ hits) room′ go′ ≡ onto f
@@ -96,12 +84,11 @@ module _ (judge judge′ : ℕ → ℕ → Judgement) (agree : (polygon least le
 
       row-onto : (least : ℕ) → afterTurn (rowTurn judge fix r least) hits room go ≡ given f → afterTurn (rowTurn judge′ fix r least′) (before ++ hits) room′ go′ ≡ onto f
       unfolding rowTurn
-      row-onto least e = by-box (holds (r .bounds) fix) e
-        where
-          by-box : (held : Bool) → afterTurn (if held then judgedTurn r (judge (r .polygon) least) else On least) hits room go ≡ given f
-              → afterTurn (if held then judgedTurn r (judge′ (r .polygon) least′) else On least′) (before ++ hits) room′ go′ ≡ onto f
-          by-box true e = judged-onto (judge (r .polygon) least) (judge′ (r .polygon) least′) (agree (r .polygon) least least′) e
-          by-box false e = carries least hits f e fits
+      row-onto least e = by-box (holds (r .bounds) fix) e where
+        by-box : (held : Bool) → afterTurn (if held then judgedTurn r (judge (r .polygon) least) else On least) hits room go ≡ given f
+            → afterTurn (if held then judgedTurn r (judge′ (r .polygon) least′) else On least′) (before ++ hits) room′ go′ ≡ onto f
+        by-box true e = judged-onto (judge (r .polygon) least) (judge′ (r .polygon) least′) (agree (r .polygon) least least′) e
+        by-box false e = carries least hits f e fits
 
     half-onto : (room : ℕ) (rows : Rows) → Carries (seekAll judge fix room rows) (seekAll judge′ fix room′ (rows ⧺ behind))
     unfolding seekAll _⧺_
@@ -117,16 +104,12 @@ module _ (judge judge′ : ℕ → ℕ → Judgement) (agree : (polygon least le
       → seekAll judge′ fix room′ (first ⧺ second) least′ [] ≡ ended (f .hits ++ g .hits) (g .mark) least′
   unfolding seekAll
   halves-searched room₁ room₂ least first second f g e one e′ fits =
-      half-onto second [] room₁ first least [] f e (omega (arith, fits))
-      ∙ rw one refl
-      ∙ ap (λ (rows : Rows). seekAll judge′ fix room′ rows least′ (f .hits)) (sym (end-behind second))
-      ∙ ap (seekAll judge′ fix room′ (second ⧺ tableEnd) least′) (sym (append-nil (f .hits)))
-      ∙ half-onto tableEnd (f .hits) room₂ second least [] g e′ fits
-      ∙ either (eqb (g .mark) 1) refl
-    where
-      either : (t : Bool) → eqb (g .mark) 1 ≡ t → (if t then ended (f .hits ++ g .hits) 1 least′ else ended (f .hits ++ g .hits) (g .mark) least′) ≡ ended (f .hits ++ g .hits) (g .mark) least′
-      either true is = ap (λ (m : ℕ). ended (f .hits ++ g .hits) m least′) (sym (eqb-true _ _ is))
-      either false is = refl
+      half-onto second [] room₁ first least [] f e (omega (arith, fits)) ∙ rw one refl ∙ ap (λ (rows : Rows). seekAll judge′ fix room′ rows least′ (f .hits))
+      (sym (end-behind second)) ∙ ap (seekAll judge′ fix room′ (second ⧺ tableEnd) least′) (sym (append-nil (f .hits))) ∙ half-onto tableEnd (f .hits) room₂
+      second least [] g e′ fits ∙ either (eqb (g .mark) 1) refl where
+        either : (t : Bool) → eqb (g .mark) 1 ≡ t → (if t then ended (f .hits ++ g .hits) 1 least′ else ended (f .hits ++ g .hits) (g .mark) least′) ≡ ended (f .hits ++ g .hits) (g .mark) least′
+        either true is = ap (λ (m : ℕ). ended (f .hits ++ g .hits) m least′) (sym (eqb-true _ _ is))
+        either false is = refl
 
 -- ---- in a file
 -- Two boards search rows of a file, each its own, with the distance. If the first came to its end, the search of the first's rows and then the second's, without the
@@ -136,7 +119,8 @@ pub two-boards : (file : List ℕ) (head : Head) (fix : Point) (room₁ room₂ 
     → length (f .hits) + length (g .hits) ≤ room → (w : Found) → seekAll (judgeIn file head fix false) fix room (first ⧺ second) farthest [] ≡ given w
     → (merged (w .hits) ≡ matchesOf (groupsOf (f .hits) ⋈ groupsOf (g .hits))) × (w .mark ≡ g .mark)
 two-boards file head fix room₁ room₂ room first second f g e one e′ fits w whole =
-    let found = halves-searched (judgeIn file head fix true) (judgeIn file head fix false) (λ polygon. judged-asked-or-not file _ _ (fix .lat) (fix .lon)) fix room farthest room₁ room₂ farthest first second f g e one e′ fits in
+    let found = halves-searched (judgeIn file head fix true) (judgeIn file head fix false) (λ polygon. judged-asked-or-not file _ _ (fix .lat) (fix .lon)) fix
+    room farthest room₁ room₂ farthest first second f g e one e′ fits in
     let is : w ≡ record { hits = f .hits ++ g .hits; mark = g .mark; least = farthest } = given-one (sym whole ∙ found) in
     (ap (λ (x : Found). merged (x .hits)) is ∙ halves-joined (f .hits) (g .hits), ap (λ (x : Found). x .mark) is)
 

@@ -1,19 +1,14 @@
 -- In a table in order an early stop loses nothing, and boxes of the borders' own points change no verdict. Assumes nothing.
-use Prim.Native.Nat.{ℕ, _+_, _%_, _^_}
-use borrow.Author.Tests.{ltb-true, leb-true, lt-ltb}
-use lib.{Dec.{ltb}, IntN.{ℤ, pos, negsuc}, ListN.{length}, Signed.{leZ, ltZ}}
-use mathlib.Core.{Bool.{Bool, true, false, _&&_}, List.{List, _∷_, [], _++_}, Path.{_≡_, refl, sym, ap, subst, _∙_}}
-use native.Mathlib.Omega.{arith}
-use Rattle.verdict.{proofs.OutsideBox.{standing-outside-box}, specs.{Verdict.{Judgement, reached, judgedAt}, declared.step.Verdict.the-variants.{NotInZone}}}
-use Rattle.numbers.proofs.Tests.{differ}
-use Rattle.border.specs.{Box.{boxOf}, Encoding.{versionOf, encodedBy}, declared.place.Point.{Point}}
+use Rattle.numbers.proofs.Prelude.{ℕ, _+_, _%_, _^_, ltb, ℤ, length, ltZ, Bool, true, false, List, [], _∷_, _++_, _≡_, refl, sym, ap, subst, _∙_}
 use Rattle.numbers.specs.{Answer.{if_then_else_}, Reply.{Reply, plain}}
+use Rattle.verdict.{proofs.{Gliding.{less-le-less}, OutsideBox.{standing-outside-box}}, specs.{Verdict.{Judgement, reached, judgedAt}, declared.step.Verdict.the-variants.{NotInZone}}}
+use Rattle.border.specs.{Encoding.{versionOf, encodedBy}, declared.place.Point.{Point}}
 use Rattle.table.proofs.{Unstopped.{unchanged}, rest.Remaining.{not-held}}
-use Rattle.table.proofs.search.Turns as W
-use Rattle.table.specs.Ordered.{lowest, Ordered, ends, next, followedAt, Thinned, done, kept, left, boundsAround, Boxed, AllBoxed, none, one, seekAlone}
-use Rattle.table.specs.{Rest.{restMark}, Rows.{Rows, row}, Search.{Found, ended, afterTurn, judgedTurn, rowTurn, seek, judgeIn}, Table.{isAbove, holds}}
-use Rattle.table.specs.{Unstopped.{seekAll}, declared.{hits.Hit.{Hit}, rows.Row.{Row}, search.Turn.{the-variants.{On, Met, Stopped, Refused}, Turn}}}
+use Rattle.table.specs.{Ordered.{lowest, Ordered, ends, next, followedAt, Thinned, done, kept, left, Boxed, AllBoxed, none, one, seekAlone}, Rest.{restMark}, Rows.{Rows, row}}
+use Rattle.table.specs.{Search.{Found, ended, afterTurn, judgedTurn, rowTurn, seek, judgeIn}, Table.{isAbove, holds}, Unstopped.{seekAll}, declared.{hits.Hit.{Hit}, rows.Row.{Row}}}
+use Rattle.table.specs.declared.search.Turn.{Turn, the-variants.{On, Met, Stopped, Refused}}
 use Rattle.header.specs.declared.header.Head.{Head}
+use Rattle.table.proofs.search.Turns as W
 use Rattle.verdict.specs.Verdict as J
 use Rattle.numbers.specs.Reply as R
 
@@ -26,22 +21,12 @@ turn-alike room go go′ same (Stopped mark least) hits = refl
 turn-alike room go go′ same (Refused n) hits = refl
 
 -- ---- an early stop
-pub rises : (x a b : ℤ) → ltZ x a ≡ true → leZ a b ≡ true → ltZ x b ≡ true
-rises (pos x) (pos a) (pos b) h k = lt-ltb x b (omega (arith, ltb-true x a h, leb-true a b k))
-rises (pos x) (pos a) (negsuc b) h k = differ k
-rises (pos x) (negsuc a) b h k = differ h
-rises (negsuc x) (pos a) (pos b) h k = refl
-rises (negsuc x) (pos a) (negsuc b) h k = differ k
-rises (negsuc x) (negsuc a) (pos b) h k = refl
-rises (negsuc x) (negsuc a) (negsuc b) h k = lt-ltb b x (omega (arith, ltb-true a x h, leb-true b a k))
-
 module _ (end : ℕ) (fix : Point) where
   -- rows in order whose floor is above the location
   rest-clear : {floor : ℤ} {rows : Rows} → ltZ (fix .lat .0) floor ≡ true → Ordered end floor rows → restMark end fix rows ≡ 1
   unfolding restMark
   rest-clear up ends = refl
-  rest-clear {floor} up (next {r = r} h within later) =
-      let above = rises (fix .lat .0) floor (lowest r) up h in
+  rest-clear {floor} up (next {r = r} h within later) = let above = less-le-less (fix .lat .0) floor (lowest r) up h in
       rw (within, not-held (r .bounds) fix above) (rest-clear above later)
 
   stop-clear : {floor : ℤ} {r : Row} {rows : Rows} → Ordered end floor (row r rows) → isAbove (r .bounds) fix ≡ true → restMark end fix (row r rows) ≡ 1
@@ -50,19 +35,19 @@ module _ (end : ℕ) (fix : Point) where
 
   module _ (judge : ℕ → ℕ → Judgement) (room : ℕ) where
     -- In a table in order the search finds, with the same mark, what a search finds that never stops early.
-    pub early-stop-loses-nothing : {floor : ℤ} {rows : Rows} → Ordered end floor rows → (least : ℕ) (hits : List Hit) → seek judge fix end room rows least hits ≡ seekAll judge fix room rows least hits
+    pub early-stop-loses-nothing : {floor : ℤ} {rows : Rows} → Ordered end floor rows → (least : ℕ) (hits : List Hit)
+        → seek judge fix end room rows least hits ≡ seekAll judge fix room rows least hits
     unfolding seek seekAll
     early-stop-loses-nothing ends least hits = refl
-    early-stop-loses-nothing {floor} (next {r = r} {rows = rows} h within later) least hits = by-above (isAbove (r .bounds) fix) refl (early-stop-loses-nothing later)
-      where
-        clear : isAbove (r .bounds) fix ≡ true → restMark end fix (row r rows) ≡ 1
-        clear = stop-clear (next {floor = floor} h within later)
+    early-stop-loses-nothing {floor} (next {r = r} {rows = rows} h within later) least hits = by-above (isAbove (r .bounds) fix) refl (early-stop-loses-nothing later) where
+      clear : isAbove (r .bounds) fix ≡ true → restMark end fix (row r rows) ≡ 1
+      clear = stop-clear (next {floor = floor} h within later)
 
-        by-above : (t : Bool) → isAbove (r .bounds) fix ≡ t → ((least : ℕ) (hits : List Hit) → seek judge fix end room rows least hits ≡ seekAll judge fix room rows least hits)
-            → (if t then ended hits (restMark end fix (row r rows)) least else afterTurn (rowTurn judge fix r least) hits room (seek judge fix end room rows))
-            ≡ afterTurn (rowTurn judge fix r least) hits room (seekAll judge fix room rows)
-        by-above true above same = rw (clear above) (sym (unchanged judge fix end room (row r rows) least hits (clear above)))
-        by-above false above same = turn-alike room (seek judge fix end room rows) (seekAll judge fix room rows) same (rowTurn judge fix r least) hits
+      by-above : (t : Bool) → isAbove (r .bounds) fix ≡ t → ((least : ℕ) (hits : List Hit) → seek judge fix end room rows least hits ≡ seekAll judge fix room rows least hits)
+          → (if t then ended hits (restMark end fix (row r rows)) least else afterTurn (rowTurn judge fix r least) hits room (seek judge fix end room rows))
+          ≡ afterTurn (rowTurn judge fix r least) hits room (seekAll judge fix room rows)
+      by-above true above same = rw (clear above) (sym (unchanged judge fix end room (row r rows) least hits (clear above)))
+      by-above false above same = turn-alike room (seek judge fix end room rows) (seekAll judge fix room rows) same (rowTurn judge fix r least) hits
 
 -- ---- rows left out
 judged-followed : (r : Row) (k : ℕ) (judgement : Judgement) → judgedTurn r judgement ≡ judgedTurn (followedAt r k) judgement
@@ -91,20 +76,18 @@ module _ (judge : ℕ → ℕ → Judgement) (fix : Point) (room : ℕ) where
 module _ {file : List ℕ} {head : Head} {r : Row} {points : List Point} (plainly : head .strict ≡ false) (boxed : Boxed file head r points) (fix : Point) where
   -- A border whose box does not hold the location would have come to `NotInZone`.
   pub outside-its-box : (least : ℕ) → holds (r .bounds) fix ≡ false → judgeIn file head fix false (r .polygon) least ≡ reached NotInZone least
-  outside-its-box least out =
-      let start = head .sections .«data» in
+  outside-its-box least out = let start = head .sections .«data» in
       ap (λ (strict : Bool). judgedAt file (encodedBy strict (versionOf (head .preamble .version)) start) ((start + r .polygon) % 2 ^ 32) (fix .lat) (fix .lon) false least) plainly
       ∙ standing-outside-box (boxed .border) fix least (subst (λ b. holds b fix ≡ false) (boxed .box) out)
 
   -- so its turn is its border's, whether its box holds the location or not
   turn-by-border : (least : ℕ) → rowTurn (judgeIn file head fix false) fix r least ≡ judgedTurn r (judgeIn file head fix false (r .polygon) least)
   unfolding rowTurn judgedTurn
-  turn-by-border least = by-box (holds (r .bounds) fix) refl
-    where
-      by-box : (t : Bool) → holds (r .bounds) fix ≡ t
-          → (if t then judgedTurn r (judgeIn file head fix false (r .polygon) least) else On least) ≡ judgedTurn r (judgeIn file head fix false (r .polygon) least)
-      by-box true held = refl
-      by-box false out = rw (outside-its-box least out)
+  turn-by-border least = by-box (holds (r .bounds) fix) refl where
+    by-box : (t : Bool) → holds (r .bounds) fix ≡ t
+        → (if t then judgedTurn r (judgeIn file head fix false (r .polygon) least) else On least) ≡ judgedTurn r (judgeIn file head fix false (r .polygon) least)
+    by-box true held = refl
+    by-box false out = rw (outside-its-box least out)
 
 module _ (file : List ℕ) (head : Head) (plainly : head .strict ≡ false) (fix : Point) (room : ℕ) where
   abbrev judge : ℕ → ℕ → Judgement

@@ -1,16 +1,11 @@
 -- A search by marks that say of each border what the border says is the search without them. Assumes nothing.
-use Prim.Native.Nat.{ℕ, _/_, _<_}
-use borrow.Author.Tests.{ltb-true}
-use lib.{Dec.{ltb}, ListN.{length}}
-use mathlib.Core.{Bool.{Bool, true, false}, List.{List, [], _∷_}, Path.{_≡_, refl, sym, ap, _∙_}}
+use Rattle.numbers.{proofs.Prelude.{ℕ, _/_, _<_, ltb-true, ltb, length, Bool, true, false, List, [], _∷_, _≡_, refl, sym, ap, _∙_}, specs.Answer.{if_then_else_}}
 use Rattle.border.specs.declared.place.Point.{Point}
 use Rattle.header.specs.declared.header.Head.{Head}
-use Rattle.numbers.specs.{Answer.{if_then_else_}, Reply.{Reply}}
 use Rattle.table.proofs.marked.Numbered.{turn-of}
 use Rattle.table.specs.{Find.{matchedBy}, GivenRows.{recordWord, boxAt, rowAt, rowsBy, rowsListed, searchedListed, matchedListed}}
-use Rattle.table.specs.{MarkedRows.{judgeNumbered, rowNumbered, rowsNumbered, searchedMarked, matchedMarked}, Rows.{Rows, row}}
-use Rattle.table.specs.{Search.{Found, judgedTurn, afterTurn, rowTurn, judgeIn, farthest}, Table.{holds}, Unstopped.{seekAll}}
-use Rattle.table.specs.declared.{hits.Hit.{Hit}, location.Location.{Location}, search.Turn.{the-variants.{On}, Turn}}
+use Rattle.table.specs.{MarkedRows.{judgeNumbered, rowNumbered, rowsNumbered, searchedMarked, matchedMarked}, Rows.{Rows, row}, Search.{judgedTurn, afterTurn, rowTurn, judgeIn, farthest}}
+use Rattle.table.specs.{Table.{holds}, Unstopped.{seekAll}, declared.{hits.Hit.{Hit}, location.Location.{Location}, search.Turn.{Turn, the-variants.{On}}}}
 use Rattle.verdict.specs.Verdict.{Judgement}
 use Rattle.table.specs.Rows as T
 
@@ -38,13 +33,12 @@ module _ (file : List ℕ) (head : Head) (asked : Bool) (records marks : List �
     seek-alike : (room : ℕ) (numbers : List ℕ) → Alike room (rowsNumbered records numbers) (rowsListed records numbers)
     unfolding rowsBy seekAll
     seek-alike room [] least hits = refl
-    seek-alike room (k ∷ numbers) least hits = choose (ltb k (length records / 7)) refl (seek-alike room numbers)
-      where
-        choose : (b : Bool) → ltb k (length records / 7) ≡ b → Alike room (rowsNumbered records numbers) (rowsListed records numbers)
-            → seekAll marked fix room (if b then row (rowNumbered records k) (rowsNumbered records numbers) else T.refused 36) least hits
-            ≡ seekAll plain fix room (if b then row (rowAt records k) (rowsListed records numbers) else T.refused 36) least hits
-        choose true e rest = λ i. afterTurn (turn-alike k least (ltb-true k (length records / 7) e) i) hits room (λ l hs. rest l hs i)
-        choose false e rest = refl
+    seek-alike room (k ∷ numbers) least hits = choose (ltb k (length records / 7)) refl (seek-alike room numbers) where
+      choose : (b : Bool) → ltb k (length records / 7) ≡ b → Alike room (rowsNumbered records numbers) (rowsListed records numbers)
+          → seekAll marked fix room (if b then row (rowNumbered records k) (rowsNumbered records numbers) else T.refused 36) least hits
+          ≡ seekAll plain fix room (if b then row (rowAt records k) (rowsListed records numbers) else T.refused 36) least hits
+      choose true e rest = λ i. afterTurn (turn-alike k least (ltb-true k (length records / 7) e) i) hits room (λ l hs. rest l hs i)
+      choose false e rest = refl
 
     search-alike : (numbers : List ℕ) (room : ℕ) → searchedMarked file head fix asked records numbers marks room ≡ searchedListed file head fix asked records numbers room
     unfolding searchedMarked searchedListed

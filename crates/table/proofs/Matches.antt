@@ -1,13 +1,9 @@
 -- The matches that `find_in` leaves in the lent words. Assumes nothing.
-use mathlib.Core.{Bool.{Bool}, List.{List}, Path.{_≡_, ap, _∙_}}
-use Prim.Native.Nat.{ℕ, _/_, _≤_}
-use lib.ListN.{length, take}
-use native.Mathlib.Omega.{arith}
+use Rattle.numbers.{proofs.Prelude.{ℕ, _/_, _≤_, length, take, Bool, List, _≡_, ap, _∙_, arith}, specs.Reply.{Reply, given, refused}}
 use Rattle.header.specs.declared.header.Head.{Head}
-use Rattle.numbers.specs.Reply.{Reply, given, refused}
 use Rattle.table.proofs.Words.{padded-slots, padded-room}
-use Rattle.table.specs.{inner.Agreeing.{Agrees}, Find.{Matched, matchedWith, Finding, finding, findingOf, foundWith, Matching}, GivenRows.{matchedListed, foundListed}, MarkedRows.{matchedMarked, foundMarked}}
-use Rattle.table.specs.{Hits.{width, slots}, declared.{find.Matches.{Matches}, location.Location.{Location}}}
+use Rattle.table.specs.{Find.{Matched, matchedWith, Finding, finding, findingOf, foundWith, Matching}, GivenRows.{matchedListed, foundListed}, Hits.{width, slots}}
+use Rattle.table.specs.{MarkedRows.{matchedMarked, foundMarked}, declared.{find.Matches.{Matches}, location.Location.{Location}}, inner.Agreeing.{Agrees}}
 
 module _ {n : ℕ} {ws : List ℕ} {found : Matched} {matches : Matches} (m : Matching n ws found matches) where
   pub count-is : matches .count ≡ length (found .matches)

@@ -1,7 +1,5 @@
 -- What holds of each hit, carried to the matches that the hits are merged to. Assumes nothing.
-use mathlib.Core.{Path.{_≡_, refl}, Bool.{Bool, true, false}, List.{List, [], _∷_, _++_}}
-use lib.Dec.{eqb}
-use Rattle.numbers.specs.Answer.{if_then_else_}
+use Rattle.numbers.{proofs.Prelude.{eqb, Bool, true, false, List, [], _∷_, _++_, _≡_, refl}, specs.Answer.{if_then_else_}}
 use Rattle.table.specs.{Hits.{hitOf}, Merge.{groupKind, summary, seen, mergedAfter}, declared.hits.Hit.{Hit}}
 
 -- each hit of a list
@@ -31,7 +29,5 @@ pub merged-each : {P Q : Hit → Type 0} → Grouped P Q → (before : List Hit)
 unfolding mergedAfter
 merged-each group before end = end
 merged-each {Q = Q} group before (next {hit} {hits} h hs) =
-    both
-    (either (Each Q) (seen (hit .metadata) before) (λ e. end)
-    (λ e. either (Each Q) (eqb (groupKind (summary (hit .metadata) (hit ∷ hits))) 0) (λ f. end) (λ f. next (group hit hits h hs f) end)))
-    (merged-each group (before ++ hit ∷ []) hs)
+    both (either (Each Q) (seen (hit .metadata) before) (λ e. end) (λ e. either (Each Q) (eqb (groupKind (summary (hit .metadata) (hit ∷ hits))) 0) (λ f. end)
+    (λ f. next (group hit hits h hs f) end))) (merged-each group (before ++ hit ∷ []) hs)

@@ -1,16 +1,11 @@
 -- A table read strictly (request Q-6): the same rows up to one that is refused 31, and behind an early stop the same mark. Assumes nothing.
-use Prim.Native.Nat.{ℕ, zero, suc, _-_, _≤_, _<_}
-use borrow.Author.Tests.{lt-ltb}
-use lib.{Dec.{ltb}, ListN.{length}}
-use mathlib.Core.{Bool.{Bool, true, false}, List.{List}, Path.{_≡_, refl, ap}}
-use native.Mathlib.Omega.{arith}
+use Rattle.numbers.proofs.Prelude.{ℕ, zero, suc, _-_, _≤_, lt-ltb, ltb, length, Bool, true, false, List, _≡_, refl, ap, arith}
+use Rattle.numbers.{proofs.Readings.{Strictly, cut, same, then-strictly, reading-strictly}, specs.{Answer.{Answer, found, failed, if_then_else_, _>>=_}, Varint.{readingOf}}}
 use Rattle.border.specs.declared.place.Point.{Point}
-use Rattle.numbers.proofs.Readings.{Strictly, cut, same, then-strictly, reading-strictly}
-use Rattle.numbers.specs.{Answer.{Answer, found, failed, if_then_else_, _>>=_}, Varint.{readingOf}}
-use Rattle.numbers.specs.Answer as A
 use Rattle.table.proofs.Beside.{Beside, held, gone, none, entry-beside}
-use Rattle.table.specs.{Rest.{restMark}, Rows.{Rows, tableEnd, unreadable, rowOf, after, rowsThen, rowBy, rowsWithin, rowsFrom}, Table.{stepsBy, entryBy, holds}}
-use Rattle.table.specs.declared.{rows.{Cursor.{Cursor}, Row.{Row}}, table.Entry.{Entry}}
+use Rattle.table.specs.{Rest.{restMark}, Rows.{Rows, tableEnd, unreadable, rowOf, after, rowsThen, rowBy, rowsWithin, rowsFrom}, Table.{stepsBy, entryBy, holds}, declared.rows.Cursor.{Cursor}}
+use Rattle.table.specs.declared.{rows.Row.{Row}, table.Entry.{Entry}}
+use Rattle.numbers.specs.Answer as A
 use Rattle.table.specs.Rows as T
 
 -- strict rows beside the plain ones; a mark says the same from each row on
@@ -28,11 +23,9 @@ module _ (file : List ℕ) (end : ℕ) (inside : end ≤ length file) (fix : Poi
   entry-strictly : (place : ℕ) → Strictly (entryBy (readingOf true file) place) (entryBy (readingOf false file) place)
   unfolding entryBy stepsBy
   entry-strictly place =
-      then-strictly (reading-strictly file place)
-      (λ a. then-strictly (reading-strictly file (a .place))
-      (λ b. then-strictly (reading-strictly file (b .place))
-      (λ c. then-strictly (reading-strictly file (c .place))
-      (λ d. then-strictly (reading-strictly file (d .place)) (λ metadata. then-strictly (reading-strictly file (metadata .place)) (λ polygon. same))))))
+      then-strictly (reading-strictly file place) (λ a. then-strictly (reading-strictly file (a .place)) (λ b. then-strictly (reading-strictly file (b .place))
+      (λ c. then-strictly (reading-strictly file (c .place)) (λ d. then-strictly (reading-strictly file (d .place)) (λ metadata. then-strictly
+      (reading-strictly file (metadata .place)) (λ polygon. same))))))
 
   abbrev Marked : ℕ → Type 0
   Marked more = (at : Cursor) → restMark end fix (rowsBy true more at) ≡ restMark end fix (rowsBy false more at)
@@ -47,7 +40,8 @@ module _ (file : List ℕ) (end : ℕ) (inside : end ≤ length file) (fix : Poi
   entry-marked more at rest (gone {plain = A.refused n} h) = refl
   entry-marked more at rest none = refl
 
-  either-marked : (test : Bool) (strict plain : Rows) → restMark end fix strict ≡ restMark end fix plain → restMark end fix (if test then strict else tableEnd) ≡ restMark end fix (if test then plain else tableEnd)
+  either-marked : (test : Bool) (strict plain : Rows) → restMark end fix strict ≡ restMark end fix plain
+      → restMark end fix (if test then strict else tableEnd) ≡ restMark end fix (if test then plain else tableEnd)
   either-marked true strict plain h = h
   either-marked false strict plain h = refl
 

@@ -1,26 +1,9 @@
 -- The rows of a table, one by one: the rows that their definition allows are never used up. Assumes nothing.
-use Prim.Native.Nat.{ℕ, zero, suc, _-_, _≤_, _<_}
-use borrow.Author.Tests.{ltb-true, lt-ltb, le-ltb}
-use lib.Dec.{ltb}
-use mathlib.Core.{Bool.{Bool, true, false}, List.{List}, Path.{_≡_, refl, sym, ap, _∙_}}
-use native.Mathlib.{Nat.{le-refl, le-of-lt}, Omega.{arith}}
-use Rattle.numbers.proofs.{Answers.{All, then-all}, Laws.{Read}, Readings.{reading-read}}
-use Rattle.numbers.specs.{Answer.{Answer, found, if_then_else_, _>>=_}, Varint.{Numeral, readingOf}}
-use Rattle.table.specs.{Rows.{after, Rows, row, tableEnd, unreadable, refused, rowsThen, rowBy, rowsWithin, rowsFrom}, Table.{stepsBy, entryBy}}
-use Rattle.table.specs.declared.{rows.{Cursor.{Cursor}, Row.{Row}}, table.Entry.{Entry}}
+use Rattle.numbers.proofs.Prelude.{ℕ, zero, suc, _-_, _≤_, _<_, lt-ltb, le-ltb, ltb-true, ltb, Bool, true, false, _≡_, refl, sym, ap, _∙_, le-refl, le-of-lt, arith}
+use Rattle.numbers.{proofs.{Answers.{All, then-all}, Readings.{Grows}}, specs.{Answer.{Answer, found, if_then_else_, _>>=_}, Varint.{Numeral}}}
+use Rattle.table.specs.{Rows.{after, Rows, row, tableEnd, unreadable, refused, rowsThen, rowBy, rowsWithin, rowsFrom}, Table.{stepsBy, entryBy}, declared.rows.{Cursor.{Cursor}, Row.{Row}}}
+use Rattle.table.specs.declared.table.Entry.{Entry}
 use Rattle.numbers.specs.Answer as A
-
--- a reading whose numbers end after their place
-abbrev pub Grows : (ℕ → Answer Numeral) → Type 0
-Grows read = (place : ℕ) → All (λ (number : Numeral). place < number .place) (read place)
-
-pub reading-grows : (strict : Bool) (file : List ℕ) → Grows (readingOf strict file)
-reading-grows strict file place = go (readingOf strict file place) (reading-read strict file place)
-  where
-    go : (answer : Answer Numeral) → All (λ (number : Numeral). Read file place (number .value) (number .place)) answer → All (λ (number : Numeral). place < number .place) answer
-    go (found number) h = h .grows
-    go A.failed h = tt
-    go (A.refused n) h = tt
 
 less : {place next end n : ℕ} → place < next → place < end → end - place < suc n → end - next < n
 less h k l = omega arith
@@ -41,20 +24,15 @@ then-agree place (A.refused n) k k′ h e = refl
 
 module _ (read : ℕ → Answer Numeral) (grows : Grows read) where
   -- ---- a row ends after its place
-  number-past : {B : Type 0} (Q : B → Type 0) (start place : ℕ) (next : Numeral → Answer B) → start ≤ place → ((number : Numeral) → start < number .place → All Q (next number)) → All Q (read place >>= next)
+  number-past : {B : Type 0} (Q : B → Type 0) (start place : ℕ) (next : Numeral → Answer B) → start ≤ place → ((number : Numeral) → start < number .place → All Q (next number))
+      → All Q (read place >>= next)
   number-past Q start place next h k = then-all _ Q (read place) next (grows place) (λ number l. k number (omega arith))
 
   pub entry-past : (place : ℕ) → All (λ (entry : Entry). place < entry .next) (entryBy read place)
   unfolding entryBy stepsBy
-  entry-past place =
-      let Q : Entry → Type 0 = λ entry. place < entry .next in
-      number-past Q place place _ (le-refl place)
-      λ a ha. number-past Q place (a .place) _ (le-of-lt ha)
-      λ b hb. number-past Q place (b .place) _ (le-of-lt hb)
-      λ c hc. number-past Q place (c .place) _ (le-of-lt hc)
-      λ d hd. number-past Q place (d .place) _ (le-of-lt hd)
-      λ m hm. number-past Q place (m .place) _ (le-of-lt hm)
-      λ p hp. hp
+  entry-past place = let Q : Entry → Type 0 = λ entry. place < entry .next in
+      number-past Q place place _ (le-refl place) λ a ha. number-past Q place (a .place) _ (le-of-lt ha) λ b hb. number-past Q place (b .place) _ (le-of-lt hb)
+      λ c hc. number-past Q place (c .place) _ (le-of-lt hc) λ d hd. number-past Q place (d .place) _ (le-of-lt hd) λ m hm. number-past Q place (m .place) _ (le-of-lt hm) λ p hp. hp
 
   row-past : (at : Cursor) → All (Past (at .place)) (rowBy read at)
   unfolding rowBy
@@ -65,18 +43,19 @@ module _ (read : ℕ → Answer Numeral) (grows : Grows read) where
   unfolding rowsWithin
   agree end zero m at h k = absurd (omega arith)
   agree end (suc n) zero at h k = absurd (omega arith)
-  agree end (suc n) (suc m) at h k = further (agree end n m)
-    where
-      further : ((at : Cursor) → end - at .place < n → end - at .place < m → rowsWithin read n end at ≡ rowsWithin read m end at)
-          → (if ltb (at .place) end then rowsThen (rowBy read at) (rowsWithin read n end) else tableEnd) ≡ (if ltb (at .place) end then rowsThen (rowBy read at) (rowsWithin read m end) else tableEnd)
-      further rest = either (ltb (at .place) end) tableEnd (λ more. then-agree (at .place) (rowBy read at) _ _ (row-past at) (λ r past. rest (after r) (less past (ltb-true _ _ more) h) (less past (ltb-true _ _ more) k)))
+  agree end (suc n) (suc m) at h k = further (agree end n m) where
+    further : ((at : Cursor) → end - at .place < n → end - at .place < m → rowsWithin read n end at ≡ rowsWithin read m end at)
+        → (if ltb (at .place) end then rowsThen (rowBy read at) (rowsWithin read n end) else tableEnd) ≡ (if ltb (at .place) end then rowsThen (rowBy read at) (rowsWithin read m end) else tableEnd)
+    further rest =
+        either (ltb (at .place) end) tableEnd (λ more. then-agree (at .place) (rowBy read at) _ _ (row-past at) (λ r past. rest (after r)
+        (less past (ltb-true _ _ more) h) (less past (ltb-true _ _ more) k)))
 
   -- a table's rows, row by row: reading always ends
   pub rows-step : (end : ℕ) (at : Cursor) → rowsFrom read end at ≡ (if ltb (at .place) end then rowsThen (rowBy read at) (rowsFrom read end) else tableEnd)
   unfolding rowsFrom rowsWithin
   rows-step end at =
-      either (ltb (at .place) end) tableEnd
-      (λ more. then-agree (at .place) (rowBy read at) _ _ (row-past at) (λ r past. agree end (end - at .place) (suc (end - r .next)) (after r) (less past (ltb-true _ _ more) (omega arith)) (omega arith)))
+      either (ltb (at .place) end) tableEnd (λ more. then-agree (at .place) (rowBy read at) _ _ (row-past at) (λ r past. agree end (end - at .place)
+      (suc (end - r .next)) (after r) (less past (ltb-true _ _ more) (omega arith)) (omega arith)))
 
   -- ---- what a loop over rows needs
   module _ {end : ℕ} (at : Cursor) where
@@ -101,15 +80,14 @@ module _ (read : ℕ → Answer Numeral) (grows : Grows read) where
 
       -- each row leaves less to read
       pub row-less : {r : Row} {next : Cursor} → found r ≡ rowBy read at → next ≡ after r → end - next .place < end - at .place
-      row-less {r} {next} e n = rw n (less′ (past-of (rowBy read at) e (row-past at)))
-        where
-          past-of : (answer : Answer Row) → found r ≡ answer → All (Past (at .place)) answer → at .place < r .next
-          past-of (found s) e h = let same : r ≡ s = cc in rw same h
-          past-of A.failed e h = let z : _≡_ {A = ℕ} 0 1 = cc in absurd (omega arith)
-          past-of (A.refused n) e h = let z : _≡_ {A = ℕ} 0 1 = cc in absurd (omega arith)
+      row-less {r} {next} e n = rw n (less′ (past-of (rowBy read at) e (row-past at))) where
+        past-of : (answer : Answer Row) → found r ≡ answer → All (Past (at .place)) answer → at .place < r .next
+        past-of (found s) e h = let same : r ≡ s = cc in rw same h
+        past-of A.failed e h = let z : _≡_ {A = ℕ} 0 1 = cc in absurd (omega arith)
+        past-of (A.refused n) e h = let z : _≡_ {A = ℕ} 0 1 = cc in absurd (omega arith)
 
-          less′ : {place : ℕ} → at .place < place → end - place < end - at .place
-          less′ h = omega arith
+        less′ : {place : ℕ} → at .place < place → end - place < end - at .place
+        less′ h = omega arith
 
 -- what holds of each way on holds of the rows
 module _ (read : ℕ → Answer Numeral) (P : Rows → Type 0) (ends : P tableEnd) (fails : P unreadable)
@@ -123,11 +101,10 @@ module _ (read : ℕ → Answer Numeral) (P : Rows → Type 0) (ends : P tableEn
   within-so : (more end : ℕ) (at : Cursor) → P (rowsWithin read more end at)
   unfolding rowsWithin
   within-so zero end at = fails
-  within-so (suc more) end at = choose (ltb (at .place) end) (then-so at (rowBy read at) refl _ (within-so more end))
-    where
-      choose : (test : Bool) {rows : Rows} → P rows → P (if test then rows else tableEnd)
-      choose true h = h
-      choose false h = ends
+  within-so (suc more) end at = choose (ltb (at .place) end) (then-so at (rowBy read at) refl _ (within-so more end)) where
+    choose : (test : Bool) {rows : Rows} → P rows → P (if test then rows else tableEnd)
+    choose true h = h
+    choose false h = ends
 
   pub rows-so : (end : ℕ) (at : Cursor) → P (rowsFrom read end at)
   unfolding rowsFrom

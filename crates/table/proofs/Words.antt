@@ -1,9 +1,6 @@
 -- Hits and their words. Assumes nothing.
-use mathlib.Core.{Path.{_≡_, refl, sym, ap, _∙_}, List.{List, [], _∷_, _++_}}
-use Prim.Native.Nat.{ℕ, zero, suc, _+_, _-_, _*_, _/_, _≤_, _<_}
-use native.Mathlib.Omega.{arith}
-use lib.{ListN.{length, getD, set, take, length-append, length-replicate}, Seq.{length-take-le, getD-take}}
-use Rattle.numbers.specs.Lists.{zeros, padded}
+use Rattle.numbers.proofs.Prelude.{ℕ, zero, suc, _+_, _-_, _*_, _/_, _≤_, _<_, length, take, getD, set, length-append, length-replicate, length-take-le, getD-take, List, [], _∷_, _++_, _≡_, refl}
+use Rattle.numbers.{proofs.Prelude.{sym, ap, _∙_, arith}, specs.Lists.{zeros, padded}}
 use Rattle.table.specs.{Hits.{width, wordsOf, words, slots, Real, noHit, hitAt, putHit}, declared.hits.Hit.{Hit}}
 
 pub words-length : (hits : List Hit) → length (words hits) ≡ width * length hits
@@ -24,20 +21,16 @@ slots-words (hit ∷ hits) = ap (λ (hs : List Hit). hit ∷ hs) (slots-words hi
 -- four words further
 module _ (a b c d : ℕ) (ws : List ℕ) (i : ℕ) where
   pub put-further : (hit : Hit) → putHit (a ∷ b ∷ c ∷ d ∷ ws) (suc i) hit ≡ a ∷ b ∷ c ∷ d ∷ putHit ws i hit
-  put-further hit =
-      let e : width * suc i ≡ suc (suc (suc (suc (width * i)))) = omega arith in
+  put-further hit = let e : width * suc i ≡ suc (suc (suc (suc (width * i)))) = omega arith in
       let f : width * suc i + 1 ≡ suc (suc (suc (suc (width * i + 1)))) = omega arith in
       let g : width * suc i + 2 ≡ suc (suc (suc (suc (width * i + 2)))) = omega arith in
-      let h : width * suc i + 3 ≡ suc (suc (suc (suc (width * i + 3)))) = omega arith in
-      rw (h, g, f, e)
+      let h : width * suc i + 3 ≡ suc (suc (suc (suc (width * i + 3)))) = omega arith in rw (h, g, f, e)
 
   pub at-further : hitAt (a ∷ b ∷ c ∷ d ∷ ws) (suc i) ≡ hitAt ws i
-  at-further =
-      let e : width * suc i ≡ suc (suc (suc (suc (width * i)))) = omega arith in
+  at-further = let e : width * suc i ≡ suc (suc (suc (suc (width * i)))) = omega arith in
       let f : width * suc i + 1 ≡ suc (suc (suc (suc (width * i + 1)))) = omega arith in
       let g : width * suc i + 2 ≡ suc (suc (suc (suc (width * i + 2)))) = omega arith in
-      let h : width * suc i + 3 ≡ suc (suc (suc (suc (width * i + 3)))) = omega arith in
-      rw (h, g, f, e)
+      let h : width * suc i + 3 ≡ suc (suc (suc (suc (width * i + 3)))) = omega arith in rw (h, g, f, e)
 
 -- a hit is put where the next one goes
 pub put-next : (hits : List Hit) (more : List ℕ) (hit : Hit) → putHit (words hits ++ 0 ∷ 0 ∷ 0 ∷ 0 ∷ more) (length hits) hit ≡ words (hits ++ hit ∷ []) ++ more
@@ -60,10 +53,7 @@ word-put (x ∷ xs) more (suc i) hit h = put-further _ _ _ _ _ i hit ∙ ap (λ 
 
 -- the next hit, in words that are zero after the hits
 pub put-padded : (n : ℕ) (hits : List Hit) (hit : Hit) → length hits < n / width → putHit (padded n (words hits)) (length hits) hit ≡ padded n (words (hits ++ hit ∷ []))
-put-padded n hits hit h =
-    let l = words-length hits in
-    let k = words-length (hits ++ hit ∷ []) in
-    let m = length-append hits (hit ∷ []) in
+put-padded n hits hit h = let l = words-length hits in let k = words-length (hits ++ hit ∷ []) in let m = length-append hits (hit ∷ []) in
     let e : n - length (words hits) ≡ suc (suc (suc (suc (n - length (words (hits ++ hit ∷ [])))))) = omega arith in
     rw e (put-next hits (zeros (n - length (words (hits ++ hit ∷ [])))) hit)
 
@@ -110,6 +100,5 @@ module _ (n : ℕ) (hits : List Hit) {ws : List ℕ} (kept : ws ≡ padded n (wo
   padded-slots = ap (λ (l : List ℕ). take (length hits) (slots l)) kept ∙ first-slots hits (zeros (n - length (words hits)))
 
   pub padded-room : length ws ≡ n → length hits ≤ length ws / width
-  padded-room same =
-      let zero = n - length (words hits) in
+  padded-room same = let zero = n - length (words hits) in
       omega (arith, same, ap length kept ∙ length-append (words hits) (zeros zero), length-replicate {A = ℕ} zero 0, words-length hits)

@@ -1,14 +1,10 @@
 -- Document 01's printed file has a table in order whose box is that of its one border, (2,2) (10,2) (10,10) (2,10). So its search is that of the border alone. Assumes nothing.
-use Prim.Native.Nat.{ℕ}
-use lib.IntN.{pos}
-use mathlib.Core.{Bool.{false}, List.{List, [], _∷_, _++_, zipWith}, Path.{_≡_, refl, _∙_}}
-use native.Mathlib.Omega.{arith}
+use Rattle.numbers.{proofs.Prelude.{ℕ, pos, false, List, [], _∷_, _++_, zipWith, _≡_, refl, _∙_, arith}, specs.{Point.{signedOf}, Varint.{readingOf, forwardAt, valueOf, sizeOf, tooLong}}}
 use Rattle.writer.{proofs.{WorkedBytes.{packed-bytes}, WrittenTrace.{written-stands}}, specs.Moves.{pointsOf}}
 use Rattle.border.specs.{Box.{minZ, maxZ, boxOver, boxOf}, Written.{Placed}, declared.place.Point.{Point}}
-use Rattle.numbers.specs.{Point.{signedOf}, Varint.{readingOf, forwardAt, valueOf, sizeOf, tooLong}}
 use Rattle.table.proofs.InOrder.{early-stop-loses-nothing, boxes-change-nothing}
-use Rattle.table.specs.{Ordered.{Ordered, ends, next, AllBoxed, none, one, seekAlone}, Rows.{rowsThen, rowBy, rowsWithin, rowsFrom, rowsIn}}
-use Rattle.table.specs.{Search.{judgeIn, farthest, searched}, Table.{stepsBy, entryBy}}
+use Rattle.table.specs.{Ordered.{Ordered, ends, next, AllBoxed, none, one, seekAlone}, Rows.{rowsThen, rowBy, rowsWithin, rowsFrom, rowsIn}, Search.{judgeIn, farthest, searched}}
+use Rattle.table.specs.Table.{stepsBy, entryBy}
 use Rattle.header.specs.declared.header.Head.{Head}
 
 abbrev front : List ℕ
@@ -40,5 +36,4 @@ printed-boxed = one (record { border = written-stands (record { pieces = []; ear
 pub printed-alone : (fix : Point) (room : ℕ) → searched printed head fix false room ≡ seekAlone (judgeIn printed head fix false) room (rowsIn printed head) farthest []
 unfolding searched
 printed-alone fix room =
-    early-stop-loses-nothing 22 fix (judgeIn printed head fix false) room printed-ordered farthest []
-    ∙ boxes-change-nothing printed head refl fix room printed-boxed farthest []
+    early-stop-loses-nothing 22 fix (judgeIn printed head fix false) room printed-ordered farthest [] ∙ boxes-change-nothing printed head refl fix room printed-boxed farthest []

@@ -1,15 +1,11 @@
 -- How a search of rows ends: what it went through, and why it ended there.
-use mathlib.Core.{Path.{_≡_}, Bool.{Bool, true, false}, List.{List, [], _∷_, _++_}}
-use Prim.Native.Nat.{ℕ}
-use lib.{Dec.{eqb}, ListN.{length}}
-use Rattle.numbers.specs.{Answer.{if_then_else_}, Lists.{padded}, Reply.{given}}
+use Rattle.numbers.specs.{Answer.{if_then_else_}, Lists.{padded}, Prelude.{ℕ, eqb, length, Bool, true, false, List, [], _∷_, _++_, _≡_}, Reply.{given}}
 use Rattle.verdict.specs.{Verdict.{Judgement, reached}, declared.step.Verdict.{Verdict}}
 use Rattle.border.specs.declared.place.Point.{Point}
-use Rattle.verdict.specs.Verdict as J
-use Rattle.table.specs.{Find.{fixOf}, Hits.{words}, Merge.{merged}, Rows.{Rows, row, tableEnd, unreadable, rowsIn}}
-use Rattle.table.specs.{Search.{kindOf, rowHit, Found, judgeIn, farthest}, Table.{isAbove, holds}}
-use Rattle.table.specs.{declared.{hits.Hit.{Hit}, location.Location.{Location}, rows.Row.{Row}}, Rest.{restMark}}
+use Rattle.table.specs.{Find.{fixOf}, Hits.{words}, Merge.{merged}, Rest.{restMark}, Rows.{Rows, row, tableEnd, unreadable, rowsIn}, Search.{kindOf, rowHit, Found, judgeIn, farthest}}
+use Rattle.table.specs.{Table.{isAbove, holds}, declared.{hits.Hit.{Hit}, location.Location.{Location}, rows.Row.{Row}}}
 use Rattle.header.specs.{Header.{headOf}, declared.header.Head.{Head}}
+use Rattle.verdict.specs.Verdict as J
 
 -- the hit of a row by its border's verdict; none where the location is not in the zone
 abbrev pub hitsOf : Row → Verdict → List Hit

@@ -1,10 +1,7 @@
 -- What both lookups do in a file whose header was read: its precision is looked at, its table searched, and the hits merged.
-use mathlib.Core.{Path.{_≡_}, Bool.{Bool, false, _&&_}, List.{List}}
-use Prim.Native.Nat.{ℕ, _/_}
-use lib.{Dec.{leb}, IntN.{pos}, Ieee.{Float, fin}, ListN.{length}}
+use Rattle.numbers.specs.Prelude.{ℕ, _/_, leb, Float, fin, pos, length, Bool, false, _&&_, List, _≡_}
 use Rattle.numbers.specs.{Float.{fixedPoint}, Lists.{zeros, padded}, Reply.{Reply, given, refused, plain, demand, _>>=_, _>>_}}
-use Rattle.table.specs.{Hits.{width, words}, Search.{searched}, Merge.{merged}}
-use Rattle.table.specs.declared.{hits.Hit.{Hit}, location.Location.{Location}, find.{Matches.{Matches}, Found.{Found}}}
+use Rattle.table.specs.{Hits.{width, words}, Merge.{merged}, Search.{searched}, declared.{find.{Found.{Found}, Matches.{Matches}}, hits.Hit.{Hit}, location.Location.{Location}}}
 use Rattle.header.specs.declared.header.Head.{Head}
 use Rattle.border.specs.declared.place.Point.{Point}
 use Rattle.table.specs.declared.find.Found.the-variants as F

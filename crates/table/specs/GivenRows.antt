@@ -1,11 +1,8 @@
 -- Rows that are given as words: records of seven words, and the numbers of those to look at, as an index has them.
-use Prim.Native.Nat.{ℕ, _+_, _*_, _/_}
-use lib.{Dec.{ltb}, ListN.{length, getD}}
-use mathlib.Core.{Bool.{Bool}, List.{List, [], _∷_}}
+use Rattle.numbers.specs.{Answer.{if_then_else_}, Point.{readI32}, Prelude.{ℕ, _+_, _*_, _/_, ltb, length, getD, Bool, List, [], _∷_}, Reply.{Reply}}
 use Rattle.border.specs.declared.place.Point.{Point}
-use Rattle.numbers.specs.{Answer.{if_then_else_}, Point.{readI32}, Reply.{Reply}}
-use Rattle.table.specs.{Find.{Matched, matchedBy, Finding, findingOf}, Hits.{width}, Rows.{Rows, row, tableEnd, refused}, Search.{Found, judgeIn, farthest}}
-use Rattle.table.specs.{Unstopped.{seekAll}, declared.{location.Location.{Location}, rows.Row.{Row}, table.Bounds.{Bounds}}}
+use Rattle.table.specs.{Find.{Matched, matchedBy, Finding, findingOf}, Hits.{width}, Rows.{Rows, row, tableEnd, refused}, Search.{Found, judgeIn, farthest}, Unstopped.{seekAll}}
+use Rattle.table.specs.declared.{location.Location.{Location}, rows.Row.{Row}, table.Bounds.{Bounds}}
 use Rattle.header.specs.declared.header.Head.{Head}
 
 -- a word of record k: where the entry begins, the sums of metadata id and border place, lower latitude, lower longitude, upper latitude, upper longitude

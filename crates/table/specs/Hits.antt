@@ -1,7 +1,5 @@
 -- Hits in the lent words. A slot with kind 0 holds none.
-use mathlib.Core.{Path.{_≡_}, List.{List, [], _∷_, _++_}}
-use Prim.Native.Nat.{ℕ, _+_, _*_}
-use lib.ListN.{getD, set}
+use Rattle.numbers.specs.Prelude.{ℕ, _+_, _*_, getD, set, List, [], _∷_, _++_, _≡_}
 use Rattle.table.specs.declared.hits.Hit.{Hit}
 
 -- a hit takes four words

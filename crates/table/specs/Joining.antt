@@ -1,8 +1,5 @@
 -- Two boards each search half of a table: what a board has of each metadata id, and how the two are joined (request Q-12).
-use mathlib.Core.{Bool.{Bool, true, false}, List.{List, [], _∷_, _++_, map}}
-use Prim.Native.Nat.{ℕ}
-use lib.Dec.{eqb}
-use Rattle.numbers.specs.Answer.{if_then_else_}
+use Rattle.numbers.specs.{Answer.{if_then_else_}, Prelude.{ℕ, eqb, Bool, true, false, List, [], _∷_, _++_, map}}
 use Rattle.table.specs.{Merge.{Summary, empty, _⊕_, summary, groupKind, seen, matchOf}, Rows.{Rows, row, tableEnd, unreadable, refused}, declared.hits.Hit.{Hit}}
 
 -- the rows of one half, and behind its end those of the other; behind an entry that can't be read there are none

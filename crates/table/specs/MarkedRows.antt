@@ -1,13 +1,10 @@
 -- Rows that are given as words, with marks along their borders: document 04. Entry k's word says where its border's marks stand in the words of the marks, 0 where it has none.
-use Prim.Native.Nat.{ℕ, _/_}
-use lib.{Dec.{eqb}, ListN.{getD}}
-use mathlib.Core.{Bool.{Bool}, List.{List, []}}
+use Rattle.numbers.specs.{Answer.{if_then_else_}, Prelude.{ℕ, _/_, eqb, getD, Bool, List, []}, Reply.{Reply}}
 use Rattle.border.specs.{Encoding.{versionOf, encodedBy}, declared.{place.Point.{Point}, reader.Encoding.{Encoding}}}
 use Rattle.marks.specs.Judging.{judgedBy}
-use Rattle.numbers.specs.{Answer.{if_then_else_}, Reply.{Reply}}
 use Rattle.verdict.specs.Verdict.{Judgement}
-use Rattle.table.specs.{Find.{Matched, matchedBy, Finding, findingOf}, GivenRows.{recordWord, boxAt, rowsBy}, Hits.{width}, Rows.{Rows}, Search.{Found, judgeIn, farthest}}
-use Rattle.table.specs.{Unstopped.{seekAll}, declared.{location.Location.{Location}, rows.Row.{Row}}}
+use Rattle.table.specs.{Find.{Matched, matchedBy, Finding, findingOf}, GivenRows.{recordWord, boxAt, rowsBy}, Hits.{width}, Rows.{Rows}, Search.{Found, judgeIn, farthest}, Unstopped.{seekAll}}
+use Rattle.table.specs.declared.{location.Location.{Location}, rows.Row.{Row}}
 use Rattle.header.specs.declared.header.Head.{Head}
 
 -- how a file with this header has its borders written

@@ -1,8 +1,5 @@
 -- Merging, as document 01 has it: hits are grouped by metadata id in first-hit order, with the first hit's polygon id and place.
-use mathlib.Core.{Bool.{Bool, true, false}, List.{List, [], _∷_, _++_, map}}
-use Prim.Native.Nat.{ℕ, zero, suc}
-use lib.{Dec.{eqb}, IntN.{ℤ, pos, negsuc, _+ℤ_, _-ℤ_}}
-use Rattle.numbers.specs.Answer.{if_then_else_}
+use Rattle.numbers.specs.{Answer.{if_then_else_}, Prelude.{ℕ, zero, suc, eqb, ℤ, pos, negsuc, _+ℤ_, _-ℤ_, Bool, true, false, List, [], _∷_, _++_, map}}
 use Rattle.table.specs.{Hits.{hitOf, noHit}, declared.{hits.Hit.{Hit}, merge.Tally.{Tally}}}
 
 -- what a group comes to: its inside count less its excluded count, and its last border verdict, 0 if there is none

@@ -1,12 +1,8 @@
 -- Tables in order, and tables whose boxes are those of their borders' points: what a built file has.
-use Prim.Native.Nat.{ℕ, _+_, _%_, _^_}
-use lib.{Dec.{ltb}, IntN.{ℤ}, Signed.{leZ}}
-use mathlib.Core.{Bool.{true, false}, List.{List, [], _∷_}, Path.{_≡_}}
+use Rattle.numbers.specs.{Prelude.{ℕ, _+_, _%_, _^_, ltb, ℤ, leZ, true, false, List, [], _∷_, _≡_}, Reply.{Reply, plain}}
 use Rattle.border.specs.{Box.{Box, boxOf}, Encoding.{versionOf}, Written.{Stands}, declared.place.Point.{Point}}
 use Rattle.verdict.specs.Verdict.{Judgement}
-use Rattle.numbers.specs.Reply.{Reply, plain}
-use Rattle.table.specs.{Rows.{Rows, row, tableEnd, unreadable}, Search.{Found, ended, afterTurn, judgedTurn}, Table.{holds}}
-use Rattle.table.specs.declared.{hits.Hit.{Hit}, rows.Row.{Row}, table.Bounds.{Bounds}}
+use Rattle.table.specs.{Rows.{Rows, row, tableEnd, unreadable}, Search.{Found, ended, afterTurn, judgedTurn}, Table.{holds}, declared.{hits.Hit.{Hit}, rows.Row.{Row}, table.Bounds.{Bounds}}}
 use Rattle.header.specs.declared.header.Head.{Head}
 use Rattle.numbers.specs.Reply as R
 use Rattle.table.specs.Rows as T

@@ -1,9 +1,6 @@
 -- What the rest of a table says behind an early stop, as request Q-1 has it.
-use Prim.Native.Nat.{ℕ}
-use lib.Dec.{ltb}
-use mathlib.Core.Bool.{Bool, false}
+use Rattle.numbers.specs.{Answer.{Answer, found, failed, refused, if_then_else_, _>>=_}, Prelude.{ℕ, ltb, Bool, false}, Varint.{Numeral}}
 use Rattle.border.specs.declared.place.Point.{Point}
-use Rattle.numbers.specs.{Answer.{Answer, found, failed, refused, if_then_else_, _>>=_}, Varint.{Numeral}}
 use Rattle.table.specs.{Rows.{Rows, row, tableEnd, unreadable}, Table.{boundsOf, holds}}
 use Rattle.table.specs.Rows as T
 

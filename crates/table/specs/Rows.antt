@@ -1,8 +1,5 @@
 -- A table is a trace of rows, as a border is one of points: each entry with its place, its number and the sums up to it, and how the table ends.
-use Prim.Native.Nat.{ℕ, zero, suc, _+_, _-_, _%_, _^_}
-use lib.Dec.{ltb}
-use mathlib.Core.List.{List, [], _∷_}
-use Rattle.numbers.specs.{Answer.{Answer, found, if_then_else_, _>>=_}, Point.{low32, halfOf}, Varint.{Numeral, readingOf}}
+use Rattle.numbers.specs.{Answer.{Answer, found, if_then_else_, _>>=_}, Point.{low32, halfOf}, Prelude.{ℕ, zero, suc, _+_, _-_, _%_, _^_, ltb, List, [], _∷_}, Varint.{Numeral, readingOf}}
 use Rattle.table.specs.{Table.{entryBy}, declared.{rows.{Cursor.{Cursor}, Reading.{Reading}, Row.{Row}}, table.Entry.{Entry}}}
 use Rattle.header.specs.declared.header.Head.{Head}
 use Rattle.numbers.specs.Answer as A

@@ -1,13 +1,9 @@
 -- The search, as document 01 has it: a fold over the rows of the table.
-use Prim.Native.Nat.{ℕ, _+_, _-_, _%_, _^_}
-use lib.{Dec.{ltb, eqb}, ListN.{length}}
-use mathlib.Core.{Bool.{Bool}, List.{List, [], _∷_, _++_}, Path.{_≡_}}
+use Rattle.numbers.specs.{Answer.{if_then_else_}, Lists.{padded}, Prelude.{ℕ, _+_, _-_, _%_, _^_, eqb, ltb, length, Bool, List, [], _∷_, _++_, _≡_}, Reply.{Reply, given, plain}}
 use Rattle.border.specs.{Encoding.{versionOf, encodedBy}, declared.place.Point.{Point}}
-use Rattle.verdict.specs.Verdict.{Judgement, reached, judgedAt}
-use Rattle.verdict.specs.declared.step.Verdict.{the-variants.{NotInZone, InZone, InExcludedZone, OnBorderVertex, OnBorderSegment}, Verdict}
-use Rattle.numbers.specs.{Answer.{if_then_else_}, Lists.{padded}, Reply.{Reply, given, plain}}
-use Rattle.table.specs.{Hits.{hitOf, words, Real}, Rest.{restMark}, Rows.{Rows, row, tableEnd, unreadable, rowsIn}, Table.{isAbove, holds}}
-use Rattle.table.specs.declared.{hits.Hit.{Hit}, rows.Row.{Row}, search.{Ended.{Ended}, Searched.{Searched}, Turn.{the-variants.{On, Met, Stopped, Refused}, Turn}}}
+use Rattle.verdict.specs.{Verdict.{Judgement, reached, judgedAt}, declared.step.Verdict.{Verdict, the-variants.{NotInZone, InZone, InExcludedZone, OnBorderVertex, OnBorderSegment}}}
+use Rattle.table.specs.{Hits.{hitOf, words, Real}, Rest.{restMark}, Rows.{Rows, row, tableEnd, unreadable, rowsIn}, Table.{isAbove, holds}, declared.{hits.Hit.{Hit}, rows.Row.{Row}}}
+use Rattle.table.specs.declared.search.{Ended.{Ended}, Searched.{Searched}, Turn.{Turn, the-variants.{On, Met, Stopped, Refused}}}
 use Rattle.header.specs.declared.header.Head.{Head}
 use Rattle.verdict.specs.Verdict as J
 use Rattle.numbers.specs.Reply as R

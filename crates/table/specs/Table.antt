@@ -1,11 +1,8 @@
 -- The box table, as document 01 has it: an entry is six numbers, all read before any is tested.
-use Prim.Native.Nat.{ℕ}
-use lib.Signed.{ltZ}
-use mathlib.Core.Bool.{Bool}
+use Rattle.numbers.specs.{Answer.{Answer, found, failed, refused, _>>=_}, Point.{signedOf}, Prelude.{ℕ, ltZ, Bool}, Varint.{Numeral, told}, declared.varint.Varint.{Varint}}
 use Rattle.border.specs.{Box.{Box}, declared.place.Point.{Point}}
-use Rattle.border.specs.Box as B
-use Rattle.numbers.specs.{Answer.{Answer, found, failed, refused, _>>=_}, Point.{signedOf}, Varint.{Numeral, told}, declared.varint.Varint.{Varint}}
 use Rattle.table.specs.declared.table.{Bounds.{Bounds}, Entered.{Entered}, Entry.{Entry}}
+use Rattle.border.specs.Box as B
 use Rattle.table.specs.declared.table.Entered.the-variants as E
 
 -- lower latitude, lower longitude, upper latitude, upper longitude, each a signed number

@@ -1,13 +1,11 @@
 -- The search that never stops early: what mark 1 is held against.
-use mathlib.Core.{Bool.{Bool, true}, List.{List, []}, Path.{_≡_}}
-use Prim.Native.Nat.{ℕ}
+use Rattle.numbers.specs.{Prelude.{ℕ, Bool, true, List, [], _≡_}, Reply.{Reply, plain}}
 use Rattle.verdict.specs.Verdict.{Judgement}
 use Rattle.border.specs.declared.place.Point.{Point}
 use Rattle.header.specs.declared.header.Head.{Head}
-use Rattle.numbers.specs.Reply.{Reply, plain}
+use Rattle.table.specs.{Find.{Matched, matchedBy}, Rows.{Rows, row, tableEnd, unreadable, rowsIn}, Search.{Found, ended, afterTurn, rowTurn, judgeIn, farthest}, Table.{isAbove, holds}}
+use Rattle.table.specs.declared.{hits.Hit.{Hit}, location.Location.{Location}, rows.Row.{Row}}
 use Rattle.numbers.specs.Reply as R
-use Rattle.table.specs.{Find.{Matched, matchedBy}, Rows.{Rows, row, tableEnd, unreadable, rowsIn}, Search.{Found, ended, afterTurn, rowTurn, judgeIn, farthest}}
-use Rattle.table.specs.{Table.{isAbove, holds}, declared.{hits.Hit.{Hit}, location.Location.{Location}, rows.Row.{Row}}}
 use Rattle.table.specs.Rows as T
 
 -- as `seek`, but no row stops it because of its lower latitude

@@ -1,16 +1,10 @@
 -- Two files that have the same octets where a reading looks are read alike. Assumes nothing.
-use Prim.Native.Nat.{ℕ, zero, suc, _+_, _-_, _*_, _^_, _<_, _≤_}
-use lib.Dec.{ltb, eqb}
-use borrow.Author.Tests.{eqb-true, ltb-true}
-use mathlib.Core.{Bool.{Bool, true, false, _&&_}, List.{List}, Path.{_≡_, refl, ap}}
-use native.Mathlib.Omega.{arith}
+use Rattle.numbers.{proofs.Prelude.{ℕ, zero, suc, _+_, _-_, _*_, _^_, _≤_, _<_, ltb-true, eqb-true, eqb, ltb, Bool, true, false, _&&_, List, _≡_, refl, ap, arith}, specs.Answer.{if_then_else_}}
 use Rattle.tzif.proofs.{Lasts.{last-same}, Widths.{row}}
 use Rattle.tzif.specs.Block.{timePlace, indicesOf, designationsOf, standardsOf, utsOf, endOf}
-use Rattle.tzif.specs.Check.{nulEnd, isNul, typePlace, leapPlace, correctionOf, correctionBefore, occursLater, isExpiry, isStandard, checkTime, checkIndex, checkType, checkLeap, checkLeaps, checkStandard, checkUt}
-use Rattle.tzif.specs.{Header.{checkBlock}, Number.{octet, be32, raised, timeAt}, Part.{countOf, checkOf, checkPart}}
-use Rattle.tzif.specs.{Reply.{Reply, each, _>>_}, Text.{firstWith}}
-use Rattle.numbers.specs.Answer.{if_then_else_}
-use Rattle.tzif.specs.{Times.{timeIn, transitionsOf, occurrencesOf}, declared.{block.Block.{Block}, part.Part.{Part}}}
+use Rattle.tzif.specs.Check.{nulEnd, isNul, typePlace, leapPlace, correctionOf, correctionBefore, occursLater, isExpiry, isStandard, checkTime, checkIndex, checkType, checkLeap, checkLeaps}
+use Rattle.tzif.specs.{Check.{checkStandard, checkUt}, Header.{checkBlock}, Number.{octet, be32, raised, timeAt}, Part.{countOf, checkOf, checkPart}, Reply.{Reply, each, _>>_}}
+use Rattle.tzif.specs.{Text.{firstWith}, Times.{timeIn, transitionsOf, occurrencesOf}, declared.{block.Block.{Block}, part.Part.{Part}}}
 use Rattle.tzif.specs.declared.part.Part.the-variants as P
 
 pub each-same : (check check′ : ℕ → Reply (Unit {0})) (n : ℕ) → ((i : ℕ) → i < n → check i ≡ check′ i) → each n check ≡ each n check′
@@ -31,22 +25,20 @@ pub record Same (file other : List ℕ) (place size : ℕ) : Type 0 where
 module _ {file other : List ℕ} where
   pub be32-same : (place : ℕ) → Same file other place 4 → be32 file place ≡ be32 other place
   unfolding be32
-  be32-same place s = λ i. s .at place (omega arith) (omega arith) i * 2 ^ 24 + s .at (place + 1) (omega arith) (omega arith) i * 2 ^ 16 + s .at (place + 2) (omega arith) (omega arith) i * 2 ^ 8 + s .at (place + 3) (omega arith) (omega arith) i
+  be32-same place s = λ i. s .at place (omega arith) (omega arith) i * 2 ^ 24 + s .at (place + 1) (omega arith) (omega arith) i * 2 ^ 16 + s .at (place + 2) (omega arith) (omega arith) i * 2
+      ^ 8 + s .at (place + 3) (omega arith) (omega arith) i
 
   pub time-same : (width place : ℕ) → 4 ≤ width → Same file other place width → timeAt file width place ≡ timeAt other width place
   unfolding timeAt
-  time-same width place wide s = go (eqb width 8) refl
-    where
-      high : be32 file place ≡ be32 other place
-      high = be32-same place (record { at = λ p a b. s .at p a (omega arith) })
+  time-same width place wide s = go (eqb width 8) refl where
+    high : be32 file place ≡ be32 other place
+    high = be32-same place (record { at = λ p a b. s .at p a (omega arith) })
 
-      go : (t : Bool) → eqb width 8 ≡ t
-          → (if t then raised (be32 file place) * 2 ^ 32 + be32 file (place + 4) else raised (be32 file place) + (2 ^ 63 - 2 ^ 31))
-          ≡ (if t then raised (be32 other place) * 2 ^ 32 + be32 other (place + 4) else raised (be32 other place) + (2 ^ 63 - 2 ^ 31))
-      go true e =
-          let eight : width ≡ 8 = eqb-true width 8 e in
-          λ i. raised (high i) * 2 ^ 32 + be32-same (place + 4) (record { at = λ p a b. s .at p (omega arith) (omega arith) }) i
-      go false e = λ i. raised (high i) + (2 ^ 63 - 2 ^ 31)
+    go : (t : Bool) → eqb width 8 ≡ t → (if t then raised (be32 file place) * 2 ^ 32 + be32 file (place + 4) else raised (be32 file place) + (2 ^ 63 - 2 ^ 31)) ≡
+        (if t then raised (be32 other place) * 2 ^ 32 + be32 other (place + 4) else raised (be32 other place) + (2 ^ 63 - 2 ^ 31))
+    go true e = let eight : width ≡ 8 = eqb-true width 8 e in
+        λ i. raised (high i) * 2 ^ 32 + be32-same (place + 4) (record { at = λ p a b. s .at p (omega arith) (omega arith) }) i
+    go false e = λ i. raised (high i) + (2 ^ 63 - 2 ^ 31)
 
 -- ---- a data block
 module _ (file other : List ℕ) (block : Block) (wide : 4 ≤ block .width) (same : (p : ℕ) → block .begin ≤ p → p < endOf block → octet file p ≡ octet other p) where
@@ -76,7 +68,11 @@ module _ (file other : List ℕ) (block : Block) (wide : 4 ≤ block .width) (sa
 
   type-checked : (nul i : ℕ) → i < block .typecnt → checkType file block nul i ≡ checkType other block nul i
   unfolding checkType
-  type-checked nul i l = rw (be32-same {file = file} {other = other} (typePlace block i) (record { at = λ p a b. same p (omega arith) (omega arith) }), same (typePlace block i + 4) (omega arith) (omega arith), same (typePlace block i + 5) (omega arith) (omega arith)) refl
+  type-checked nul i l = rw (
+    be32-same {file = file} {other = other} (typePlace block i) (record { at = λ p a b. same p (omega arith) (omega arith) }),
+    same (typePlace block i + 4) (omega arith) (omega arith),
+    same (typePlace block i + 5) (omega arith) (omega arith),
+  ) refl
 
   before : (i : ℕ) → i < block .leapcnt → correctionBefore file block i ≡ correctionBefore other block i
   unfolding correctionBefore
@@ -100,11 +96,10 @@ module _ (file other : List ℕ) (block : Block) (wide : 4 ≤ block .width) (sa
 
   is-standard : (i : ℕ) → isStandard file block i ≡ isStandard other block i
   unfolding isStandard
-  is-standard i = go (ltb i (block .isstdcnt)) refl
-    where
-      go : (t : Bool) → ltb i (block .isstdcnt) ≡ t → (t && eqb (octet file (standardsOf block + i)) 1) ≡ (t && eqb (octet other (standardsOf block + i)) 1)
-      go true e = ap (λ (b : ℕ). eqb b 1) (same (standardsOf block + i) (omega arith) (omega (arith, ltb-true i (block .isstdcnt) e)))
-      go false e = refl
+  is-standard i = go (ltb i (block .isstdcnt)) refl where
+    go : (t : Bool) → ltb i (block .isstdcnt) ≡ t → (t && eqb (octet file (standardsOf block + i)) 1) ≡ (t && eqb (octet other (standardsOf block + i)) 1)
+    go true e = ap (λ (b : ℕ). eqb b 1) (same (standardsOf block + i) (omega arith) (omega (arith, ltb-true i (block .isstdcnt) e)))
+    go false e = refl
 
   ut-checked : (i : ℕ) → i < block .isutcnt → checkUt file block i ≡ checkUt other block i
   unfolding checkUt
@@ -124,7 +119,6 @@ module _ (file other : List ℕ) (block : Block) (wide : 4 ≤ block .width) (sa
 
   pub block-checked : (fourth : Bool) → checkBlock file fourth block ≡ checkBlock other fourth block
   unfolding checkBlock
-  block-checked fourth = λ i. part-checked P.Times i >> (part-checked P.Indices i >> (parts i >> (leaps-checked fourth i >> (part-checked P.Standards i >> part-checked P.Uts i))))
-    where
-      parts : checkPart file block (P.Types (nulEnd file block)) ≡ checkPart other block (P.Types (nulEnd other block))
-      parts = λ i. part-checked (P.Types (nul-end i)) i
+  block-checked fourth = λ i. part-checked P.Times i >> (part-checked P.Indices i >> (parts i >> (leaps-checked fourth i >> (part-checked P.Standards i >> part-checked P.Uts i)))) where
+    parts : checkPart file block (P.Types (nulEnd file block)) ≡ checkPart other block (P.Types (nulEnd other block))
+    parts = λ i. part-checked (P.Types (nul-end i)) i

@@ -1,10 +1,7 @@
 -- A text that a loop writes over another one, octet by octet. Assumes nothing.
-use Prim.Native.Nat.{ℕ, zero, suc, _+_, _-_, _≤_, _<_}
-use lib.ListN.{length, getD, set, take, drop, length-append, length-drop, length-replicate}
-use lib.Seq.{length-take-le, drop-cons, take-suc, set-at, append-snoc, take-length, drop-length}
-use mathlib.Core.{List.{List, [], _∷_, _++_, append-nil}, Path.{_≡_, refl, sym, ap, _∙_}}
-use native.Mathlib.{Numerals.{add-one}, Omega.{arith}}
-use Rattle.numbers.specs.Lists.{zeros, padded}
+use Rattle.numbers.proofs.{Lists.{wider-at}, Prelude.{ℕ, suc, _+_, _-_, _≤_, _<_, length, take, drop, getD, set, length-append, length-drop, length-replicate, length-take-le, drop-cons, drop-length}}
+use Rattle.numbers.{proofs.Prelude.{take-suc, take-length, List, [], _++_, append-nil, _≡_, refl, sym, ap, _∙_, add-one, arith}, specs.Lists.{padded}}
+use lib.Seq.{set-at, append-snoc}
 
 -- what stands after i octets
 abbrev pub over : ℕ → List ℕ → List ℕ → List ℕ
@@ -14,37 +11,21 @@ over i s d = take i s ++ drop i d
 module _ (s d : List ℕ) (same : length s ≡ length d) (i : ℕ) where
   pub over-suc : i < length d → set (over i s d) i (getD s i 0) ≡ over (i + 1) s d
   over-suc h =
-      ap (λ (r : List ℕ). set (take i s ++ r) i (getD s i 0)) (drop-cons d i 0 h)
-      ∙ set-at (take i s) (getD d i 0) (drop (suc i) d) (getD s i 0) i (length-take-le i s (omega arith))
-      ∙ sym (append-snoc (take i s) (getD s i 0) (drop (suc i) d))
-      ∙ ap (λ (r : List ℕ). r ++ drop (suc i) d) (sym (take-suc s i 0 (omega arith)))
-      ∙ ap (λ (k : ℕ). take k s ++ drop k d) (sym (add-one i))
+      ap (λ (r : List ℕ). set (take i s ++ r) i (getD s i 0)) (drop-cons d i 0 h) ∙ set-at (take i s) (getD d i 0) (drop (suc i) d) (getD s i 0) i
+      (length-take-le i s (omega arith)) ∙ sym (append-snoc (take i s) (getD s i 0) (drop (suc i) d)) ∙ ap (λ (r : List ℕ). r ++ drop (suc i) d)
+      (sym (take-suc s i 0 (omega arith))) ∙ ap (λ (k : ℕ). take k s ++ drop k d) (sym (add-one i))
 
   pub over-length : i ≤ length d → length (over i s d) ≡ length d
   over-length h = let l : i ≤ length s = omega arith in simp (length-append, length-take-le i s l, length-drop) (omega arith)
 
   pub over-all : i ≤ length d → length d ≤ i → over i s d ≡ s
-  over-all le ge =
-      let e : i ≡ length s = omega arith in
-      let f : i ≡ length d = omega arith in
-      let front : take i s ≡ s = rw (e, take-length) refl in
-      let rest : drop i d ≡ [] = rw (f, drop-length) refl in
-      rw (front, rest) (append-nil s)
+  over-all le ge = let e : i ≡ length s = omega arith in let f : i ≡ length d = omega arith in let front : take i s ≡ s = rw (e, take-length) refl in
+      let rest : drop i d ≡ [] = rw (f, drop-length) refl in rw (front, rest) (append-nil s)
 
 -- ---- a name with zeros behind it
 module _ (n : ℕ) (name : List ℕ) (fits : length name ≤ n) where
   pub padded-length : length (padded n name) ≡ n
   padded-length = simp (length-append, length-replicate) (omega arith)
-
-zeros-at : (m i : ℕ) → getD (zeros m) i 0 ≡ 0
-zeros-at zero i = refl
-zeros-at (suc m) zero = refl
-zeros-at (suc m) (suc i) = zeros-at m i
-
-zeros-behind : (name : List ℕ) (m i : ℕ) → getD (name ++ zeros m) i 0 ≡ getD name i 0
-zeros-behind [] m i = zeros-at m i
-zeros-behind (x ∷ name) m zero = refl
-zeros-behind (x ∷ name) m (suc i) = zeros-behind name m i
 
 -- where the loop stands at an octet
 pub record Lending (name text₀ text : List ℕ) (i : ℕ) : Type 0 where
@@ -62,7 +43,7 @@ module _ {name text₀ text : List ℕ} {i : ℕ} (l : Lending name text₀ text
     fits = l .fits;
     stands =
         ap (λ (t : List ℕ). set t i (getD name i 0)) (l .stands)
-        ∙ ap (set (over i (padded (length text₀) name) text₀) i) (sym (zeros-behind name (length text₀ - length name) i))
+        ∙ ap (set (over i (padded (length text₀) name) text₀) i) (sym (wider-at name (length text₀ - length name) i))
         ∙ over-suc (padded (length text₀) name) text₀ (padded-length (length text₀) name (l .fits)) i (omega (arith, lending-length));
   }
 

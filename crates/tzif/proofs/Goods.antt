@@ -1,16 +1,10 @@
 -- What the checks leave behind: a block that was read is good, and its abbreviations lie within the file. Assumes nothing.
-use Prim.Native.Nat.{ℕ, _+_, _-_, _^_, _<_, _≤_}
-use borrow.Author.Tests.{ltb-true, leb-true, eqb-false, not-true}
-use lib.{Dec.{eqb}, ListN.{length}}
-use mathlib.Core.{Bool.{Bool, true, false}, List.{List}, Path.{_≡_, refl}}
-use native.Mathlib.Omega.{arith}
-use Rattle.tzif.proofs.{Firsts.{first-within}, Lasts.{last-within}, Rises.{both-given, each-passed, held, transitions-rise, occurrences-rise}}
-use Rattle.tzif.proofs.{Widths.{four-at-least}, Zones.{ReadFrom, zone-from}}
-use Rattle.tzif.specs.{Block.{Within, indicesOf, designationsOf, endOf}, Check.{typePlace, nulEnd, checkIndex, checkType, checkLeaps}}
-use Rattle.tzif.specs.{Header.{rfc9636, isFourth, blockAt, checkCounts, checkBlock, readBlock}, Local.{typeIn, typeBehind, isAfterLast, byTable, Good, Held}}
-use Rattle.tzif.specs.{Number.{octet}, Part.{countOf, checkOf, checkPart}, Reply.{given}, Text.{isStop, runTo}}
-use Rattle.numbers.specs.Answer.{if_then_else_}
-use Rattle.tzif.specs.{Times.{transitionsOf, occurrencesOf, lastNotAfter, Rises}, Zone.{readZoneBy}, declared.{block.Block.{Block}, local.Found.{Found}, zone.Zone.{Zone}}}
+use Rattle.numbers.{proofs.Prelude.{ℕ, _+_, _-_, _^_, _≤_, _<_, leb-true, ltb-true, not-true, eqb-false, eqb, length, Bool, true, false, List, _≡_, refl, arith}, specs.Answer.{if_then_else_}}
+use Rattle.tzif.proofs.{Firsts.{first-within}, Lasts.{last-within}, Rises.{both-given, each-passed, held, transitions-rise, occurrences-rise}, Widths.{four-at-least}}
+use Rattle.tzif.proofs.Zones.{ReadFrom, zone-from}
+use Rattle.tzif.specs.{Block.{Within, indicesOf, designationsOf, endOf}, Check.{typePlace, nulEnd, checkIndex, checkType, checkLeaps}, Header.{rfc9636, isFourth, blockAt, checkCounts}}
+use Rattle.tzif.specs.{Header.{checkBlock, readBlock}, Local.{typeIn, typeBehind, isAfterLast, byTable, Good, Held}, Number.{octet}, Part.{countOf, checkOf, checkPart}, Reply.{given}}
+use Rattle.tzif.specs.{Text.{isStop, runTo}, Times.{transitionsOf, occurrencesOf, lastNotAfter, Rises}, Zone.{readZoneBy}, declared.{block.Block.{Block}, local.Found.{Found}, zone.Zone.{Zone}}}
 use Rattle.tzif.specs.declared.local.Answer.the-variants as A
 use Rattle.tzif.specs.declared.part.Part.the-variants as P
 
@@ -23,12 +17,8 @@ pub record Passed (file : List ℕ) (fourth : Bool) (block : Block) : Type 0 whe
 
 parts-passed : (file : List ℕ) (fourth : Bool) (block : Block) → checkBlock file fourth block ≡ given tt → Passed file fourth block
 unfolding checkBlock
-parts-passed file fourth block e =
-    let one = both-given _ _ e in
-    let two = both-given _ _ (one .1) in
-    let three = both-given _ _ (two .1) in
-    let four = both-given _ _ (three .1) in
-    record { times = one .0; indices = two .0; types = three .0; leaps = four .0 }
+parts-passed file fourth block e = let one = both-given _ _ e in let two = both-given _ _ (one .1) in let three = both-given _ _ (two .1) in
+    record { times = one .0; indices = two .0; types = three .0; leaps = both-given _ _ (three .1) .0 }
 
 -- 45 and 47 found no fault
 record Counts (file : List ℕ) (block : Block) : Type 0 where
@@ -40,30 +30,28 @@ not-none n e = omega (arith, eqb-false n 0 e)
 
 counts-passed : (file : List ℕ) (at : ℕ) (block : Block) → checkCounts file at block ≡ given tt → Counts file block
 unfolding checkCounts
-counts-passed file at block e =
-    let one = both-given _ _ e in
-    let two = both-given _ _ (one .1) in
-    let three = both-given _ _ (two .1) in
-    let four = both-given _ _ (three .1) in
-    record { some = not-none _ (not-true _ (held _ _ (three .0))); end = leb-true _ _ (held _ _ (four .1)) }
+counts-passed file at block e = let three = both-given _ _ (both-given _ _ (both-given _ _ e .1) .1) in
+    record { some = not-none _ (not-true _ (held _ _ (three .0))); end = leb-true _ _ (held _ _ (both-given _ _ (three .1) .1)) }
 
 pub record ReadBlock (file : List ℕ) (block : Block) : Type 0 where
   pub within : Within (length file) block
   pub some : 0 < block .typecnt
   pub passed : Passed file (isFourth rfc9636 (octet file 4)) block
 
-width-of : (file : List ℕ) (wide : Bool) (at : ℕ) → 4 ≤ blockAt file wide at .width
+pub width-of : (file : List ℕ) (wide : Bool) (at : ℕ) → 4 ≤ blockAt file wide at .width
 unfolding blockAt
 width-of file wide at = four-at-least wide
 
 pub block-read : (file : List ℕ) (wide : Bool) (at : ℕ) {block : Block} → readBlock rfc9636 file wide at ≡ given block → ReadBlock file block
 unfolding readBlock
-block-read file wide at {block} e =
-    let counted = both-given _ _ (both-given _ _ e .1) in
-    let checked = both-given _ _ (counted .1) in
-    let same : blockAt file wide at ≡ block = cc (checked .1) in
-    let counts = counts-passed file at (blockAt file wide at) (counted .0) in
-    rw (← same) (record { within = record { wide = width-of file wide at; end = counts .end }; some = counts .some; passed = parts-passed file (isFourth rfc9636 (octet file 4)) (blockAt file wide at) (checked .0) })
+block-read file wide at {block} e = let counted = both-given _ _ (both-given _ _ e .1) in let checked = both-given _ _ (counted .1) in
+    let same : blockAt file wide at ≡ block = cc (checked .1) in let counts = counts-passed file at (blockAt file wide at) (counted .0) in
+    rw (← same) (record {
+      within = record { wide = width-of file wide at; end = counts .end };
+      some = counts .some;
+      passed = parts-passed file (isFourth rfc9636 (octet file 4))
+          (blockAt file wide at) (checked .0);
+    })
 
 -- ---- a good block
 index-below : (file : List ℕ) (block : Block) (i : ℕ) → checkIndex file block i ≡ given tt → octet file (indicesOf block + i) < block .typecnt
@@ -77,9 +65,7 @@ record Designated (file : List ℕ) (block : Block) (i : ℕ) : Type 0 where
 
 designated : (file : List ℕ) (block : Block) (i : ℕ) → checkType file block (nulEnd file block) i ≡ given tt → Designated file block i
 unfolding checkType
-designated file block i e =
-    let two = both-given _ _ (both-given _ _ e .1) in
-    let three = both-given _ _ (two .1) in
+designated file block i e = let three = both-given _ _ (both-given _ _ (both-given _ _ e .1) .1) in
     record { inside = ltb-true _ _ (held _ _ (three .0)); ended = ltb-true _ _ (held _ _ (three .1)) }
 
 module _ {file : List ℕ} {block : Block} (read : ReadBlock file block) where
@@ -133,11 +119,10 @@ module _ (file : List ℕ) {zone : Zone} (e : readZoneBy rfc9636 file ≡ given 
 module _ {file : List ℕ} {block : Block} (g : Good file block) where
   pub type-below : (n : ℕ) → n ≤ block .timecnt → typeBehind file block n < block .typecnt
   unfolding typeBehind
-  type-below n l = go (eqb n 0) refl
-    where
-      go : (t : Bool) → eqb n 0 ≡ t → (if t then 0 else octet file (indicesOf block + (n - 1))) < block .typecnt
-      go true e = g .some
-      go false e = g .indices (n - 1) (omega (arith, eqb-false n 0 e))
+  type-below n l = go (eqb n 0) refl where
+    go : (t : Bool) → eqb n 0 ≡ t → (if t then 0 else octet file (indicesOf block + (n - 1))) < block .typecnt
+    go true e = g .some
+    go false e = g .indices (n - 1) (omega (arith, eqb-false n 0 e))
 
   pub behind-within : (instant : ℕ) → lastNotAfter file (transitionsOf block) instant ≤ block .timecnt
   unfolding lastNotAfter
@@ -146,15 +131,20 @@ module _ {file : List ℕ} {block : Block} (g : Good file block) where
   -- a type's abbreviation lies within the file
   pub type-held : (i : ℕ) → i < block .typecnt → Held (length file) (typeIn file block i)
   unfolding typeIn runTo
-  type-held i l = record { held = omega (arith, g .inside i l, g .within .end, first-within (λ k. isStop 0 (octet file (designationsOf block + octet file (typePlace block i + 5) + k))) (block .charcnt - octet file (typePlace block i + 5))) }
+  type-held i l = record {
+    held = omega (
+      arith,
+      g .inside i l,
+      g .within .end,
+      first-within (λ k. isStop 0 (octet file (designationsOf block + octet file (typePlace block i + 5) + k))) (block .charcnt - octet file (typePlace block i + 5)),
+    );
+  }
 
   -- and so does that of an answer
   pub found-held : (instant : ℕ) {found : Found} → byTable file block instant ≡ A.Found found → Held (length file) found
   unfolding byTable
-  found-held instant {found} = go (isAfterLast file block instant)
-    where
-      go : (t : Bool) → (if t then A.Unknown else A.Found (typeIn file block (typeBehind file block (lastNotAfter file (transitionsOf block) instant)))) ≡ A.Found found → Held (length file) found
-      go true e = let z : _≡_ {A = ℕ} 0 1 = cc in absurd (omega arith)
-      go false e =
-          let same : typeIn file block (typeBehind file block (lastNotAfter file (transitionsOf block) instant)) ≡ found = cc in
-          rw (← same) (type-held _ (type-below _ (behind-within instant)))
+  found-held instant {found} = go (isAfterLast file block instant) where
+    go : (t : Bool) → (if t then A.Unknown else A.Found (typeIn file block (typeBehind file block (lastNotAfter file (transitionsOf block) instant)))) ≡ A.Found found → Held (length file) found
+    go true e = let z : _≡_ {A = ℕ} 0 1 = cc in absurd (omega arith)
+    go false e = let same : typeIn file block (typeBehind file block (lastNotAfter file (transitionsOf block) instant)) ≡ found = cc in
+        rw (← same) (type-held _ (type-below _ (behind-within instant)))

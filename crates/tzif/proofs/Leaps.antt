@@ -1,9 +1,5 @@
 -- The correction at an instant, by how many records there are. Assumes nothing.
-use Prim.Native.Nat.{ℕ, zero, suc, _^_, _≤_, _<_}
-use borrow.Author.Tests.{eq-eqb}
-use lib.Dec.{eqb}
-use mathlib.Core.{Bool.{Bool, true, false, not, _&&_}, List.{List}, Path.{_≡_, refl}}
-use native.Mathlib.Omega.{arith}
+use Rattle.numbers.proofs.Prelude.{ℕ, zero, suc, _^_, _≤_, _<_, eq-eqb, eqb, Bool, true, false, _&&_, not, List, _≡_, refl, arith}
 use Rattle.tzif.proofs.Lasts.{last-within}
 use Rattle.tzif.specs.{Check.{correctionBefore, correctionAt, isExpiry}, Times.{occurrencesOf, lastNotAfter}, declared.block.Block.{Block}}
 
@@ -24,6 +20,5 @@ module _ (file : List ℕ) (block : Block) (instant : ℕ) where
 
   pub no-records : block .leapcnt ≡ 0 → 2 ^ 31 ≡ correctionAt file block instant
   unfolding correctionAt correctionBefore
-  no-records e =
-      let none : lastNotAfter file (occurrencesOf block) instant ≡ 0 = omega (arith, records-within) in
+  no-records e = let none : lastNotAfter file (occurrencesOf block) instant ≡ 0 = omega (arith, records-within) in
       rw (eq-eqb (lastNotAfter file (occurrencesOf block) instant) 0 none) refl

@@ -1,12 +1,7 @@
 -- The reply to a call, by how far it came. Assumes nothing.
-use Prim.Native.Nat.{ℕ, _+_, _-_, _<_, _≤_}
-use borrow.Author.Tests.{le-leb, lt-leb}
-use lib.{IntN.{ℤ}, ListN.{length}}
-use mathlib.Core.{List.{List, []}, Path.{_≡_, ap}}
-use native.Mathlib.{Nat.{sub-zero}, Omega.{arith}}
-use Rattle.tzif.specs.{Local.{byTable, replied, named, lent, localTimeBy, localTime}, Number.{lift}, Reply.{given, refused, refusal, _>>=_}}
-use Rattle.tzif.specs.{Text.{slice}, Zone.{readZone}, declared.{local.{Found.{Found}, LocalTime.{LocalTime}}, refusal.Refusal.{Refusal}, zone.Zone.{Zone}}}
-use Rattle.numbers.specs.Lists.{zeros, padded}
+use Rattle.numbers.{proofs.Prelude.{ℕ, _+_, _-_, _≤_, _<_, le-leb, lt-leb, ℤ, length, List, [], _≡_, ap, sub-zero, arith}, specs.Lists.{zeros, padded}}
+use Rattle.tzif.specs.{Local.{byTable, replied, named, lent, localTimeBy, localTime}, Number.{lift}, Reply.{given, refused, refusal, _>>=_}, Text.{slice}, Zone.{readZone}}
+use Rattle.tzif.specs.declared.{local.{Found.{Found}, LocalTime.{LocalTime}}, refusal.Refusal.{Refusal}, zone.Zone.{Zone}}
 use Rattle.tzif.specs.declared.local.Answer.the-variants as A
 use Rattle.tzif.specs.declared.local.LocalTime.the-variants as L
 
@@ -21,8 +16,7 @@ module _ (file : List ℕ) (room : ℕ) (found : Found) {text : List ℕ} where
 
   pub has-room : found .length ≤ room → {offset : ℤ} → offset ≡ found .offset → text ≡ padded room (slice file (found .place) (found .place + found .length - found .place))
       → replied (L.Local (record { offset = offset; daylight = found .daylight; length = found .length })) text ≡ named file room found
-  has-room l o t =
-      let same : found .place + found .length - found .place ≡ found .length = omega arith in
+  has-room l o t = let same : found .place + found .length - found .place ≡ found .length = omega arith in
       rw (le-leb (found .length) room l, o) (ap (replied (L.Local (record { offset = found .offset; daylight = found .daylight; length = found .length }))) (rw same at t))
 
 -- ---- the whole call
@@ -36,6 +30,7 @@ module _ (file : List ℕ) (instant : ℤ) (room : ℕ) {text : List ℕ} where
     unfolding localTimeBy lent _>>=_
     not-known b t = rw (e, ← f, b) (ap (replied L.Unknown) t)
 
-    pub is-found : {found : Found} {reply : LocalTime} → byTable file (zone .block) form ≡ A.Found found → replied reply text ≡ named file room found → replied reply text ≡ localTime file instant room
+    pub is-found : {found : Found} {reply : LocalTime} → byTable file (zone .block) form ≡ A.Found found → replied reply text ≡ named file room found
+        → replied reply text ≡ localTime file instant room
     unfolding localTimeBy lent _>>=_
     is-found b r = rw (e, ← f, b) r

@@ -1,15 +1,10 @@
 -- A version 4 file without version 4's features is read as the same bytes marked 3. Assumes nothing.
-use Prim.Native.Nat.{ℕ, zero, suc, _+_, _-_, _^_, _<_, _≤_}
-use borrow.Author.Tests.{leb-true, ltb-true, ltb-false, eqb-true, eqb-false, eq-eqb, ne-eqb}
-use lib.{Dec.{ltb, leb, eqb}, IntN.{ℤ}, ListN.{length, set, drop, length-set, List·getD-eq-default}, Seq.{getD-set-same, getD-set-other}}
-use mathlib.Core.{Bool.{Bool, true, false, not, _&&_, _||_}, List.{List, [], _∷_}, Path.{_≡_, refl, ap, sym, _∙_}}
-use native.Mathlib.Omega.{arith}
-use Rattle.tzif.proofs.{Alike.{be32-same, each-same, block-checked}, Beyond.{Beyond, footer-same, table-same, table-behind, lent-same, refused-one}, Rises.{both-given}}
-use Rattle.tzif.proofs.Widths.{four-at-least}
+use Rattle.numbers.proofs.Prelude.{ℕ, zero, suc, _+_, _-_, _^_, _≤_, _<_, eq-eqb, ne-eqb, leb-true, ltb-true, eqb-true, ltb-false, eqb-false, eqb, ltb, leb, ℤ, length, drop, set, length-set}
+use Rattle.numbers.proofs.Prelude.{List·getD-eq-default, getD-set-other, getD-set-same, Bool, true, false, _&&_, _||_, not, List, [], _∷_, _≡_, refl, sym, ap, _∙_, arith}
+use Rattle.tzif.proofs.{Alike.{be32-same, each-same, block-checked}, Beyond.{Beyond, footer-same, table-same, table-behind, lent-same, refused-one}, Goods.{width-of}, Rises.{both-given}}
 use Rattle.tzif.specs.{Block.{endOf}, Check.{nulEnd, correctionOf, correctionBefore, oneApart, isExpiry, checkLeap, checkLeaps}}
-use Rattle.tzif.specs.Header.{rfc9636, begins, isFourth, isVersion, versionFits, checkHeader, blockAt, checkCounts, checkBlock, readBlock}
-use Rattle.tzif.specs.{Local.{byTable, lent, localTimeBy, localTime}, Number.{octet, be32, octets, lift}, Part.{checkPart}}
-use Rattle.tzif.specs.{Reply.{Reply, given, refused, refusal, demand, _>>=_, _>>_}, Zone.{readFooter, readLong, readZoneBy, readZone}}
+use Rattle.tzif.specs.{Header.{rfc9636, begins, isFourth, isVersion, versionFits, checkHeader, blockAt, checkCounts, checkBlock, readBlock}, Local.{byTable, lent, localTimeBy, localTime}}
+use Rattle.tzif.specs.{Number.{octet, be32, octets, lift}, Part.{checkPart}, Reply.{Reply, given, refused, refusal, demand, _>>=_, _>>_}, Zone.{readFooter, readLong, readZoneBy, readZone}}
 use Rattle.tzif.specs.declared.{block.Block.{Block}, local.Answer.{Answer}, refusal.Refusal.{Refusal}, zone.Zone.{Zone}}
 use Rattle.tzif.specs.declared.part.Part.the-variants as P
 
@@ -45,19 +40,17 @@ pub record PlainFour (file : List ℕ) : Type 0 where
 module _ (file : List ℕ) (block : Block) (plain : Plain file block) where
   no-expiry : (i : ℕ) → i < block .leapcnt → isExpiry file block i ≡ false
   unfolding isExpiry
-  no-expiry i l = go (eqb i 0) refl (eqb (i + 1) (block .leapcnt)) refl
-    where
-      go : (s : Bool) → eqb i 0 ≡ s → (t : Bool) → eqb (i + 1) (block .leapcnt) ≡ t → (not s && (t && eqb (correctionOf file block i) (correctionOf file block (i - 1)))) ≡ false
-      go true e t f = refl
-      go false e false f = refl
-      go false e true f =
-          let some : (i ≡ 0 → ⊥) = eqb-false i 0 e in
-          let all : i + 1 ≡ block .leapcnt = eqb-true (i + 1) (block .leapcnt) f in
-          let last : i ≡ block .leapcnt - 1 = omega arith in
-          let prior : i - 1 ≡ block .leapcnt - 2 = omega arith in
-          ne-eqb (correctionOf file block i) (correctionOf file block (i - 1)) (λ same. plain .ends (omega (arith, some, all, l)) (sym (ap (correctionOf file block) last) ∙ same ∙ ap (correctionOf file block) prior))
+  no-expiry i l = go (eqb i 0) refl (eqb (i + 1) (block .leapcnt)) refl where
+    go : (s : Bool) → eqb i 0 ≡ s → (t : Bool) → eqb (i + 1) (block .leapcnt) ≡ t → (not s && (t && eqb (correctionOf file block i) (correctionOf file block (i - 1)))) ≡ false
+    go true e t f = refl
+    go false e false f = refl
+    go false e true f = let some : (i ≡ 0 → ⊥) = eqb-false i 0 e in let all : i + 1 ≡ block .leapcnt = eqb-true (i + 1) (block .leapcnt) f in
+        let last : i ≡ block .leapcnt - 1 = omega arith in let prior : i - 1 ≡ block .leapcnt - 2 = omega arith in
+        ne-eqb (correctionOf file block i) (correctionOf file block (i - 1))
+        (λ same. plain .ends (omega (arith, some, all, l)) (sym (ap (correctionOf file block) last) ∙ same ∙ ap (correctionOf file block) prior))
 
-  begins-plain : (i : ℕ) → i < block .leapcnt → ((eqb i 0 && true) || oneApart (correctionBefore file block i) (correctionOf file block i)) ≡ ((eqb i 0 && false) || oneApart (correctionBefore file block i) (correctionOf file block i))
+  begins-plain : (i : ℕ) → i < block .leapcnt → ((eqb i 0 && true) || oneApart (correctionBefore file block i) (correctionOf file block i)) ≡
+      ((eqb i 0 && false) || oneApart (correctionBefore file block i) (correctionOf file block i))
   unfolding correctionBefore
   begins-plain zero l = sym (plain .begins l)
   begins-plain (suc i) l = rw (ne-eqb (suc i) 0 (λ e. omega (arith, e))) refl
@@ -72,7 +65,8 @@ module _ (file : List ℕ) (block : Block) (plain : Plain file block) where
 
   pub block-plain : checkBlock file true block ≡ checkBlock file false block
   unfolding checkBlock
-  block-plain = λ i. checkPart file block P.Times >> (checkPart file block P.Indices >> (checkPart file block (P.Types (nulEnd file block)) >> (leaps-plain i >> (checkPart file block P.Standards >> checkPart file block P.Uts))))
+  block-plain = λ i. checkPart file block P.Times >>
+      (checkPart file block P.Indices >> (checkPart file block (P.Types (nulEnd file block)) >> (leaps-plain i >> (checkPart file block P.Standards >> checkPart file block P.Uts))))
 
 -- ---- the two files
 drop-set : (xs : List ℕ) (n p b : ℕ) → n < p → drop p xs ≡ drop p (set xs n b)
@@ -83,11 +77,10 @@ drop-set (x ∷ xs) zero (suc p) b l = refl
 drop-set (x ∷ xs) (suc n) (suc p) b l = drop-set xs n p b (omega arith)
 
 held : (file : List ℕ) (p : ℕ) → (octet file p ≡ 0 → ⊥) → p < length file
-held file p h = go (ltb p (length file)) refl
-  where
-    go : (t : Bool) → ltb p (length file) ≡ t → p < length file
-    go true e = ltb-true p (length file) e
-    go false e = absurd (h (List·getD-eq-default file 0 {n = p} (ltb-false p (length file) e)))
+held file p h = go (ltb p (length file)) refl where
+  go : (t : Bool) → ltb p (length file) ≡ t → p < length file
+  go true e = ltb-true p (length file) e
+  go false e = absurd (h (List·getD-eq-default file 0 {n = p} (ltb-false p (length file) e)))
 
 -- a header's counts
 block-at : (file other : List ℕ) (wide : Bool) (at : ℕ) → ((p : ℕ) → at + 20 ≤ p → p < at + 44 → octet file p ≡ octet other p) → blockAt file wide at ≡ blockAt other wide at
@@ -101,18 +94,13 @@ block-at file other wide at same = λ i. record {
   typecnt = count (at + 36) (omega arith) (omega arith) i;
   charcnt = count (at + 40) (omega arith) (omega arith) i;
   begin = at + 44;
-}
-  where
-    count : (p : ℕ) → at + 20 ≤ p → p + 4 ≤ at + 44 → be32 file p ≡ be32 other p
-    count p a b = be32-same p (record { at = λ q c d. same q (omega arith) (omega arith) })
+} where
+  count : (p : ℕ) → at + 20 ≤ p → p + 4 ≤ at + 44 → be32 file p ≡ be32 other p
+  count p a b = be32-same p (record { at = λ q c d. same q (omega arith) (omega arith) })
 
 begin-of : (file : List ℕ) (wide : Bool) (at : ℕ) → blockAt file wide at .begin ≡ at + 44
 unfolding blockAt
 begin-of file wide at = refl
-
-width-of : (file : List ℕ) (wide : Bool) (at : ℕ) → 4 ≤ blockAt file wide at .width
-unfolding blockAt
-width-of file wide at = four-at-least wide
 
 -- what a reading gives is the block at the place
 read-is : (file : List ℕ) (wide : Bool) (at : ℕ) {block : Block} → readBlock rfc9636 file wide at ≡ given block → blockAt file wide at ≡ block
@@ -184,15 +172,12 @@ module _ (file : List ℕ) (h : PlainFour file) where
 
   second-fits : versionFits rfc9636 file true (endOf (firstBlock file)) ≡ versionFits rfc9636 other true (endOf (firstBlock file))
   unfolding versionFits secondVersion
-  second-fits = go (leb (endOf (firstBlock file) + 5) (length file)) refl
-    where
-      go : (t : Bool) → leb (endOf (firstBlock file) + 5) (length file) ≡ t
-          → (leb (endOf (firstBlock file) + 5) (length file) && eqb (octet file (endOf (firstBlock file) + 4)) (octet file 4))
-          ≡ (leb (endOf (firstBlock file) + 5) (length other) && eqb (octet other (endOf (firstBlock file) + 4)) (octet other 4))
-      go true e =
-          let inside : endOf (firstBlock file) + 4 < length file = omega (arith, leb-true (endOf (firstBlock file) + 5) (length file) e) in
-          rw (← size, e, h .first, h .second inside, three-first, three-second inside) refl
-      go false e = rw (← size, e) refl
+  second-fits = go (leb (endOf (firstBlock file) + 5) (length file)) refl where
+    go : (t : Bool) → leb (endOf (firstBlock file) + 5) (length file) ≡ t → (leb (endOf (firstBlock file) + 5) (length file) && eqb (octet file (endOf (firstBlock file) + 4))
+        (octet file 4)) ≡ (leb (endOf (firstBlock file) + 5) (length other) && eqb (octet other (endOf (firstBlock file) + 4)) (octet other 4))
+    go true e = let inside : endOf (firstBlock file) + 4 < length file = omega (arith, leb-true (endOf (firstBlock file) + 5) (length file) e) in
+        rw (← size, e, h .first, h .second inside, three-first, three-second inside) refl
+    go false e = rw (← size, e) refl
 
   -- a header with its block
   module _ (wide : Bool) (at : ℕ) (magic : begins file at ≡ begins other at) (fits : versionFits rfc9636 file wide at ≡ versionFits rfc9636 other wide at)
@@ -216,10 +201,8 @@ module _ (file : List ℕ) (h : PlainFour file) where
 
     checked : checkBlock file (isFourth rfc9636 (octet file 4)) (blockAt file wide at) ≡ checkBlock other (isFourth rfc9636 (octet other 4)) (blockAt file wide at)
     checked =
-        ap (λ (f : Bool). checkBlock file f (blockAt file wide at)) four
-        ∙ block-plain file (blockAt file wide at) plain
-        ∙ block-checked file other (blockAt file wide at) (width-of file wide at) (λ p a b. same p (omega (arith, begin-of file wide at)) b) false
-        ∙ ap (λ (f : Bool). checkBlock other f (blockAt file wide at)) (sym three)
+        ap (λ (f : Bool). checkBlock file f (blockAt file wide at)) four ∙ block-plain file (blockAt file wide at) plain ∙ block-checked file other
+        (blockAt file wide at) (width-of file wide at) (λ p a b. same p (omega (arith, begin-of file wide at)) b) false ∙ ap (λ (f : Bool). checkBlock other f (blockAt file wide at)) (sym three)
 
     block-read : readBlock rfc9636 file wide at ≡ readBlock rfc9636 other wide at
     unfolding readBlock
@@ -230,9 +213,8 @@ module _ (file : List ℕ) (h : PlainFour file) where
   first-read : readBlock rfc9636 file false 0 ≡ readBlock rfc9636 other false 0
   unfolding secondVersion
   first-read =
-      block-read false 0 (begun 0 (λ p a b. elsewhere p (λ e. omega arith) (λ e. omega (arith, far)))) first-fits
-      (block-at file other false 0 (λ p a b. elsewhere p (λ e. omega arith) (λ e. omega (arith, far)))) (h .one)
-      (λ p a b. elsewhere p (λ e. omega arith) (λ e. omega arith))
+      block-read false 0 (begun 0 (λ p a b. elsewhere p (λ e. omega arith) (λ e. omega (arith, far)))) first-fits (block-at file other false 0
+      (λ p a b. elsewhere p (λ e. omega arith) (λ e. omega (arith, far)))) (h .one) (λ p a b. elsewhere p (λ e. omega arith) (λ e. omega arith))
 
   second-read : readBlock rfc9636 file true (endOf (firstBlock file)) ≡ readBlock rfc9636 other true (endOf (firstBlock file))
   unfolding secondVersion
@@ -244,34 +226,36 @@ module _ (file : List ℕ) (h : PlainFour file) where
   -- ---- the whole file
   long-read : ReadAlike (mark + 1) (readLong rfc9636 file (firstBlock file)) (readLong rfc9636 other (firstBlock file))
   unfolding readLong _>>=_ secondVersion
-  long-read = rw (← second-read) (go (readBlock rfc9636 file true (endOf (firstBlock file))) refl)
-    where
-      ending : (block : Block) (begin : mark + 1 ≤ block .begin) (wide : 4 ≤ block .width) (footer : Reply ℕ)
-          → ReadAlike (mark + 1) (footer >>= λ size. given (record { version = octet file 4; block = block; string = endOf block + 1; size = size })) (footer >>= λ size. given (record { version = octet other 4; block = block; string = endOf block + 1; size = size }))
-      ending block begin wide (refused why) = refuses
-      ending block begin wide (given n) = rw three-first (gives {zone = record { version = octet file 4; block = block; string = endOf block + 1; size = n }} (record { version = h .first; block = begin; string = omega (arith, begin); wide = wide }))
+  long-read = rw (← second-read) (go (readBlock rfc9636 file true (endOf (firstBlock file))) refl) where
+    ending : (block : Block) (begin : mark + 1 ≤ block .begin) (wide : 4 ≤ block .width) (footer : Reply ℕ)
+        → ReadAlike (mark + 1) (footer >>= λ size. given (record { version = octet file 4; block = block; string = endOf block + 1; size = size }))
+        (footer >>= λ size. given (record { version = octet other 4; block = block; string = endOf block + 1; size = size }))
+    ending block begin wide (refused why) = refuses
+    ending block begin wide (given n) =
+        rw three-first (gives {zone = record { version = octet file 4; block = block; string = endOf block + 1; size = n }}
+        (record { version = h .first; block = begin; string = omega (arith, begin); wide = wide }))
 
-      go : (reading : Reply Block) → readBlock rfc9636 file true (endOf (firstBlock file)) ≡ reading
-          → ReadAlike (mark + 1) (reading >>= λ block. readFooter file (endOf block) >>= λ size. given (record { version = octet file 4; block = block; string = endOf block + 1; size = size }))
-          (reading >>= λ block. readFooter other (endOf block) >>= λ size. given (record { version = octet other 4; block = block; string = endOf block + 1; size = size }))
-      go (refused why) e = refuses
-      go (given block) e =
-          let is = read-is file true (endOf (firstBlock file)) e in
-          let begin : mark + 1 ≤ block .begin = rw (← is) (omega (arith, begin-of file true (endOf (firstBlock file)))) in
-          let wide : 4 ≤ block .width = rw (← is) (width-of file true (endOf (firstBlock file))) in
-          rw (← footer-same file other (mark + 1) beyond (endOf block) (omega (arith, begin))) (ending block begin wide (readFooter file (endOf block)))
+    go : (reading : Reply Block) → readBlock rfc9636 file true (endOf (firstBlock file)) ≡ reading
+        → ReadAlike (mark + 1) (reading >>= λ block. readFooter file (endOf block) >>= λ size. given (record { version = octet file 4; block = block; string = endOf block + 1; size = size }))
+        (reading >>= λ block. readFooter other (endOf block) >>= λ size. given (record { version = octet other 4; block = block; string = endOf block + 1; size = size }))
+    go (refused why) e = refuses
+    go (given block) e = let is = read-is file true (endOf (firstBlock file)) e in
+        let begin : mark + 1 ≤ block .begin = rw (← is) (omega (arith, begin-of file true (endOf (firstBlock file)))) in
+        let wide : 4 ≤ block .width = rw (← is) (width-of file true (endOf (firstBlock file))) in
+        rw (← footer-same file other (mark + 1) beyond (endOf block) (omega (arith, begin))) (ending block begin wide (readFooter file (endOf block)))
 
   pub zone-read : ReadAlike (mark + 1) (readZone file) (readZone other)
   unfolding readZoneBy _>>=_ _>>_ demand
-  zone-read = rw (← size, ← first-read, h .first, three-first) (whole (leb (length file) (2 ^ 30)))
-    where
-      go : (reading : Reply Block) → readBlock rfc9636 file false 0 ≡ reading → ReadAlike (mark + 1) (reading >>= λ first. readLong rfc9636 file first) (reading >>= λ first. readLong rfc9636 other first)
-      go (refused why) e = refuses
-      go (given first) e = rw (← read-is file false 0 e) long-read
+  zone-read = rw (← size, ← first-read, h .first, three-first) (whole (leb (length file) (2 ^ 30))) where
+    go : (reading : Reply Block) → readBlock rfc9636 file false 0 ≡ reading →
+        ReadAlike (mark + 1) (reading >>= λ first. readLong rfc9636 file first) (reading >>= λ first. readLong rfc9636 other first)
+    go (refused why) e = refuses
+    go (given first) e = rw (← read-is file false 0 e) long-read
 
-      whole : (t : Bool) → ReadAlike (mark + 1) (demand t (refusal 1 0) >> (readBlock rfc9636 file false 0 >>= λ first. readLong rfc9636 file first)) (demand t (refusal 1 0) >> (readBlock rfc9636 file false 0 >>= λ first. readLong rfc9636 other first))
-      whole true = go (readBlock rfc9636 file false 0) refl
-      whole false = refuses
+    whole : (t : Bool) → ReadAlike (mark + 1) (demand t (refusal 1 0) >> (readBlock rfc9636 file false 0 >>= λ first. readLong rfc9636 file first))
+        (demand t (refusal 1 0) >> (readBlock rfc9636 file false 0 >>= λ first. readLong rfc9636 other first))
+    whole true = go (readBlock rfc9636 file false 0) refl
+    whole false = refuses
 
   -- ---- the answer by the transitions
   answer : ℤ → List ℕ → Zone → Reply Answer

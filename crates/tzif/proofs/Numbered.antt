@@ -1,15 +1,9 @@
 -- Which numbers a call can be refused with. Assumes nothing.
-use Prim.Native.Nat.{ℕ, zero, suc}
-use lib.{Dec.{leb, eqb}, IntN.{ℤ}, ListN.{length}}
-use mathlib.Core.{Bool.{Bool, true, false, _&&_}, List.{List, [], _∷_}, Path.{_≡_, refl, subst}}
-use native.Mathlib.Omega.{arith}
-use Rattle.numbers.proofs.Refusals.{Listed}
+use Rattle.numbers.proofs.Prelude.{ℕ, zero, suc, eqb, leb, ℤ, length, Bool, true, false, _&&_, List, [], _∷_, _≡_, refl, subst, arith}
+use Rattle.numbers.{proofs.Refusals.{Listed}, specs.{Answer.{if_then_else_}, Lists.{zeros, padded}}}
 use Rattle.tzif.specs.{Block.{endOf}, Check.{isExpiry, nulEnd, checkTime, checkIndex, checkType, checkLeap, checkLeaps, checkStandard, checkUt}}
-use Rattle.tzif.specs.{Header.{rfc9636, isFourth, checkHeader, blockAt, checkCounts, checkBlock, readBlock}, Local.{Replied, replied, lent, localTimeBy, localTime}}
-use Rattle.tzif.specs.{Number.{octet}, Part.{countOf, checkOf, checkPart}, Reply.{Reply, given, refused, refusal, demand, each, _>>=_, _>>_}}
-use Rattle.numbers.specs.Answer.{if_then_else_}
-use Rattle.tzif.specs.{Text.{slice}, Zone.{readFooter, readShort, readLong, readZoneBy}}
-use Rattle.numbers.specs.Lists.{zeros, padded}
+use Rattle.tzif.specs.{Header.{rfc9636, isFourth, checkHeader, blockAt, checkCounts, checkBlock, readBlock}, Local.{Replied, replied, lent, localTimeBy, localTime}, Number.{octet}}
+use Rattle.tzif.specs.{Part.{countOf, checkOf, checkPart}, Reply.{Reply, given, refused, refusal, demand, each, _>>=_, _>>_}, Text.{slice}, Zone.{readFooter, readShort, readLong, readZoneBy}}
 use Rattle.tzif.specs.declared.{block.Block.{Block}, local.{Answer.{Answer}, LocalTime.{LocalTime}}, part.Part.{Part}, refusal.Refusal.{Refusal}}
 use Rattle.tzif.specs.declared.local.Answer.the-variants as A
 use Rattle.tzif.specs.declared.local.LocalTime.the-variants as L
@@ -17,8 +11,7 @@ use Rattle.tzif.specs.declared.part.Part.the-variants as P
 
 -- 1 for the length, 18 for the room, and one for each rule of the RFC
 abbrev pub localNumbers : List ℕ
-localNumbers =
-    1 ∷ 18 ∷ 40 ∷ 41 ∷ 42 ∷ 43 ∷ 44 ∷ 45 ∷ 46 ∷ 47 ∷ 48 ∷ 49 ∷ 50 ∷ 51 ∷ 52 ∷ 53 ∷ 54 ∷ 55 ∷ 56 ∷ 57 ∷ 58 ∷ 59 ∷ []
+localNumbers = 1 ∷ 18 ∷ 40 ∷ 41 ∷ 42 ∷ 43 ∷ 44 ∷ 45 ∷ 46 ∷ 47 ∷ 48 ∷ 49 ∷ 50 ∷ 51 ∷ 52 ∷ 53 ∷ 54 ∷ 55 ∷ 56 ∷ 57 ∷ 58 ∷ 59 ∷ []
 
 -- a number that it is refused with is listed
 pub data NumberedReply (P : ℕ → Type 0) {A : Type 0} : Reply A → Type 0 where
@@ -78,10 +71,7 @@ module _ (file : List ℕ) where
   parts : (fourth : Bool) (block : Block) → Mine (checkBlock file fourth block)
   unfolding checkBlock
   parts fourth block =
-      and-then (part block P.Times)
-      (and-then (part block P.Indices)
-      (and-then (part block (P.Types (nulEnd file block)))
-      (and-then (leaps fourth block)
+      and-then (part block P.Times) (and-then (part block P.Indices) (and-then (part block (P.Types (nulEnd file block))) (and-then (leaps fourth block)
       (and-then (part block P.Standards) (part block P.Uts)))))
 
   header : (wide : Bool) (at : ℕ) → Mine (checkHeader rfc9636 file wide at)
@@ -120,14 +110,13 @@ module _ (P : ℕ → Type 0) (room-number : P 18) where
 
   pub of-lent : (file : List ℕ) (room : ℕ) {answer : Reply Answer} → NumberedReply P answer → (why : Refusal) → lent file room answer .reply ≡ L.Refused why → P (why .number)
   unfolding lent
-  of-lent file room (answers {a = A.Found found}) why e = go (leb (found .length) room) e
-    where
-      local : Replied
-      local = replied (L.Local (record { offset = found .offset; daylight = found .daylight; length = found .length })) (padded room (slice file (found .place) (found .length)))
+  of-lent file room (answers {a = A.Found found}) why e = go (leb (found .length) room) e where
+    local : Replied
+    local = replied (L.Local (record { offset = found .offset; daylight = found .daylight; length = found .length })) (padded room (slice file (found .place) (found .length)))
 
-      go : (t : Bool) → (if t then local else replied (L.Refused (refusal 18 0)) (zeros room)) .reply ≡ L.Refused why → P (why .number)
-      go true e = let z : _≡_ {A = ℕ} 0 1 = cc in absurd (omega arith)
-      go false e = number-of e refl room-number
+    go : (t : Bool) → (if t then local else replied (L.Refused (refusal 18 0)) (zeros room)) .reply ≡ L.Refused why → P (why .number)
+    go true e = let z : _≡_ {A = ℕ} 0 1 = cc in absurd (omega arith)
+    go false e = number-of e refl room-number
   of-lent file room (answers {a = A.Unknown}) why e = let z : _≡_ {A = ℕ} 0 1 = cc in absurd (omega arith)
   of-lent file room (refuses h) why e = number-of e refl h
 

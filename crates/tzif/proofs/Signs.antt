@@ -1,13 +1,10 @@
 -- Signed numbers and their form more 2 ^ 63, which keeps the order. Assumes nothing.
-use Prim.Native.Nat.{ℕ, zero, suc, _+_, _-_, _*_, _^_, _<_, _≤_}
-use borrow.Author.Tests.{ltb-true, ltb-false, lt-ltb, le-ltb}
-use lib.{Dec.{T, ltb, eqb}, IntN.{ℤ, pos, negsuc, natAbs, _-ℤ_}, ListN.{getD}, Signed.{mag, ltZ, nonNeg}}
-use mathlib.Core.{Bool.{Bool, true, false, _&&_}, List.{List, [], _∷_}, Path.{_≡_, refl, ap, _∙_}}
-use mir.{Syntax.{w32, w64}, Val.{SFits, toZ, ofZ}, ValLaws.{toZ-ofZ, toZ-fits}}
-use native.Mathlib.Omega.{arith}
-use Rattle.numbers.proofs.Signed.{complement, complement-fits, widens}
+use Rattle.numbers.proofs.Prelude.{ℕ, zero, suc, _+_, _-_, _*_, _^_, _≤_, _<_, lt-ltb, le-ltb, ltb-true, ltb-false, eqb, ltb, T, ℤ, pos, negsuc, _-ℤ_, natAbs, mag, ltZ, Bool, true, false, _&&_, List}
+use Rattle.numbers.proofs.Prelude.{[], _∷_, _≡_, refl, ap, _∙_, w32, w64, SFits, ofZ, toZ, toZ-ofZ, arith}
+use Rattle.numbers.{proofs.{Signed.{complement, complement-fits, widens}, Tests.{both}}, specs.Answer.{if_then_else_}}
+use lib.Signed.{nonNeg}
+use mir.ValLaws.{toZ-fits}
 use Rattle.tzif.specs.{Last.{Octets}, Number.{be32, raised, timeAt, signedAt, lift}}
-use Rattle.numbers.specs.Answer.{if_then_else_}
 
 -- ---- an instant of the code
 -- -1 less a negative number is what its form lacks of 2 ^ 63 - 1
@@ -54,14 +51,6 @@ module _ (z : ℤ) (h : SFits w64 z) where
   lifted-above e = from-zero e .lifted ∙ ap lift same
 
 -- ---- a time of the file: the form of its signed value, where octets are below 256
-first-of : (a b : Bool) → (a && b) ≡ true → a ≡ true
-first-of true b e = refl
-first-of false b e = e
-
-rest-of : (a b : Bool) → (a && b) ≡ true → b ≡ true
-rest-of true b e = e
-rest-of false b e = let z : _≡_ {A = ℕ} 0 1 = cc in absurd (omega arith)
-
 -- the octets of a file that is written out
 unfoldable pub allOctets : List ℕ → Bool
 allOctets [] = true
@@ -70,8 +59,8 @@ allOctets (x ∷ xs) = ltb x 256 && allOctets xs
 pub octets-of : (file : List ℕ) → allOctets file ≡ true → Octets file
 unfolding Octets allOctets
 octets-of [] e k = omega arith
-octets-of (x ∷ xs) e zero = ltb-true x 256 (first-of (ltb x 256) (allOctets xs) e)
-octets-of (x ∷ xs) e (suc k) = octets-of xs (rest-of (ltb x 256) (allOctets xs) e) k
+octets-of (x ∷ xs) e zero = ltb-true x 256 (both (ltb x 256) (allOctets xs) e .0)
+octets-of (x ∷ xs) e (suc k) = octets-of xs (both (ltb x 256) (allOctets xs) e .1) k
 
 be32-fits : (file : List ℕ) (place : ℕ) → Octets file → be32 file place < 2 ^ 32
 unfolding be32 Octets
@@ -79,55 +68,48 @@ be32-fits file place o = omega (arith, o place, o (place + 1), o (place + 2), o 
 
 wide-form : (high low : ℕ) → high < 2 ^ 32 → low < 2 ^ 32 → raised high * 2 ^ 32 + low ≡ lift (toZ w64 (high * 2 ^ 32 + low))
 unfolding lift raised
-wide-form high low h l = go (ltb high (2 ^ 31)) refl
-  where
-    go : (t : Bool) → ltb high (2 ^ 31) ≡ t → (if t then high + 2 ^ 31 else high - 2 ^ 31) * 2 ^ 32 + low ≡ lift (toZ w64 (high * 2 ^ 32 + low))
-    go true e = rw (lt-ltb (high * 2 ^ 32 + low) (2 ^ 63) (omega (arith, ltb-true high (2 ^ 31) e))) (omega arith)
-    go false e = rw (le-ltb (high * 2 ^ 32 + low) (2 ^ 63) (omega (arith, ltb-false high (2 ^ 31) e))) (omega (arith, ltb-false high (2 ^ 31) e))
+wide-form high low h l = go (ltb high (2 ^ 31)) refl where
+  go : (t : Bool) → ltb high (2 ^ 31) ≡ t → (if t then high + 2 ^ 31 else high - 2 ^ 31) * 2 ^ 32 + low ≡ lift (toZ w64 (high * 2 ^ 32 + low))
+  go true e = rw (lt-ltb (high * 2 ^ 32 + low) (2 ^ 63) (omega (arith, ltb-true high (2 ^ 31) e))) (omega arith)
+  go false e = rw (le-ltb (high * 2 ^ 32 + low) (2 ^ 63) (omega (arith, ltb-false high (2 ^ 31) e))) (omega (arith, ltb-false high (2 ^ 31) e))
 
 narrow-form : (bits : ℕ) → bits < 2 ^ 32 → raised bits + (2 ^ 63 - 2 ^ 31) ≡ lift (toZ w32 bits)
 unfolding lift raised
-narrow-form bits h = go (ltb bits (2 ^ 31)) refl
-  where
-    go : (t : Bool) → ltb bits (2 ^ 31) ≡ t → (if t then bits + 2 ^ 31 else bits - 2 ^ 31) + (2 ^ 63 - 2 ^ 31) ≡ lift (toZ w32 bits)
-    go true e = rw e (omega arith)
-    go false e = rw e (omega (arith, ltb-false bits (2 ^ 31) e))
+narrow-form bits h = go (ltb bits (2 ^ 31)) refl where
+  go : (t : Bool) → ltb bits (2 ^ 31) ≡ t → (if t then bits + 2 ^ 31 else bits - 2 ^ 31) + (2 ^ 63 - 2 ^ 31) ≡ lift (toZ w32 bits)
+  go true e = rw e (omega arith)
+  go false e = rw e (omega (arith, ltb-false bits (2 ^ 31) e))
 
 pub time-is-signed : (file : List ℕ) (width place : ℕ) → Octets file → timeAt file width place ≡ lift (signedAt file width place)
 unfolding timeAt signedAt
-time-is-signed file width place o = go (eqb width 8)
-  where
-    go : (t : Bool) → (if t then raised (be32 file place) * 2 ^ 32 + be32 file (place + 4) else raised (be32 file place) + (2 ^ 63 - 2 ^ 31)) ≡ lift (if t then toZ w64 (be32 file place * 2 ^ 32 + be32 file (place + 4)) else toZ w32 (be32 file place))
-    go true = wide-form (be32 file place) (be32 file (place + 4)) (be32-fits file place o) (be32-fits file (place + 4) o)
-    go false = narrow-form (be32 file place) (be32-fits file place o)
+time-is-signed file width place o = go (eqb width 8) where
+  go : (t : Bool) → (if t then raised (be32 file place) * 2 ^ 32 + be32 file (place + 4) else raised (be32 file place) + (2 ^ 63 - 2 ^ 31)) ≡ lift
+      (if t then toZ w64 (be32 file place * 2 ^ 32 + be32 file (place + 4)) else toZ w32 (be32 file place))
+  go true = wide-form (be32 file place) (be32 file (place + 4)) (be32-fits file place o) (be32-fits file (place + 4) o)
+  go false = narrow-form (be32 file place) (be32-fits file place o)
 
 -- the form keeps the order of numbers of 64 bits
 pub lift-keeps : (a b : ℤ) → SFits w64 a → SFits w64 b → ltb (lift a) (lift b) ≡ ltZ a b
 unfolding lift
-lift-keeps (pos a) (pos b) h k = go (ltb a b) refl
-  where
-    go : (t : Bool) → ltb a b ≡ t → ltb (a + 2 ^ 63) (b + 2 ^ 63) ≡ t
-    go true e = lt-ltb (a + 2 ^ 63) (b + 2 ^ 63) (omega (arith, ltb-true a b e))
-    go false e = le-ltb (a + 2 ^ 63) (b + 2 ^ 63) (omega (arith, ltb-false a b e))
+lift-keeps (pos a) (pos b) h k = go (ltb a b) refl where
+  go : (t : Bool) → ltb a b ≡ t → ltb (a + 2 ^ 63) (b + 2 ^ 63) ≡ t
+  go true e = lt-ltb (a + 2 ^ 63) (b + 2 ^ 63) (omega (arith, ltb-true a b e))
+  go false e = le-ltb (a + 2 ^ 63) (b + 2 ^ 63) (omega (arith, ltb-false a b e))
 lift-keeps (pos a) (negsuc b) h k = le-ltb (a + 2 ^ 63) (2 ^ 63 - suc b) (omega arith)
 lift-keeps (negsuc a) (pos b) h k = lt-ltb (2 ^ 63 - suc a) (b + 2 ^ 63) (omega arith)
-lift-keeps (negsuc a) (negsuc b) h k = go (ltb b a) refl
-  where
-    go : (t : Bool) → ltb b a ≡ t → ltb (2 ^ 63 - suc a) (2 ^ 63 - suc b) ≡ t
-    go true e = lt-ltb (2 ^ 63 - suc a) (2 ^ 63 - suc b) (omega (arith, ltb-true b a e, h .sfits))
-    go false e = le-ltb (2 ^ 63 - suc a) (2 ^ 63 - suc b) (omega (arith, ltb-false b a e, k .sfits))
+lift-keeps (negsuc a) (negsuc b) h k = go (ltb b a) refl where
+  go : (t : Bool) → ltb b a ≡ t → ltb (2 ^ 63 - suc a) (2 ^ 63 - suc b) ≡ t
+  go true e = lt-ltb (2 ^ 63 - suc a) (2 ^ 63 - suc b) (omega (arith, ltb-true b a e, h .sfits))
+  go false e = le-ltb (2 ^ 63 - suc a) (2 ^ 63 - suc b) (omega (arith, ltb-false b a e, k .sfits))
 
 -- ---- an i32 from its bits
 pub read-high : (bits : ℕ) → 2 ^ 31 ≤ bits → bits < 2 ^ 32 → toZ w32 (ofZ w32 (negsuc 0 -ℤ toZ w32 (2 ^ 32 - 1 - bits))) ≡ toZ w32 bits
 read-high bits h l =
-    toZ-ofZ w32 _ (complement-fits w32 (2 ^ 32 - 1 - bits) (omega arith))
-    ∙ complement w32 (2 ^ 32 - 1 - bits) (omega arith)
-    ∙ simp (le-ltb _ _ h) (ap negsuc (omega arith))
+    toZ-ofZ w32 _ (complement-fits w32 (2 ^ 32 - 1 - bits) (omega arith)) ∙ complement w32 (2 ^ 32 - 1 - bits) (omega arith) ∙ simp (le-ltb _ _ h) (ap negsuc (omega arith))
 
 pub signed-fits : (file : List ℕ) (width place : ℕ) → Octets file → SFits w64 (signedAt file width place)
 unfolding signedAt
-signed-fits file width place o = go (eqb width 8)
-  where
-    go : (t : Bool) → SFits w64 (if t then toZ w64 (be32 file place * 2 ^ 32 + be32 file (place + 4)) else toZ w32 (be32 file place))
-    go true = toZ-fits w64 (be32 file place * 2 ^ 32 + be32 file (place + 4)) (record { fits = omega (arith, be32-fits file place o, be32-fits file (place + 4) o) })
-    go false = widens w32 w64 (omega arith) (toZ w32 (be32 file place)) (toZ-fits w32 (be32 file place) (record { fits = be32-fits file place o }))
+signed-fits file width place o = go (eqb width 8) where
+  go : (t : Bool) → SFits w64 (if t then toZ w64 (be32 file place * 2 ^ 32 + be32 file (place + 4)) else toZ w32 (be32 file place))
+  go true = toZ-fits w64 (be32 file place * 2 ^ 32 + be32 file (place + 4)) (record { fits = omega (arith, be32-fits file place o, be32-fits file (place + 4) o) })
+  go false = widens w32 w64 (omega arith) (toZ w32 (be32 file place)) (toZ-fits w32 (be32 file place) (record { fits = be32-fits file place o }))

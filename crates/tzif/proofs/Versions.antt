@@ -1,12 +1,7 @@
 -- What version 4 leaves as it was: files of versions 1 to 3 are read as by RFC 8536. Assumes nothing.
-use Prim.Native.Nat.{ℕ, _^_}
-use borrow.Author.Tests.{ne-eqb}
-use lib.{Dec.{leb, eqb}, IntN.{ℤ}, ListN.{length}}
-use mathlib.Core.{Bool.{true, false}, List.{List}, Path.{_≡_, refl, ap}}
-use Rattle.tzif.specs.{Block.{endOf}, Header.{rfc8536, rfc9636, isFourth, isVersion, versionFits, checkHeader, readBlock}}
-use Rattle.tzif.specs.{Local.{byTable, lent, localTimeBy, localTime}, Number.{octet, lift}, Reply.{given, refusal, demand, _>>=_, _>>_}}
-use Rattle.numbers.specs.Answer.{if_then_else_}
-use Rattle.tzif.specs.{Zone.{readShort, readLong, readZoneBy, readZone}, declared.block.Block.{Block}}
+use Rattle.numbers.{proofs.Prelude.{ℕ, _^_, ne-eqb, eqb, leb, ℤ, length, true, false, List, _≡_, refl, ap}, specs.Answer.{if_then_else_}}
+use Rattle.tzif.specs.{Block.{endOf}, Header.{rfc8536, rfc9636, isFourth, isVersion, versionFits, checkHeader, readBlock}, Local.{byTable, lent, localTimeBy, localTime}, Number.{octet, lift}}
+use Rattle.tzif.specs.{Reply.{given, refusal, demand, _>>=_, _>>_}, Zone.{readShort, readLong, readZoneBy, readZone}, declared.block.Block.{Block}}
 
 module _ (file : List ℕ) (older : octet file 4 ≡ 0x34 → ⊥) where
   first-block : readBlock rfc9636 file false 0 ≡ readBlock rfc8536 file false 0

@@ -1,7 +1,5 @@
 -- Entries of a part of a data block, and the products that lay it out. Assumes nothing.
-use Prim.Native.Nat.{ℕ, _+_, _*_, _^_, _<_, _≤_}
-use mathlib.Core.Bool.{Bool, true, false}
-use native.Mathlib.{Nat.{suc-mul, mul-le-mul, mul-le-mul-right}, Omega.{arith}}
+use Rattle.numbers.proofs.Prelude.{ℕ, _+_, _*_, _^_, _≤_, _<_, Bool, true, false, suc-mul, mul-le-mul, mul-le-mul-right, arith}
 use Rattle.tzif.specs.{Block.{Within}, Number.{octets}, Times.{transitionsOf, occurrencesOf, Inside}, declared.block.Block.{Block}}
 
 -- an entry of a part lies before the part's end

@@ -1,22 +1,18 @@
 -- A small file, computed: what the theorems speak of is met. Assumes nothing.
-use Prim.Native.Nat.{ℕ, zero, suc, _+_, _^_, _<_}
-use lib.IntN.{pos, negsuc}
-use mathlib.Core.{Bool.{true, false}, List.{List, [], _∷_}, Path.{_≡_, refl}}
-use native.Mathlib.Omega.{arith}
+use Rattle.numbers.proofs.Prelude.{ℕ, zero, suc, _+_, _^_, _<_, pos, negsuc, true, false, List, [], _∷_, _≡_, refl, arith}
 use Rattle.tzif.proofs.{Marked.{secondVersion, markedThree, PlainFour}, Signs.{allOctets, octets-of}, Theorems.{last-not-after, BlockWidth, block-width}}
-use Rattle.tzif.specs.Last.{Octets, LastNotAfter, transitionTime}
-use Rattle.tzif.specs.Check.{occursLater, correctionBefore, correctionOf, oneApart, isExpiry, nulEnd, checkTime, checkIndex, checkType, checkLeap, checkLeaps, checkStandard, isStandard, checkUt}
-use Rattle.tzif.specs.Header.{rfc8536, begins, isVersion, isFourth, versionFits, checkHeader, blockAt, noneOrAll, checkCounts, checkBlock, readBlock}
-use Rattle.tzif.specs.{Local.{typeIn, typeBehind, isAfterLast, byTable, replied, lent, localTimeBy, localTime}, Number.{octets, be32, raised, timeAt, signedAt, lift}}
-use Rattle.tzif.specs.{Part.{countOf, checkOf, checkPart}, Reply.{given, demand, each, refusal, _>>=_, _>>_}, Text.{firstWith, isStop, runTo}}
-use Rattle.tzif.specs.{Times.{timeIn, transitionsOf, lastWith, lastNotAfter}, Zone.{newlineAt, readFooter, readShort, readLong, readZoneBy, readZone}}
-use Rattle.tzif.specs.declared.block.Block.{Block}
+use Rattle.tzif.specs.Check.{occursLater, correctionBefore, correctionOf, oneApart, isExpiry, nulEnd, checkTime, checkIndex, checkType, checkLeap, checkLeaps, checkStandard, isStandard}
+use Rattle.tzif.specs.{Check.{checkUt}, Header.{rfc8536, begins, isVersion, isFourth, versionFits, checkHeader, blockAt, noneOrAll, checkCounts, checkBlock, readBlock}, Last.{Octets}}
+use Rattle.tzif.specs.{Last.{LastNotAfter, transitionTime}, Local.{typeIn, typeBehind, isAfterLast, byTable, replied, lent, localTimeBy, localTime}, Number.{octets, be32, raised, timeAt}}
+use Rattle.tzif.specs.{Number.{signedAt, lift}, Part.{countOf, checkOf, checkPart}, Reply.{given, demand, each, refusal, _>>=_, _>>_}, Text.{firstWith, isStop, runTo}, Times.{timeIn}}
+use Rattle.tzif.specs.{Times.{transitionsOf, lastWith, lastNotAfter}, Zone.{newlineAt, readFooter, readShort, readLong, readZoneBy, readZone}, declared.block.Block.{Block}}
 use Rattle.tzif.specs.declared.local.LocalTime.the-variants as L
 
 -- version 1: `A` at UT, and from instant 0 on `B`, an hour east of it, daylight time
 abbrev small : List ℕ
 small =
-    84 ∷ 90 ∷ 105 ∷ 102 ∷ 0 ∷ 0 ∷ 0 ∷ 0 ∷ 0 ∷ 0 ∷ 0 ∷ 0 ∷ 0 ∷ 0 ∷ 0 ∷ 0 ∷ 0 ∷ 0 ∷ 0 ∷ 0 ∷ 0 ∷ 0 ∷ 0 ∷ 0 ∷ 0 ∷ 0 ∷ 0 ∷ 0 ∷ 0 ∷ 0 ∷ 0 ∷ 0 ∷ 0 ∷ 0 ∷ 0 ∷ 1 ∷ 0 ∷ 0 ∷ 0 ∷ 2 ∷ 0 ∷ 0 ∷ 0 ∷ 4 ∷ 0 ∷ 0 ∷ 0 ∷ 0 ∷ 1 ∷ 0 ∷ 0 ∷ 0 ∷ 0 ∷ 0 ∷ 0 ∷ 0 ∷ 0 ∷ 14 ∷ 16 ∷ 1 ∷ 2 ∷ 65 ∷ 0 ∷ 66 ∷ 0 ∷ []
+    84 ∷ 90 ∷ 105 ∷ 102 ∷ 0 ∷ 0 ∷ 0 ∷ 0 ∷ 0 ∷ 0 ∷ 0 ∷ 0 ∷ 0 ∷ 0 ∷ 0 ∷ 0 ∷ 0 ∷ 0 ∷ 0 ∷ 0 ∷ 0 ∷ 0 ∷ 0 ∷ 0 ∷ 0 ∷ 0 ∷ 0 ∷ 0 ∷ 0 ∷ 0 ∷ 0 ∷ 0 ∷ 0 ∷ 0 ∷ 0 ∷ 1 ∷ 0 ∷ 0 ∷ 0 ∷ 2 ∷ 0 ∷ 0 ∷ 0 ∷ 4 ∷ 0 ∷
+    0 ∷ 0 ∷ 0 ∷ 1 ∷ 0 ∷ 0 ∷ 0 ∷ 0 ∷ 0 ∷ 0 ∷ 0 ∷ 0 ∷ 14 ∷ 16 ∷ 1 ∷ 2 ∷ 65 ∷ 0 ∷ 66 ∷ 0 ∷ []
 
 -- its block
 abbrev table : Block
@@ -31,7 +27,9 @@ pub record Worked : Type 0 where
   pub no-room : localTime small (pos 0) 0 ≡ replied (L.Refused (refusal 18 0)) []
 
 pub worked : Worked
-unfolding localTimeBy lent readZoneBy readShort readBlock begins isVersion isFourth versionFits checkHeader blockAt noneOrAll checkCounts checkBlock checkPart countOf checkOf checkTime checkIndex checkType checkLeap checkLeaps checkStandard isStandard checkUt nulEnd typeIn typeBehind isAfterLast byTable octets be32 raised timeAt lift demand each _>>=_ _>>_ firstWith isStop runTo timeIn lastWith lastNotAfter
+unfolding localTimeBy lent readZoneBy readShort readBlock begins isVersion isFourth versionFits checkHeader blockAt noneOrAll checkCounts checkBlock checkPart
+    countOf checkOf checkTime checkIndex checkType checkLeap checkLeaps checkStandard isStandard checkUt nulEnd typeIn typeBehind isAfterLast byTable octets
+    be32 raised timeAt lift demand each _>>=_ _>>_ firstWith isStop runTo timeIn lastWith lastNotAfter
 worked = record { before = refl; there = refl; behind = refl; read = refl; no-room = refl }
 
 -- what `last-not-after` asks is met
@@ -42,7 +40,10 @@ small-last = last-not-after small (octets-of small refl) table (pos 0) (record {
 -- version 2: `A` at UT, `B` an hour east of it from a second before 1970 on for a day and a second; both blocks have these times
 abbrev both : List ℕ
 both =
-    84 ∷ 90 ∷ 105 ∷ 102 ∷ 50 ∷ 0 ∷ 0 ∷ 0 ∷ 0 ∷ 0 ∷ 0 ∷ 0 ∷ 0 ∷ 0 ∷ 0 ∷ 0 ∷ 0 ∷ 0 ∷ 0 ∷ 0 ∷ 0 ∷ 0 ∷ 0 ∷ 0 ∷ 0 ∷ 0 ∷ 0 ∷ 0 ∷ 0 ∷ 0 ∷ 0 ∷ 0 ∷ 0 ∷ 0 ∷ 0 ∷ 2 ∷ 0 ∷ 0 ∷ 0 ∷ 2 ∷ 0 ∷ 0 ∷ 0 ∷ 4 ∷ 255 ∷ 255 ∷ 255 ∷ 255 ∷ 0 ∷ 1 ∷ 81 ∷ 128 ∷ 1 ∷ 0 ∷ 0 ∷ 0 ∷ 0 ∷ 0 ∷ 0 ∷ 0 ∷ 0 ∷ 0 ∷ 14 ∷ 16 ∷ 1 ∷ 2 ∷ 65 ∷ 0 ∷ 66 ∷ 0 ∷ 84 ∷ 90 ∷ 105 ∷ 102 ∷ 50 ∷ 0 ∷ 0 ∷ 0 ∷ 0 ∷ 0 ∷ 0 ∷ 0 ∷ 0 ∷ 0 ∷ 0 ∷ 0 ∷ 0 ∷ 0 ∷ 0 ∷ 0 ∷ 0 ∷ 0 ∷ 0 ∷ 0 ∷ 0 ∷ 0 ∷ 0 ∷ 0 ∷ 0 ∷ 0 ∷ 0 ∷ 0 ∷ 0 ∷ 0 ∷ 0 ∷ 2 ∷ 0 ∷ 0 ∷ 0 ∷ 2 ∷ 0 ∷ 0 ∷ 0 ∷ 4 ∷ 255 ∷ 255 ∷ 255 ∷ 255 ∷ 255 ∷ 255 ∷ 255 ∷ 255 ∷ 0 ∷ 0 ∷ 0 ∷ 0 ∷ 0 ∷ 1 ∷ 81 ∷ 128 ∷ 1 ∷ 0 ∷ 0 ∷ 0 ∷ 0 ∷ 0 ∷ 0 ∷ 0 ∷ 0 ∷ 0 ∷ 14 ∷ 16 ∷ 1 ∷ 2 ∷ 65 ∷ 0 ∷ 66 ∷ 0 ∷ 10 ∷ 10 ∷ []
+    84 ∷ 90 ∷ 105 ∷ 102 ∷ 50 ∷ 0 ∷ 0 ∷ 0 ∷ 0 ∷ 0 ∷ 0 ∷ 0 ∷ 0 ∷ 0 ∷ 0 ∷ 0 ∷ 0 ∷ 0 ∷ 0 ∷ 0 ∷ 0 ∷ 0 ∷ 0 ∷ 0 ∷ 0 ∷ 0 ∷ 0 ∷ 0 ∷ 0 ∷ 0 ∷ 0 ∷ 0 ∷ 0 ∷ 0 ∷ 0 ∷ 2 ∷ 0 ∷ 0 ∷ 0 ∷ 2 ∷ 0 ∷ 0 ∷ 0 ∷ 4 ∷ 255
+    ∷ 255 ∷ 255 ∷ 255 ∷ 0 ∷ 1 ∷ 81 ∷ 128 ∷ 1 ∷ 0 ∷ 0 ∷ 0 ∷ 0 ∷ 0 ∷ 0 ∷ 0 ∷ 0 ∷ 0 ∷ 14 ∷ 16 ∷ 1 ∷ 2 ∷ 65 ∷ 0 ∷ 66 ∷ 0 ∷ 84 ∷ 90 ∷ 105 ∷ 102 ∷ 50 ∷ 0 ∷ 0 ∷ 0 ∷ 0 ∷ 0 ∷ 0 ∷ 0 ∷ 0 ∷ 0 ∷ 0 ∷
+    0 ∷ 0 ∷ 0 ∷ 0 ∷ 0 ∷ 0 ∷ 0 ∷ 0 ∷ 0 ∷ 0 ∷ 0 ∷ 0 ∷ 0 ∷ 0 ∷ 0 ∷ 0 ∷ 0 ∷ 0 ∷ 0 ∷ 0 ∷ 2 ∷ 0 ∷ 0 ∷ 0 ∷ 2 ∷ 0 ∷ 0 ∷ 0 ∷ 4 ∷ 255 ∷ 255 ∷ 255 ∷ 255 ∷ 255 ∷ 255 ∷ 255 ∷ 255 ∷ 0 ∷ 0 ∷ 0 ∷ 0 ∷ 0
+    ∷ 1 ∷ 81 ∷ 128 ∷ 1 ∷ 0 ∷ 0 ∷ 0 ∷ 0 ∷ 0 ∷ 0 ∷ 0 ∷ 0 ∷ 0 ∷ 14 ∷ 16 ∷ 1 ∷ 2 ∷ 65 ∷ 0 ∷ 66 ∷ 0 ∷ 10 ∷ 10 ∷ []
 
 abbrev narrow : Block
 narrow = record { width = 4; isutcnt = 0; isstdcnt = 0; leapcnt = 0; timecnt = 2; typecnt = 2; charcnt = 4; begin = 44 }
@@ -58,21 +59,23 @@ pub record WorkedWidths : Type 0 where
 
 pub both-widths : WorkedWidths
 unfolding blockAt octets be32 allOctets transitionTime signedAt
-both-widths = record { first = refl; second = refl; alike = block-width both both bytes bytes narrow wide refl same }
-  where
-    bytes : Octets both
-    bytes = octets-of both refl
+both-widths = record { first = refl; second = refl; alike = block-width both both bytes bytes narrow wide refl same } where
+  bytes : Octets both
+  bytes = octets-of both refl
 
-    same : (i : ℕ) → i < 2 → transitionTime both narrow i ≡ transitionTime both wide i
-    same zero l = refl
-    same (suc zero) l = refl
-    same (suc (suc i)) l = absurd (omega arith)
+  same : (i : ℕ) → i < 2 → transitionTime both narrow i ≡ transitionTime both wide i
+  same zero l = refl
+  same (suc zero) l = refl
+  same (suc (suc i)) l = absurd (omega arith)
 
 -- ---- version 4
 -- `A` at UT with two leap seconds, in both blocks: neither feature
 abbrev four : List ℕ
 four =
-    84 ∷ 90 ∷ 105 ∷ 102 ∷ 52 ∷ 0 ∷ 0 ∷ 0 ∷ 0 ∷ 0 ∷ 0 ∷ 0 ∷ 0 ∷ 0 ∷ 0 ∷ 0 ∷ 0 ∷ 0 ∷ 0 ∷ 0 ∷ 0 ∷ 0 ∷ 0 ∷ 0 ∷ 0 ∷ 0 ∷ 0 ∷ 0 ∷ 0 ∷ 0 ∷ 0 ∷ 2 ∷ 0 ∷ 0 ∷ 0 ∷ 0 ∷ 0 ∷ 0 ∷ 0 ∷ 1 ∷ 0 ∷ 0 ∷ 0 ∷ 2 ∷ 0 ∷ 0 ∷ 0 ∷ 0 ∷ 0 ∷ 0 ∷ 65 ∷ 0 ∷ 0 ∷ 0 ∷ 0 ∷ 0 ∷ 0 ∷ 0 ∷ 0 ∷ 1 ∷ 0 ∷ 36 ∷ 233 ∷ 255 ∷ 0 ∷ 0 ∷ 0 ∷ 2 ∷ 84 ∷ 90 ∷ 105 ∷ 102 ∷ 52 ∷ 0 ∷ 0 ∷ 0 ∷ 0 ∷ 0 ∷ 0 ∷ 0 ∷ 0 ∷ 0 ∷ 0 ∷ 0 ∷ 0 ∷ 0 ∷ 0 ∷ 0 ∷ 0 ∷ 0 ∷ 0 ∷ 0 ∷ 0 ∷ 0 ∷ 0 ∷ 0 ∷ 0 ∷ 0 ∷ 0 ∷ 2 ∷ 0 ∷ 0 ∷ 0 ∷ 0 ∷ 0 ∷ 0 ∷ 0 ∷ 1 ∷ 0 ∷ 0 ∷ 0 ∷ 2 ∷ 0 ∷ 0 ∷ 0 ∷ 0 ∷ 0 ∷ 0 ∷ 65 ∷ 0 ∷ 0 ∷ 0 ∷ 0 ∷ 0 ∷ 0 ∷ 0 ∷ 0 ∷ 0 ∷ 0 ∷ 0 ∷ 0 ∷ 1 ∷ 0 ∷ 0 ∷ 0 ∷ 0 ∷ 0 ∷ 36 ∷ 233 ∷ 255 ∷ 0 ∷ 0 ∷ 0 ∷ 2 ∷ 10 ∷ 10 ∷ []
+    84 ∷ 90 ∷ 105 ∷ 102 ∷ 52 ∷ 0 ∷ 0 ∷ 0 ∷ 0 ∷ 0 ∷ 0 ∷ 0 ∷ 0 ∷ 0 ∷ 0 ∷ 0 ∷ 0 ∷ 0 ∷ 0 ∷ 0 ∷ 0 ∷ 0 ∷ 0 ∷ 0 ∷ 0 ∷ 0 ∷ 0 ∷ 0 ∷ 0 ∷ 0 ∷ 0 ∷ 2 ∷ 0 ∷ 0 ∷ 0 ∷ 0 ∷ 0 ∷ 0 ∷ 0 ∷ 1 ∷ 0 ∷ 0 ∷ 0 ∷ 2 ∷ 0 ∷
+    0 ∷ 0 ∷ 0 ∷ 0 ∷ 0 ∷ 65 ∷ 0 ∷ 0 ∷ 0 ∷ 0 ∷ 0 ∷ 0 ∷ 0 ∷ 0 ∷ 1 ∷ 0 ∷ 36 ∷ 233 ∷ 255 ∷ 0 ∷ 0 ∷ 0 ∷ 2 ∷ 84 ∷ 90 ∷ 105 ∷ 102 ∷ 52 ∷ 0 ∷ 0 ∷ 0 ∷ 0 ∷ 0 ∷ 0 ∷ 0 ∷ 0 ∷ 0 ∷ 0 ∷ 0 ∷ 0 ∷ 0 ∷ 0 ∷ 0
+    ∷ 0 ∷ 0 ∷ 0 ∷ 0 ∷ 0 ∷ 0 ∷ 0 ∷ 0 ∷ 0 ∷ 0 ∷ 0 ∷ 2 ∷ 0 ∷ 0 ∷ 0 ∷ 0 ∷ 0 ∷ 0 ∷ 0 ∷ 1 ∷ 0 ∷ 0 ∷ 0 ∷ 2 ∷ 0 ∷ 0 ∷ 0 ∷ 0 ∷ 0 ∷ 0 ∷ 65 ∷ 0 ∷ 0 ∷ 0 ∷ 0 ∷ 0 ∷ 0 ∷ 0 ∷ 0 ∷ 0 ∷ 0 ∷ 0 ∷ 0 ∷ 1 ∷ 0 ∷
+    0 ∷ 0 ∷ 0 ∷ 0 ∷ 36 ∷ 233 ∷ 255 ∷ 0 ∷ 0 ∷ 0 ∷ 2 ∷ 10 ∷ 10 ∷ []
 
 -- what `v4-as-v3` asks is met
 pub four-plain : PlainFour four
@@ -82,15 +85,17 @@ four-plain = record {
   second = λ l. refl;
   one = record { begins = λ l. refl; ends = λ l e. differ e };
   two = record { begins = λ l. refl; ends = λ l e. differ e };
-}
-  where
-    differ : (2 ^ 31 + 2) ≡ (2 ^ 31 + 1) → ⊥
-    differ e = omega (arith, e)
+} where
+  differ : (2 ^ 31 + 2) ≡ (2 ^ 31 + 1) → ⊥
+  differ e = omega (arith, e)
 
 -- `A` at UT with a table that begins at 27 and expires a second later, in both blocks
 abbrev cut : List ℕ
 cut =
-    84 ∷ 90 ∷ 105 ∷ 102 ∷ 52 ∷ 0 ∷ 0 ∷ 0 ∷ 0 ∷ 0 ∷ 0 ∷ 0 ∷ 0 ∷ 0 ∷ 0 ∷ 0 ∷ 0 ∷ 0 ∷ 0 ∷ 0 ∷ 0 ∷ 0 ∷ 0 ∷ 0 ∷ 0 ∷ 0 ∷ 0 ∷ 0 ∷ 0 ∷ 0 ∷ 0 ∷ 2 ∷ 0 ∷ 0 ∷ 0 ∷ 0 ∷ 0 ∷ 0 ∷ 0 ∷ 1 ∷ 0 ∷ 0 ∷ 0 ∷ 2 ∷ 0 ∷ 0 ∷ 0 ∷ 0 ∷ 0 ∷ 0 ∷ 65 ∷ 0 ∷ 0 ∷ 0 ∷ 0 ∷ 0 ∷ 0 ∷ 0 ∷ 0 ∷ 27 ∷ 0 ∷ 0 ∷ 0 ∷ 1 ∷ 0 ∷ 0 ∷ 0 ∷ 27 ∷ 84 ∷ 90 ∷ 105 ∷ 102 ∷ 52 ∷ 0 ∷ 0 ∷ 0 ∷ 0 ∷ 0 ∷ 0 ∷ 0 ∷ 0 ∷ 0 ∷ 0 ∷ 0 ∷ 0 ∷ 0 ∷ 0 ∷ 0 ∷ 0 ∷ 0 ∷ 0 ∷ 0 ∷ 0 ∷ 0 ∷ 0 ∷ 0 ∷ 0 ∷ 0 ∷ 0 ∷ 2 ∷ 0 ∷ 0 ∷ 0 ∷ 0 ∷ 0 ∷ 0 ∷ 0 ∷ 1 ∷ 0 ∷ 0 ∷ 0 ∷ 2 ∷ 0 ∷ 0 ∷ 0 ∷ 0 ∷ 0 ∷ 0 ∷ 65 ∷ 0 ∷ 0 ∷ 0 ∷ 0 ∷ 0 ∷ 0 ∷ 0 ∷ 0 ∷ 0 ∷ 0 ∷ 0 ∷ 0 ∷ 27 ∷ 0 ∷ 0 ∷ 0 ∷ 0 ∷ 0 ∷ 0 ∷ 0 ∷ 1 ∷ 0 ∷ 0 ∷ 0 ∷ 27 ∷ 10 ∷ 10 ∷ []
+    84 ∷ 90 ∷ 105 ∷ 102 ∷ 52 ∷ 0 ∷ 0 ∷ 0 ∷ 0 ∷ 0 ∷ 0 ∷ 0 ∷ 0 ∷ 0 ∷ 0 ∷ 0 ∷ 0 ∷ 0 ∷ 0 ∷ 0 ∷ 0 ∷ 0 ∷ 0 ∷ 0 ∷ 0 ∷ 0 ∷ 0 ∷ 0 ∷ 0 ∷ 0 ∷ 0 ∷ 2 ∷ 0 ∷ 0 ∷ 0 ∷ 0 ∷ 0 ∷ 0 ∷ 0 ∷ 1 ∷ 0 ∷ 0 ∷ 0 ∷ 2 ∷ 0 ∷
+    0 ∷ 0 ∷ 0 ∷ 0 ∷ 0 ∷ 65 ∷ 0 ∷ 0 ∷ 0 ∷ 0 ∷ 0 ∷ 0 ∷ 0 ∷ 0 ∷ 27 ∷ 0 ∷ 0 ∷ 0 ∷ 1 ∷ 0 ∷ 0 ∷ 0 ∷ 27 ∷ 84 ∷ 90 ∷ 105 ∷ 102 ∷ 52 ∷ 0 ∷ 0 ∷ 0 ∷ 0 ∷ 0 ∷ 0 ∷ 0 ∷ 0 ∷ 0 ∷ 0 ∷ 0 ∷ 0 ∷ 0 ∷ 0 ∷ 0 ∷
+    0 ∷ 0 ∷ 0 ∷ 0 ∷ 0 ∷ 0 ∷ 0 ∷ 0 ∷ 0 ∷ 0 ∷ 0 ∷ 2 ∷ 0 ∷ 0 ∷ 0 ∷ 0 ∷ 0 ∷ 0 ∷ 0 ∷ 1 ∷ 0 ∷ 0 ∷ 0 ∷ 2 ∷ 0 ∷ 0 ∷ 0 ∷ 0 ∷ 0 ∷ 0 ∷ 65 ∷ 0 ∷ 0 ∷ 0 ∷ 0 ∷ 0 ∷ 0 ∷ 0 ∷ 0 ∷ 0 ∷ 0 ∷ 0 ∷ 0 ∷ 27 ∷ 0 ∷
+    0 ∷ 0 ∷ 0 ∷ 0 ∷ 0 ∷ 0 ∷ 1 ∷ 0 ∷ 0 ∷ 0 ∷ 27 ∷ 10 ∷ 10 ∷ []
 
 -- both are answered; before version 4 they were 41, and marked 3 the table is 55
 pub record WorkedFour : Type 0 where
@@ -100,5 +105,8 @@ pub record WorkedFour : Type 0 where
   pub marked : localTime (markedThree cut) (pos 0) 1 ≡ replied (L.Refused (refusal 55 56)) (0 ∷ [])
 
 pub worked-four : WorkedFour
-unfolding markedThree secondVersion newlineAt readFooter readLong occursLater correctionBefore correctionOf oneApart isExpiry localTimeBy lent readZoneBy readBlock begins isVersion isFourth versionFits checkHeader blockAt noneOrAll checkCounts checkBlock checkPart countOf checkOf checkTime checkIndex checkType checkLeap checkLeaps checkStandard isStandard checkUt nulEnd typeIn typeBehind isAfterLast byTable octets be32 raised timeAt lift demand each _>>=_ _>>_ firstWith isStop runTo timeIn lastWith lastNotAfter
+unfolding markedThree secondVersion newlineAt readFooter readLong occursLater correctionBefore correctionOf oneApart isExpiry localTimeBy lent readZoneBy
+    readBlock begins isVersion isFourth versionFits checkHeader blockAt noneOrAll checkCounts checkBlock checkPart countOf checkOf checkTime checkIndex
+    checkType checkLeap checkLeaps checkStandard isStandard checkUt nulEnd typeIn typeBehind isAfterLast byTable octets be32 raised timeAt lift demand each
+    _>>=_ _>>_ firstWith isStop runTo timeIn lastWith lastNotAfter
 worked-four = record { plain = refl; features = refl; before = refl; marked = refl }

@@ -1,15 +1,10 @@
 -- A footer and a whole file, by how far they were read. Assumes nothing.
-use Prim.Native.Nat.{ℕ, _+_, _-_, _^_, _<_, _≤_}
-use borrow.Author.Tests.{ltb-true, leb-true, le-leb, lt-leb, eq-eqb, ne-eqb}
-use lib.{Dec.{eqb}, ListN.{length}}
-use mathlib.Core.{Bool.{Bool, true, false}, List.{List}, Path.{_≡_, refl, sym}}
-use native.Mathlib.Omega.{arith}
-use Rattle.tzif.proofs.{Blocks.{first-true}, Rises.{both-given, held}}
-use Rattle.tzif.specs.{Block.{endOf}, Header.{rfc9636, checkHeader, readBlock}, Number.{octet}}
-use Rattle.tzif.specs.{Reply.{Reply, given, refused, refusal, demand, _>>=_, _>>_}, inner.Told.{toldBlock, toldFooter, toldZone}}
-use Rattle.numbers.specs.Answer.{if_then_else_}
-use Rattle.tzif.specs.Zone.{stringSize, newlineAt, readFooter, readShort, readLong, readZoneBy}
-use Rattle.tzif.specs.declared.{block.Block.{Block}, header.Reading.{Reading}, refusal.Refusal.{Refusal}, zone.{Footer.{Footer}, Read.{Read}, Zone.{Zone}}}
+use Rattle.numbers.proofs.Prelude.{ℕ, _+_, _^_, _≤_, _<_, eq-eqb, ne-eqb, le-leb, leb-true, ltb-true, lt-leb, eqb, length, Bool, true, false, List, _≡_, refl, sym, arith}
+use Rattle.numbers.{proofs.Tests.{both}, specs.Answer.{if_then_else_}}
+use Rattle.tzif.proofs.Rises.{both-given, held}
+use Rattle.tzif.specs.{Block.{endOf}, Header.{rfc9636, checkHeader, readBlock}, Number.{octet}, Reply.{Reply, given, refused, refusal, demand, _>>=_, _>>_}}
+use Rattle.tzif.specs.{Zone.{stringSize, newlineAt, readFooter, readShort, readLong, readZoneBy}, declared.{block.Block.{Block}, header.Reading.{Reading}, refusal.Refusal.{Refusal}}}
+use Rattle.tzif.specs.{declared.zone.{Footer.{Footer}, Read.{Read}, Zone.{Zone}}, inner.Told.{toldBlock, toldFooter, toldZone}}
 use Rattle.tzif.specs.declared.header.Reading.the-variants as R
 use Rattle.tzif.specs.declared.zone.Footer.the-variants as F
 use Rattle.tzif.specs.declared.zone.Read.the-variants as Z
@@ -45,7 +40,7 @@ module _ {zoned : Read} {x : Reply Zone} (e : toldZone zoned ≡ x) where
 -- ---- the footer
 pub newline-within : (file : List ℕ) (at : ℕ) → newlineAt file at ≡ true → at < length file
 unfolding newlineAt
-newline-within file at e = ltb-true _ _ (first-true _ _ e)
+newline-within file at e = ltb-true _ _ (both _ _ e .0)
 
 module _ (file : List ℕ) (at : ℕ) where
   pub no-newline : newlineAt file at ≡ false → toldFooter (F.Refused (refusal 58 at)) ≡ readFooter file at
@@ -114,9 +109,7 @@ module _ (file : List ℕ) where
 
 pub header-held : (file : List ℕ) (wide : Bool) (at : ℕ) {block : Block} → readBlock rfc9636 file wide at ≡ given block → at + 44 ≤ length file
 unfolding readBlock checkHeader
-header-held file wide at e =
-    let two = both-given _ _ (both-given _ _ (both-given _ _ e .0) .1) in
-    leb-true _ _ (held _ _ (two .1))
+header-held file wide at e = leb-true _ _ (held _ _ (both-given _ _ (both-given _ _ (both-given _ _ e .0) .1) .1))
 
 -- ---- a file that was read
 -- what a reply was given from
@@ -139,14 +132,12 @@ pub record ReadFrom (file : List ℕ) (zone : Zone) : Type 0 where
 
 short-from : (file : List ℕ) (first : Block) {zone : Zone} → endOf first ≤ length file → readBlock rfc9636 file false 0 ≡ given first → readShort file first ≡ given zone → ReadFrom file zone
 unfolding readShort
-short-from file first {zone} l is e =
-    let same : record { version = 0; block = first; string = endOf first; size = 0 } ≡ zone = cc (both-given _ _ e .1) in
+short-from file first {zone} l is e = let same : record { version = 0; block = first; string = endOf first; size = 0 } ≡ zone = cc (both-given _ _ e .1) in
     rw (← same) (record { wide = false; at = 0; read = is; string = omega arith })
 
 footer-within : (file : List ℕ) (at : ℕ) {size : ℕ} → readFooter file at ≡ given size → at + 1 + size ≤ length file
 unfolding readFooter
-footer-within file at {size} e =
-    let two = both-given _ _ (both-given _ _ e .1) in
+footer-within file at {size} e = let two = both-given _ _ (both-given _ _ e .1) in
     let same : stringSize file (at + 1) ≡ size = cc (both-given _ _ (two .1) .1) in
     omega (arith, newline-within file (at + 1 + size) (rw same at (held _ _ (two .0))))
 
@@ -155,18 +146,16 @@ footer-ends file at e is = footer-within file at (footer-given e is)
 
 long-from : (file : List ℕ) (first : Block) {zone : Zone} → readLong rfc9636 file first ≡ given zone → ReadFrom file zone
 unfolding readLong
-long-from file first {zone} e =
-    let second = given-from (readBlock rfc9636 file true (endOf first)) _ e in
+long-from file first {zone} e = let second = given-from (readBlock rfc9636 file true (endOf first)) _ e in
     let footer = given-from (readFooter file (endOf (second .it))) _ (second .onto) in
     let same : record { version = octet file 4; block = second .it; string = endOf (second .it) + 1; size = footer .it } ≡ zone = cc (footer .onto) in
     rw (← same) (record { wide = true; at = endOf first; read = second .is; string = footer-within file (endOf (second .it)) (footer .is) })
 
-pub zone-from : (file : List ℕ) {zone : Zone} → ((block : Block) → readBlock rfc9636 file false 0 ≡ given block → endOf block ≤ length file) → readZoneBy rfc9636 file ≡ given zone → ReadFrom file zone
+pub zone-from : (file : List ℕ) {zone : Zone} → ((block : Block) → readBlock rfc9636 file false 0 ≡ given block → endOf block ≤ length file)
+    → readZoneBy rfc9636 file ≡ given zone → ReadFrom file zone
 unfolding readZoneBy
-zone-from file {zone} within e =
-    let first = given-from (readBlock rfc9636 file false 0) _ (both-given _ _ e .1) in
-    go (first .it) (first .is) (eqb (octet file 4) 0) (first .onto)
-  where
-    go : (first : Block) → readBlock rfc9636 file false 0 ≡ given first → (t : Bool) → (if t then readShort file first else readLong rfc9636 file first) ≡ given zone → ReadFrom file zone
-    go first is true e = short-from file first (within first is) is e
-    go first is false e = long-from file first e
+zone-from file {zone} within e = let first = given-from (readBlock rfc9636 file false 0) _ (both-given _ _ e .1) in
+    go (first .it) (first .is) (eqb (octet file 4) 0) (first .onto) where
+      go : (first : Block) → readBlock rfc9636 file false 0 ≡ given first → (t : Bool) → (if t then readShort file first else readLong rfc9636 file first) ≡ given zone → ReadFrom file zone
+      go first is true e = short-from file first (within first is) is e
+      go first is false e = long-from file first e

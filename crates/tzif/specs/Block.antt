@@ -1,5 +1,5 @@
 -- A data block's parts, as RFC 8536 section 3.2 has them, one behind the other.
-use Prim.Native.Nat.{ℕ, _+_, _*_, _≤_}
+use Rattle.numbers.specs.Prelude.{ℕ, _+_, _*_, _≤_}
 use Rattle.tzif.specs.declared.block.Block.{Block}
 
 -- transition times: timecnt of them

@@ -1,11 +1,7 @@
 -- The rules of RFC 8536 section 3.2, and of RFC 9636 for version 4, for one entry of each part of a data block, with their refusals.
-use Prim.Native.Nat.{ℕ, _+_, _-_, _*_, _^_}
-use lib.Dec.{ltb, leb, eqb}
-use mathlib.Core.{Bool.{Bool, not, _&&_, _||_}, List.{List}}
-use Rattle.tzif.specs.{Block.{timePlace, indicesOf, typesOf, designationsOf, leapsOf, standardsOf, utsOf}, Number.{octet, be32, raised}}
-use Rattle.tzif.specs.{Reply.{Reply, given, refusal, demand, each, _>>_}, Times.{timeIn, transitionsOf, occurrencesOf, lastWith, lastNotAfter}}
-use Rattle.numbers.specs.Answer.{if_then_else_}
-use Rattle.tzif.specs.declared.block.Block.{Block}
+use Rattle.numbers.specs.{Answer.{if_then_else_}, Prelude.{ℕ, _+_, _-_, _*_, _^_, eqb, ltb, leb, Bool, _&&_, _||_, not, List}}
+use Rattle.tzif.specs.{Block.{timePlace, indicesOf, typesOf, designationsOf, leapsOf, standardsOf, utsOf}, Number.{octet, be32, raised}, Reply.{Reply, given, refusal, demand, each, _>>_}}
+use Rattle.tzif.specs.{Times.{timeIn, transitionsOf, occurrencesOf, lastWith, lastNotAfter}, declared.block.Block.{Block}}
 
 -- ---- transition times
 -- 48: each time is above the one before it

@@ -1,10 +1,6 @@
 -- A header with its data block, as RFC 8536 and RFC 9636 section 3 have them: refusals 40 to 57 in file order.
-use Prim.Native.Nat.{ℕ, _+_, _^_, _<_, _≤_}
-use lib.{Dec.{leb, eqb}, ListN.{length}}
-use mathlib.Core.{Bool.{Bool, false, not, _&&_, _||_}, List.{List}, Path.{_≡_}}
-use Rattle.tzif.specs.{Block.{endOf}, Check.{nulEnd, checkLeaps}, Number.{octet, be32, octets}, Part.{checkPart}}
-use Rattle.tzif.specs.{Reply.{Reply, given, refusal, demand, _>>_}, declared.block.Block.{Block}}
-use Rattle.numbers.specs.Answer.{if_then_else_}
+use Rattle.numbers.specs.{Answer.{if_then_else_}, Prelude.{ℕ, _+_, _^_, _≤_, _<_, eqb, leb, length, Bool, false, _&&_, _||_, not, List, _≡_}}
+use Rattle.tzif.specs.{Block.{endOf}, Check.{nulEnd, checkLeaps}, Number.{octet, be32, octets}, Part.{checkPart}, Reply.{Reply, given, refusal, demand, _>>_}, declared.block.Block.{Block}}
 use Rattle.tzif.specs.declared.part.Part.the-variants as P
 
 -- `TZif`

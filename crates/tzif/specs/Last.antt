@@ -1,7 +1,5 @@
 -- What `last-not-after` says of a file: the transition that answers for an instant.
-use Prim.Native.Nat.{ℕ, _+_, _<_}
-use lib.{IntN.{ℤ}, ListN.{getD}, Signed.{ltZ}}
-use mathlib.Core.{Bool.{true, false}, List.{List}, Path.{_≡_}}
+use Rattle.numbers.specs.Prelude.{ℕ, _+_, _<_, ℤ, getD, ltZ, true, false, List, _≡_}
 use Rattle.tzif.specs.{Block.{timePlace, indicesOf}, Number.{octet, signedAt}, declared.block.Block.{Block}}
 
 -- a file's bytes are below 256

@@ -1,13 +1,8 @@
 -- Local time from a file: offset, daylight flag and abbreviation by its transitions.
-use Prim.Native.Nat.{ℕ, _+_, _-_, _<_, _≤_}
-use lib.{Dec.{ltb, leb, eqb}, IntN.{ℤ}, ListN.{length}}
-use mathlib.Core.{Bool.{Bool, _&&_}, List.{List}}
-use mir.{Syntax.{w32}, Val.{toZ}}
-use Rattle.tzif.specs.{Block.{Within, indicesOf, designationsOf}, Check.{typePlace}, Header.{Rfc, rfc9636}, Number.{octet, be32, lift}}
-use Rattle.tzif.specs.{Reply.{Reply, given, refused, refusal, _>>=_}, Text.{runTo, slice}}
-use Rattle.numbers.specs.{Answer.{if_then_else_}, Lists.{zeros, padded}}
-use Rattle.tzif.specs.{Times.{timeIn, transitionsOf, lastNotAfter, Rises}, Zone.{readZoneBy}}
-use Rattle.tzif.specs.declared.{block.Block.{Block}, local.{Found.{Found}, Local.{Local}, Answer.{Answer}, LocalTime.{LocalTime}}}
+use Rattle.numbers.specs.{Answer.{if_then_else_}, Lists.{zeros, padded}, Prelude.{ℕ, _+_, _-_, _≤_, _<_, eqb, ltb, leb, ℤ, length, Bool, _&&_, List, w32, toZ}}
+use Rattle.tzif.specs.{Block.{Within, indicesOf, designationsOf}, Check.{typePlace}, Header.{Rfc, rfc9636}, Number.{octet, be32, lift}, Reply.{Reply, given, refused, refusal, _>>=_}}
+use Rattle.tzif.specs.{Text.{runTo, slice}, Times.{timeIn, transitionsOf, lastNotAfter, Rises}, Zone.{readZoneBy}, declared.{block.Block.{Block}, local.{Answer.{Answer}, Found.{Found}}}}
+use Rattle.tzif.specs.declared.local.{Local.{Local}, LocalTime.{LocalTime}}
 use Rattle.tzif.specs.declared.local.Answer.the-variants as A
 use Rattle.tzif.specs.declared.local.LocalTime.the-variants as L
 

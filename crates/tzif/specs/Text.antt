@@ -1,9 +1,6 @@
 -- Texts in the file, which end at a NUL or a newline; and a text at the start of a lent one.
-use Prim.Native.Nat.{ℕ, zero, suc, _+_, _≤_}
-use lib.{Dec.{ltb, eqb}, ListN.{take, drop}}
-use mathlib.Core.{Bool.{Bool, _||_}, List.{List}, Path.{_≡_}}
+use Rattle.numbers.specs.{Answer.{if_then_else_}, Prelude.{ℕ, zero, suc, _+_, _≤_, eqb, ltb, take, drop, Bool, _||_, List, _≡_}}
 use Rattle.tzif.specs.Number.{octet}
-use Rattle.numbers.specs.Answer.{if_then_else_}
 
 -- the first index below a number of which the test holds; the number where there is none
 unfoldable pub firstWith : ℕ → (ℕ → Bool) → ℕ

@@ -1,9 +1,6 @@
 -- Times at equal distances in the file: a block's transition times, its leap-second occurrences; and the last of them that is not after an instant.
-use Prim.Native.Nat.{ℕ, zero, suc, _+_, _*_, _<_, _≤_}
-use lib.Dec.{leb}
-use mathlib.Core.{Bool.{Bool}, List.{List}}
+use Rattle.numbers.specs.{Answer.{if_then_else_}, Prelude.{ℕ, zero, suc, _+_, _*_, _≤_, _<_, leb, Bool, List}}
 use Rattle.tzif.specs.{Block.{leapsOf}, Number.{timeAt}, declared.{block.Block.{Block}, times.Times.{Times}}}
-use Rattle.numbers.specs.Answer.{if_then_else_}
 
 -- the time at an index, more 2 ^ 63
 unfoldable pub timeIn : List ℕ → Times → ℕ → ℕ

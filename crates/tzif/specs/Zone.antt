@@ -1,11 +1,7 @@
 -- A whole file, as RFC 8536 and RFC 9636 section 3 have it: refusals 1 and 40 to 59 in file order.
-use Prim.Native.Nat.{ℕ, _+_, _-_}
-use lib.{Dec.{ltb, leb, eqb}, ListN.{length}}
-use mathlib.Core.{Bool.{Bool, true, false, _&&_}, List.{List}}
-use Rattle.numbers.specs.Limits.{largestFile}
-use Rattle.tzif.specs.{Block.{endOf}, Header.{Rfc, rfc9636, readBlock}, Number.{octet}, Reply.{Reply, given, refusal, demand, _>>=_, _>>_}}
-use Rattle.numbers.specs.Answer.{if_then_else_}
-use Rattle.tzif.specs.{Text.{runTo}, declared.{block.Block.{Block}, zone.Zone.{Zone}}}
+use Rattle.numbers.specs.{Answer.{if_then_else_}, Limits.{largestFile}, Prelude.{ℕ, _+_, _-_, eqb, ltb, leb, length, Bool, true, false, _&&_, List}}
+use Rattle.tzif.specs.{Block.{endOf}, Header.{Rfc, rfc9636, readBlock}, Number.{octet}, Reply.{Reply, given, refusal, demand, _>>=_, _>>_}, Text.{runTo}, declared.block.Block.{Block}}
+use Rattle.tzif.specs.declared.zone.Zone.{Zone}
 
 -- how many octets from a place on are neither NUL nor newline
 abbrev pub stringSize : List ℕ → ℕ → ℕ

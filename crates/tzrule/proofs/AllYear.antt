@@ -1,11 +1,6 @@
 -- Summer time all the year: where each summer lasts until the next begins. Assumes nothing.
-use Prim.Native.Nat.{ℕ, suc, _+_, _-_, _*_, _/_, _≤_, _<_}
-use borrow.Author.Tests.{le-ltb}
-use lib.Dec.{ltb}
-use mathlib.Core.{Bool.{Bool, true, false}, Path.{_≡_, refl, ap}}
-use native.Mathlib.Omega.{arith}
+use Rattle.numbers.{proofs.Prelude.{ℕ, suc, _+_, _-_, _*_, _/_, _≤_, _<_, le-ltb, ltb, Bool, true, false, _≡_, refl, ap, arith}, specs.Answer.{if_then_else_}}
 use Rattle.calendar.{proofs.Rising.{Between, passes}, specs.{Calendar.{isLeap, yearLength, daysOfYears}, Rules.{leapDay, dayOf}, declared.rule.When.the-variants.{Julian, Zero}}}
-use Rattle.numbers.specs.Answer.{if_then_else_}
 use Rattle.tzrule.proofs.{Guess.{start-low}, Latest.{summer-then, summer-if}}
 use Rattle.tzrule.specs.{Summer.{changeOf, startOf, endOf, closeOf, IsSummer, IsRule}, declared.rule.Rule.{Rule}}
 
@@ -16,12 +11,11 @@ module _ (rule : Rule) (good : IsRule rule) where
 
   -- each summer lasts until the next begins: then it is always summer
   pub all-year : ((year : ℕ) → startOf rule (suc year) ≤ closeOf rule year) → (instant : ℕ) → startOf rule 0 ≤ instant → IsSummer rule instant
-  all-year lasts instant h =
-      let b = last-begun instant h in
-      summer-if rule good (b .step) instant (b .from) (b .to) (omega (arith, b .to, lasts (b .step)))
+  all-year lasts instant h = let b = last-begun instant h in summer-if rule good (b .step) instant (b .from) (b .to) (omega (arith, b .to, lasts (b .step)))
 
   -- and only then
-  pub all-year-only : ((instant : ℕ) → startOf rule 0 ≤ instant → IsSummer rule instant) → (year : ℕ) → startOf rule 0 ≤ startOf rule year → startOf rule year < startOf rule (suc year) → startOf rule (suc year) ≤ closeOf rule year
+  pub all-year-only : ((instant : ℕ) → startOf rule 0 ≤ instant → IsSummer rule instant) → (year : ℕ) → startOf rule 0 ≤ startOf rule year → startOf rule year < startOf rule (suc year) →
+      startOf rule (suc year) ≤ closeOf rule year
   all-year-only always year first up =
       omega (arith, summer-then rule good year (startOf rule (suc year) - 1) (omega arith) (omega arith) (always (startOf rule (suc year) - 1) (omega arith)))
 
@@ -47,13 +41,22 @@ module _ (rule : Rule) (good : IsRule rule) (s : rule .start .when ≡ Zero 0) (
   -- the end is a day's length or more after the start's time
   pub whole-year : rule .start .time + rule .standard .west + 86400 ≤ rule .end .time + rule .daylight .west → (instant : ℕ) → startOf rule 0 ≤ instant → IsSummer rule instant
   unfolding closeOf
-  whole-year h = all-year rule good (λ year. simp (le-ltb (endOf rule year) (startOf rule year) (omega (arith, start-plain year, end-plain year))) (omega (arith, start-plain (suc year), end-plain year, last-day year)))
+  whole-year h = all-year rule good
+      (λ year. simp (le-ltb (endOf rule year) (startOf rule year) (omega (arith, start-plain year, end-plain year))) (omega (arith, start-plain (suc year), end-plain year, last-day year)))
 
   -- a second less leaves the last second of each year
   pub last-second : rule .start .time + rule .standard .west + 86400 ≡ rule .end .time + rule .daylight .west + 1 → (year : ℕ) → IsSummer rule (endOf rule year) → ⊥
   unfolding closeOf
   last-second h year summer =
-      omega (arith, closes, summer-then rule good year (endOf rule year) (omega (arith, start-plain year, end-plain year)) (omega (arith, start-plain (suc year), end-plain year, last-day year)) summer)
-    where
-      closes : closeOf rule year ≡ endOf rule year
-      closes = simp (le-ltb (endOf rule year) (startOf rule year) (omega (arith, start-plain year, end-plain year)))
+      omega (
+        arith,
+        closes,
+        summer-then rule good year (endOf rule year) (omega (arith, start-plain year, end-plain year)) (omega (
+          arith,
+          start-plain (suc year),
+          end-plain year,
+          last-day year,
+        )) summer,
+      ) where
+        closes : closeOf rule year ≡ endOf rule year
+        closes = simp (le-ltb (endOf rule year) (startOf rule year) (omega (arith, start-plain year, end-plain year)))

@@ -1,15 +1,8 @@
 -- The guess of the year, and the answer. Assumes nothing.
-use Prim.Native.Nat.{ℕ, suc, _+_, _-_, _*_, _/_, _≤_, _<_}
-use borrow.Author.Tests.{lt-ltb, le-ltb, ltb-true, ltb-false}
-use lib.Dec.{ltb}
-use mathlib.Core.{Bool.{Bool, true, false}, Path.{_≡_, refl, ap, _∙_}}
-use native.Mathlib.Omega.{arith}
-use Rattle.calendar.{specs.{Rules.{dayOf, IsWhen}, declared.rule.When.{When}}, proofs.{Laws.{mean-low, mean-high}, Within.{day-from, day-to}}}
+use Rattle.numbers.proofs.Prelude.{ℕ, suc, _+_, _*_, _/_, _≤_, _<_, lt-ltb, le-ltb, ltb-true, ltb-false, ltb, Bool, true, false, _≡_, refl, ap, _∙_, add-one, arith}
+use Rattle.calendar.{proofs.{Laws.{mean-low, mean-high}, Within.{day-from, day-to}}, specs.{Rules.{dayOf, IsWhen}, declared.rule.When.{When}}}
 use Rattle.tzrule.proofs.Latest.{summer-then, summer-if}
 use Rattle.tzrule.specs.{Summer.{changeOf, startOf, endOf, closeOf, IsSummer, IsChange, IsRule, Says}, declared.rule.{Change.{Change}, Rule.{Rule}}}
-
-next : (year : ℕ) → year + 1 ≡ suc year
-next year = omega arith
 
 -- a day of these years has a small number
 pub day-few : (when : When) (year : ℕ) → year ≤ 11000 → IsWhen when → dayOf when year ≤ 4200000
@@ -43,20 +36,19 @@ module _ (rule : Rule) (good : IsRule rule) where
   -- the answer
   pub answered : (year instant : ℕ) {close : ℕ} → startOf rule year ≤ instant → instant < startOf rule (year + 1) → close ≡ closeOf rule year → Says (IsSummer rule instant) (ltb instant close)
   unfolding Says
-  answered year instant from to e = rw e (says (ltb instant (closeOf rule year)) refl)
-    where
-      before : instant < startOf rule (suc year)
-      before = rw next at to
+  answered year instant from to e = rw e (says (ltb instant (closeOf rule year)) refl) where
+    before : instant < startOf rule (suc year)
+    before = rw add-one at to
 
-      says : (b : Bool) → ltb instant (closeOf rule year) ≡ b → Says (IsSummer rule instant) b
-      says true t = summer-if rule good year instant from before (ltb-true instant (closeOf rule year) t)
-      says false t = λ s. omega (arith, ltb-false instant (closeOf rule year) t, summer-then rule good year instant from before s)
+    says : (b : Bool) → ltb instant (closeOf rule year) ≡ b → Says (IsSummer rule instant) b
+    says true t = summer-if rule good year instant from before (ltb-true instant (closeOf rule year) t)
+    says false t = λ s. omega (arith, ltb-false instant (closeOf rule year) t, summer-then rule good year instant from before s)
 
 -- the two ways to the close of a summer
 module _ (rule : Rule) (year : ℕ) {start end : ℕ} (p : end ≡ endOf rule year) (q : start ≡ startOf rule year) where
   pub close-next : {later : ℕ} → end < start → later ≡ endOf rule (year + 1) → later ≡ closeOf rule year
   unfolding closeOf
-  close-next h e = e ∙ ap (endOf rule) (next year) ∙ simp (lt-ltb (endOf rule year) (startOf rule year) (rw (p, q) at h))
+  close-next h e = e ∙ ap (endOf rule) (add-one year) ∙ simp (lt-ltb (endOf rule year) (startOf rule year) (rw (p, q) at h))
 
   pub close-same : start ≤ end → end ≡ closeOf rule year
   unfolding closeOf

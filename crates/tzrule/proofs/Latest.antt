@@ -1,10 +1,6 @@
 -- The summer of the year that began last decides. Assumes nothing.
-use Prim.Native.Nat.{ℕ, suc, _-_, _≤_, _<_}
-use lib.Dec.{ltb}
-use mathlib.Core.Bool.{Bool, true, false}
-use native.Mathlib.Omega.{arith}
+use Rattle.numbers.{proofs.Prelude.{ℕ, suc, _≤_, _<_, ltb, Bool, true, false, arith}, specs.Answer.{if_then_else_}}
 use Rattle.calendar.proofs.{Rising.{rises}, Within.{day-up}}
-use Rattle.numbers.specs.Answer.{if_then_else_}
 use Rattle.tzrule.specs.{Summer.{changeOf, startOf, endOf, closeOf, IsSummer, IsChange, IsRule}, declared.rule.{Change.{Change}, Rule.{Rule}}}
 
 change-up : (change : Change) (west year : ℕ) → IsChange change → changeOf change west year ≤ changeOf change west (suc year)
@@ -35,8 +31,7 @@ module _ (rule : Rule) (good : IsRule rule) where
   module _ (year instant : ℕ) (from : startOf rule year ≤ instant) (next : instant < startOf rule (suc year)) where
     -- no later year has begun, and no earlier one closes later
     pub summer-then : IsSummer rule instant → instant < closeOf rule year
-    summer-then s =
-        let begun : suc year ≤ s .year → ⊥ = λ h. omega (arith, rises (startOf rule) start-up (suc year) (s .year) h, s .inside .from) in
+    summer-then s = let begun : suc year ≤ s .year → ⊥ = λ h. omega (arith, rises (startOf rule) start-up (suc year) (s .year) h, s .inside .from) in
         omega (arith, rises (closeOf rule) close-up (s .year) year (omega arith), s .inside .to)
 
     pub summer-if : instant < closeOf rule year → IsSummer rule instant

@@ -1,9 +1,5 @@
 -- Reading names. Assumes nothing.
-use Prim.Native.Nat.{ℕ, suc, _+_, _-_, _≤_, _<_}
-use borrow.Author.Tests.{lt-ltb, le-ltb, eq-eqb, ne-eqb}
-use lib.{Dec.{ltb, eqb}, ListN.{length}}
-use mathlib.Core.{Bool.{Bool, true, false}, List.{List}, Path.{_≡_, refl, ap, sym, _∙_}}
-use native.Mathlib.Omega.{arith}
+use Rattle.numbers.proofs.Prelude.{ℕ, suc, _+_, _-_, _≤_, _<_, eq-eqb, ne-eqb, lt-ltb, le-ltb, eqb, ltb, length, Bool, true, false, List, _≡_, refl, sym, ap, _∙_, arith}
 use Rattle.tzrule.specs.{Answer.{read, fault}, Names.{isLetter, inName, nameEnd, endOf, bareOf, quotedOf, nameOf, toldName}, Text.{byteAt, isDigit}}
 use Rattle.tzrule.specs.declared.name.Named.the-variants.{Name, Fault}
 
@@ -100,7 +96,8 @@ module _ (text : List ℕ) (at : ℕ) where
 
       pub quoted-read : byte ≡ 62 → toldName (Name (record { start = at; end = end }) (end + 1)) ≡ quotedOf text at
       unfolding toldName quotedOf
-      quoted-read t = ap (λ (x : ℕ). read (record { start = at; end = x }) (x + 1)) e ∙ simp (le-ltb (endOf true text at) (at + 3) (rw e at h), eq-eqb (byteAt text (endOf true text at)) 62 (byte-there ∙ t))
+      quoted-read t = ap (λ (x : ℕ). read (record { start = at; end = x }) (x + 1)) e ∙
+          simp (le-ltb (endOf true text at) (at + 3) (rw e at h), eq-eqb (byteAt text (endOf true text at)) 62 (byte-there ∙ t))
 
       pub quoted-open : (byte ≡ 62 → ⊥) → toldName (Fault end) ≡ quotedOf text at
       unfolding toldName quotedOf

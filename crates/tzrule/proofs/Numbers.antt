@@ -1,20 +1,7 @@
 -- Reading digits, one after the other. Assumes nothing.
-use Prim.Native.Nat.{ℕ, zero, suc, _+_, _-_, _*_, _≤_, _<_}
-use borrow.Author.Tests.{lt-ltb, le-ltb, ltb-true, ltb-false}
-use lib.{Dec.{T, ltb}, ListN.{length, List·getD-eq-default}}
-use mathlib.Core.{Bool.{Bool, true, false, not}, List.{List}, Path.{_≡_, refl, ap, sym, subst, _∙_}}
-use native.Mathlib.Omega.{arith}
-use Rattle.numbers.specs.Answer.{if_then_else_}
+use Rattle.numbers.proofs.Prelude.{ℕ, zero, suc, _+_, _-_, _*_, _≤_, _<_, lt-ltb, le-ltb, ltb-true, ltb-false, ltb, T, length, List·getD-eq-default, Bool, true, false, List, _≡_, refl, sym, ap}
+use Rattle.numbers.{proofs.Prelude.{subst, _∙_, arith}, specs.Answer.{if_then_else_}}
 use Rattle.tzrule.specs.Text.{byteAt, isDigit, digitsOf, tens}
-
--- the other answer
-pub was-false : (b : Bool) → not b ≡ true → b ≡ false
-was-false true e = absurd (subst T (sym e) tt)
-was-false false e = refl
-
-pub was-true : (b : Bool) → not b ≡ false → b ≡ true
-was-true true e = refl
-was-true false e = absurd (subst T e tt)
 
 -- past the end there is no byte
 pub past-end : (text : List ℕ) (at : ℕ) → length text ≤ at → byteAt text at ≡ 0
@@ -60,7 +47,14 @@ pub record Taken (text : List ℕ) (at most value next : ℕ) : Type 0 where
 
 pub taken-first : (text : List ℕ) (at most : ℕ) → at ≤ length text → Taken text at most 0 at
 unfolding tens
-taken-first text at most h = record { goes = ap (λ (k : ℕ). digitsOf k text at 0) (let e : at + most - at ≡ most = omega arith in e); from = omega arith; to = omega arith; inside = h; small = subst (λ (k : ℕ). 0 < tens k) (let e : 0 ≡ at - at = omega arith in e) (omega arith) }
+taken-first text at most h = record {
+  goes = ap (λ (k : ℕ). digitsOf k text at 0) (let e : at + most - at ≡ most = omega arith in
+      e);
+  from = omega arith;
+  to = omega arith;
+  inside = h;
+  small = subst (λ (k : ℕ). 0 < tens k) (let e : 0 ≡ at - at = omega arith in e) (omega arith);
+}
 
 tens-next : (n : ℕ) → tens (suc n) ≡ 10 * tens n
 unfolding tens
@@ -89,14 +83,13 @@ module _ {text : List ℕ} {at most value next : ℕ} (t : Taken text at most va
     taken-stop d = sym (digits-stop (at + most - (next + 1)) text next value (ap isDigit (sym b) ∙ d)) ∙ ap (λ (k : ℕ). digitsOf k text next value) (sym left) ∙ t .goes
 
     not-past : isDigit byte ≡ true → next < length text
-    not-past d =
-        let past : length text ≤ next → ⊥ = λ h. omega (arith, past-end text next h, digit-range byte d) in
-        omega arith
+    not-past d = let past : length text ≤ next → ⊥ = λ h. omega (arith, past-end text next h, digit-range byte d) in omega arith
 
     pub taken-more : isDigit byte ≡ true → Taken text at most (10 * value + (byte - 48)) (next + 1)
     taken-more d =
         record {
-          goes = ap (λ (x : ℕ). digitsOf (at + most - (next + 1)) text (next + 1) (10 * value + (x - 48))) b ∙ sym (digits-more (at + most - (next + 1)) text next value (ap isDigit (sym b) ∙ d)) ∙ ap (λ (k : ℕ). digitsOf k text next value) (sym left) ∙ t .goes;
+          goes = ap (λ (x : ℕ). digitsOf (at + most - (next + 1)) text (next + 1) (10 * value + (x - 48))) b ∙
+              sym (digits-more (at + most - (next + 1)) text next value (ap isDigit (sym b) ∙ d)) ∙ ap (λ (k : ℕ). digitsOf k text next value) (sym left) ∙ t .goes;
           from = omega (arith, t .from);
           to = omega arith;
           inside = omega (arith, not-past d);

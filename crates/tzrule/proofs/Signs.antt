@@ -1,10 +1,5 @@
 -- Reading signs and dates, piece by piece. Assumes nothing.
-use Prim.Native.Nat.{ℕ, _+_, _-_, _≤_}
-use borrow.Author.Tests.{eq-eqb, ne-eqb, ltb-false}
-use lib.Dec.{ltb, eqb}
-use mathlib.Core.{Bool.{Bool, true, false}, List.{List}, Path.{_≡_, refl, ap, sym, subst, _∙_}}
-use native.Mathlib.Omega.{arith}
-use Rattle.numbers.specs.Answer.{if_then_else_}
+use Rattle.numbers.{proofs.Prelude.{ℕ, _+_, _-_, _≤_, eq-eqb, ne-eqb, ltb-false, eqb, ltb, Bool, true, false, List, _≡_, refl, sym, ap, subst, _∙_, arith}, specs.Answer.{if_then_else_}}
 use Rattle.tzrule.specs.Answer.{Answer, read, fault, onward, told, toldDate}
 use Rattle.tzrule.specs.Grammar.{ranged, numberOf, clockOf, laterOf, earlierOf, signedOf, dottedOf, days, months, weeks, weekdays, julianOf, zeroOf, weekdayFrom, weekFrom, monthFrom, dateOf}
 use Rattle.tzrule.specs.{Text.{byteAt, digitsOf}, declared.{date.Found.{Found}, number.{Number.the-variants.{Read, Fault}, Shape.{Shape}}}}
@@ -62,19 +57,20 @@ unfolding IsRead
 no-read place a next e = absurd (subst IsRead (sym e) tt)
 
 -- a number that is read is in its range
-range-cases : (a b c : Bool) (low high value next at place v n : ℕ) → ltb value low ≡ b → ltb high value ≡ c → (if a then fault place else if b then fault at else if c then fault at else read value next) ≡ read v n → (low ≤ v) × (v ≤ high)
+range-cases : (a b c : Bool) (low high value next at place v n : ℕ) → ltb value low ≡ b → ltb high value ≡ c →
+    (if a then fault place else if b then fault at else if c then fault at else read value next) ≡ read v n → (low ≤ v) × (v ≤ high)
 range-cases true b c low high value next at place v n p q e = no-read place v n e
 range-cases false true c low high value next at place v n p q e = no-read at v n e
 range-cases false false true low high value next at place v n p q e = no-read at v n e
-range-cases false false false low high value next at place v n p q e = omega (arith, ltb-false value low p, ltb-false high value q, ap valueOf e)
-  where
-    valueOf : Answer ℕ → ℕ
-    valueOf (read x y) = x
-    valueOf (fault x) = 0
+range-cases false false false low high value next at place v n p q e = omega (arith, ltb-false value low p, ltb-false high value q, ap valueOf e) where
+  valueOf : Answer ℕ → ℕ
+  valueOf (read x y) = x
+  valueOf (fault x) = 0
 
 pub number-range : (shape : Shape) (text : List ℕ) (at v n : ℕ) → numberOf shape text at ≡ read v n → (shape .low ≤ v) × (v ≤ shape .high)
 unfolding numberOf ranged
-number-range shape text at v n e = let digits = digitsOf (shape .most) text at 0 in range-cases (ltb (digits .next) (at + shape .least)) _ _ (shape .low) (shape .high) (digits .value) (digits .next) at (digits .next) v n refl refl e
+number-range shape text at v n e = let digits = digitsOf (shape .most) text at 0 in
+    range-cases (ltb (digits .next) (at + shape .least)) _ _ (shape .low) (shape .high) (digits .value) (digits .next) at (digits .next) v n refl refl e
 
 dot-cases : (t : Bool) (shape : Shape) (text : List ℕ) (at v n : ℕ) → (if t then numberOf shape text (at + 1) else fault at) ≡ read v n → (shape .low ≤ v) × (v ≤ shape .high)
 dot-cases true shape text at v n e = number-range shape text (at + 1) v n e
@@ -110,7 +106,8 @@ module _ (text : List ℕ) (at : ℕ) where
   unfolding toldDate weekdayFrom onward
   weekday-fault month week e = simp e
 
-  pub week-read : (month : ℕ) {value next : ℕ} (found : Found) → dottedOf weeks text at ≡ read value next → toldDate found ≡ weekdayFrom month value text next → toldDate found ≡ weekFrom month text at
+  pub week-read : (month : ℕ) {value next : ℕ} (found : Found) → dottedOf weeks text at ≡ read value next → toldDate found ≡ weekdayFrom month value text next
+      → toldDate found ≡ weekFrom month text at
   unfolding weekFrom onward
   week-read month found e t = t ∙ simp e
 

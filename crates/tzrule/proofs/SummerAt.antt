@@ -1,21 +1,13 @@
 -- It is summer exactly if the instant lies in the summer of some year. Assumes nothing.
-use Prim.Native.Nat.{ℕ, zero, suc, _<_}
-use borrow.Author.Tests.{lt-ltb, ltb-true, le-leb, leb-true}
-use lib.Dec.{ltb, leb, T}
-use mathlib.Core.{Bool.{Bool, true, false}, Path.{_≡_, refl, ap, sym, subst, _∙_}}
-use native.Mathlib.Omega.{arith}
-use Rattle.numbers.specs.Answer.{if_then_else_}
+use Rattle.numbers.proofs.Prelude.{ℕ, zero, suc, _<_, lt-ltb, le-leb, leb-true, ltb-true, ltb, leb, Bool, true, false, _≡_, refl, sym, ap, _∙_, arith}
+use Rattle.numbers.{proofs.Tests.{differ}, specs.Answer.{if_then_else_}}
 use Rattle.tzrule.proofs.Guess.{start-low}
 use Rattle.tzrule.specs.{Summer.{startOf, closeOf, inSummer, summerAmong, isSummer, InSummer, IsSummer, IsRule, Says}, declared.rule.Rule.{Rule}}
-
--- no test is true and false
-clash : {X : Type 0} → false ≡ true → X
-clash e = absurd (subst T (sym e) tt)
 
 module _ (rule : Rule) (instant : ℕ) where
   in-if : (year : ℕ) (test : Bool) → leb (startOf rule year) instant ≡ test → (if test then ltb instant (closeOf rule year) else false) ≡ true → InSummer rule year instant
   in-if year true e t = record { from = leb-true _ _ e; to = ltb-true _ _ t }
-  in-if year false e t = clash t
+  in-if year false e t = differ t
 
   in-true : (year : ℕ) → inSummer rule year instant ≡ true → InSummer rule year instant
   unfolding inSummer
@@ -26,20 +18,20 @@ module _ (rule : Rule) (instant : ℕ) where
   true-in year s = simp (le-leb (startOf rule year) instant (s .from), lt-ltb instant (closeOf rule year) (s .to))
 
   -- one of the first so many years
-  some-if : (n : ℕ) (test : Bool) → inSummer rule n instant ≡ test → (summerAmong n rule instant ≡ true → IsSummer rule instant) → (if test then true else summerAmong n rule instant) ≡ true → IsSummer rule instant
+  some-if : (n : ℕ) (test : Bool) → inSummer rule n instant ≡ test → (summerAmong n rule instant ≡ true → IsSummer rule instant) →
+      (if test then true else summerAmong n rule instant) ≡ true → IsSummer rule instant
   some-if n true e rest t = record { year = n; inside = in-true n e }
   some-if n false e rest t = rest t
 
   among-some : (n : ℕ) → summerAmong n rule instant ≡ true → IsSummer rule instant
   unfolding summerAmong
-  among-some zero t = clash t
+  among-some zero t = differ t
   among-some (suc n) t = some-if n (inSummer rule n instant) refl (among-some n) t
 
-  has-if : (n year : ℕ) (test : Bool) → inSummer rule n instant ≡ test → year < suc n → inSummer rule year instant ≡ true → (year < n → summerAmong n rule instant ≡ true) → (if test then true else summerAmong n rule instant) ≡ true
+  has-if : (n year : ℕ) (test : Bool) → inSummer rule n instant ≡ test → year < suc n → inSummer rule year instant ≡ true → (year < n → summerAmong n rule instant ≡ true) →
+      (if test then true else summerAmong n rule instant) ≡ true
   has-if n year true e h s rest = refl
-  has-if n year false e h s rest =
-      let other : year ≡ n → ⊥ = λ x. clash (sym e ∙ ap (λ (y : ℕ). inSummer rule y instant) (sym x) ∙ s) in
-      rest (omega arith)
+  has-if n year false e h s rest = let other : year ≡ n → ⊥ = λ x. differ (sym e ∙ ap (λ (y : ℕ). inSummer rule y instant) (sym x) ∙ s) in rest (omega arith)
 
   among-has : (n year : ℕ) → year < n → inSummer rule year instant ≡ true → summerAmong n rule instant ≡ true
   unfolding summerAmong

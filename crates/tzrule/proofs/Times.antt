@@ -1,12 +1,8 @@
 -- Reading numbers and times, piece by piece. Assumes nothing.
-use Prim.Native.Nat.{ℕ, suc, _+_, _-_, _*_, _≤_, _<_}
-use borrow.Author.Tests.{lt-ltb, le-ltb, eq-eqb, ne-eqb}
-use lib.{Dec.{eqb}, ListN.{length}}
-use mathlib.Core.{Bool.{true}, List.{List}, Path.{_≡_, ap, sym, _∙_}}
-use native.Mathlib.Omega.{arith}
+use Rattle.numbers.proofs.Prelude.{ℕ, suc, _+_, _*_, _≤_, _<_, eq-eqb, ne-eqb, lt-ltb, le-ltb, eqb, length, true, List, _≡_, sym, ap, _∙_, arith}
 use Rattle.tzrule.proofs.Numbers.{past-end}
-use Rattle.tzrule.specs.{Answer.{Answer, read, fault, onward, told, Within}, Grammar.{ranged, numberOf, sixty, IsShape, secondsOf, minutesOf, clockOf}}
-use Rattle.tzrule.specs.{Text.{byteAt, digitsOf}, declared.number.{Digits.{Digits}, Number.{Number, the-variants.{Read, Fault}}, Shape.{Shape}}}
+use Rattle.tzrule.specs.{Answer.{Answer, read, fault, onward, told, Within}, Grammar.{ranged, numberOf, sixty, IsShape, secondsOf, minutesOf, clockOf}, Text.{byteAt, digitsOf}}
+use Rattle.tzrule.specs.declared.number.{Digits.{Digits}, Number.{Number, the-variants.{Read, Fault}}, Shape.{Shape}}
 
 -- the four ways of a number
 module _ (shape : Shape) (text : List ℕ) (at : ℕ) {digits : Digits} (e : digits ≡ digitsOf (shape .most) text at 0) where
@@ -24,11 +20,13 @@ module _ (shape : Shape) (text : List ℕ) (at : ℕ) {digits : Digits} (e : dig
 
   pub number-high : at + shape .least ≤ digits .next → shape .low ≤ digits .value → shape .high < digits .value → told (Fault at) ≡ numberOf shape text at
   unfolding told ranged
-  number-high h k l = (let s : fault at ≡ ranged shape at digits = simp (le-ltb (digits .next) (at + shape .least) h, le-ltb (digits .value) (shape .low) k, lt-ltb (shape .high) (digits .value) l) in s) ∙ plain
+  number-high h k l = (let s : fault at ≡ ranged shape at digits = simp
+      (le-ltb (digits .next) (at + shape .least) h, le-ltb (digits .value) (shape .low) k, lt-ltb (shape .high) (digits .value) l) in s) ∙ plain
 
   pub number-read : at + shape .least ≤ digits .next → shape .low ≤ digits .value → digits .value ≤ shape .high → told (Read (digits .value) (digits .next)) ≡ numberOf shape text at
   unfolding told ranged
-  number-read h k l = (let s : read (digits .value) (digits .next) ≡ ranged shape at digits = simp (le-ltb (digits .next) (at + shape .least) h, le-ltb (digits .value) (shape .low) k, le-ltb (shape .high) (digits .value) l) in s) ∙ plain
+  number-read h k l = (let s : read (digits .value) (digits .next) ≡ ranged shape at digits = simp
+      (le-ltb (digits .next) (at + shape .least) h, le-ltb (digits .value) (shape .low) k, le-ltb (shape .high) (digits .value) l) in s) ∙ plain
 
 -- what an answer says, where it is known
 module _ {answer : Number} {value next : ℕ} (is : answer ≡ Read value next) where
@@ -57,9 +55,7 @@ wider (Fault place) end h w = w
 
 -- where a byte stands, the text goes on
 pub byte-inside : (text : List ℕ) (at : ℕ) {byte k : ℕ} → byte ≡ byteAt text at → byte ≡ suc k → at + 1 ≤ length text
-byte-inside text at b e =
-    let past : length text ≤ at → ⊥ = λ h. omega (arith, past-end text at h) in
-    omega arith
+byte-inside text at b e = let past : length text ≤ at → ⊥ = λ h. omega (arith, past-end text at h) in omega arith
 
 pub sixty-shape : IsShape sixty
 sixty-shape = record { least = omega arith; most = omega arith; high = omega arith }

@@ -1,8 +1,5 @@
 -- A summer, computed: what the theorems speak of is met. Assumes nothing.
-use Prim.Native.Nat.{_+_, _*_}
-use borrow.Author.Tests.{le-ltb}
-use mathlib.Core.{Bool.{true}, Path.{_≡_}}
-use native.Mathlib.Omega.{arith}
+use Rattle.numbers.proofs.Prelude.{_+_, _*_, le-ltb, true, _≡_, arith}
 use Rattle.calendar.{proofs.Laws.{days-closed}, specs.{Calendar.{isLeap}, Rules.{leapDay, dayOf, IsWhen}, declared.rule.When.the-variants.{Julian, Zero}}}
 use Rattle.tzrule.proofs.SummerAt.{summer-some}
 use Rattle.tzrule.specs.{Summer.{startOf, closeOf, isSummer, IsRule}, declared.rule.Rule.{Rule}}

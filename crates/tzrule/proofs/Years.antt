@@ -1,8 +1,5 @@
 -- What the numbers of a rule's instants are in the calendar. Assumes nothing.
-use Prim.Native.Nat.{ℕ, _+_, _-_, _*_, _/_, _%_, _^_, _≤_, _<_}
-use borrow.Author.Tests.{le-leb}
-use mathlib.Core.{Bool.{true}, Path.{_≡_}}
-use native.Mathlib.Omega.{arith}
+use Rattle.numbers.proofs.Prelude.{ℕ, _+_, _-_, _/_, _%_, _^_, le-leb, true, _≡_, arith}
 use Rattle.calendar.{proofs.Laws.{days-closed, days-in-all, epoch}, specs.{Calendar.{daysOfYears}, Moments.{secondsTo, InDays}}}
 use Rattle.tzrule.proofs.ask.Ways.{years-range}
 use Rattle.tzrule.specs.Ask.{inYears, since}
@@ -26,18 +23,19 @@ epoch-seconds = rw epoch (omega arith)
 module _ (u : ℕ) where
   from-years : inYears u ≡ true → OfYears u
   unfolding secondsTo
-  from-years e =
-      let range = years-range u e in
-      record {
-        day = (u - 9223371974719179008) / 86400;
-        second = (u - 9223371974719179008) % 86400;
-        is = record { inside = record { day-to = omega (arith, range, days-in-all); second-to = omega arith }; there = omega (arith, range, epoch-seconds) };
-      }
+  from-years e = let range = years-range u e in record {
+    day = (u - 9223371974719179008) / 86400;
+    second = (u - 9223371974719179008) % 86400;
+    is = record { inside = record { day-to = omega (arith, range, days-in-all); second-to = omega arith }; there = omega (arith, range, epoch-seconds) };
+  }
 
   to-years : OfYears u → inYears u ≡ true
   unfolding inYears secondsTo
   to-years o =
-      simp (le-leb (2 ^ 63 - 62135596800) u (omega (arith, o .is .there, epoch-seconds)), le-leb u (2 ^ 63 + 253402300799) (omega (arith, o .is .there, o .is .inside .day-to, o .is .inside .second-to, days-in-all, epoch-seconds)))
+      simp (
+        le-leb (2 ^ 63 - 62135596800) u (omega (arith, o .is .there, epoch-seconds)),
+        le-leb u (2 ^ 63 + 253402300799) (omega (arith, o .is .there, o .is .inside .day-to, o .is .inside .second-to, days-in-all, epoch-seconds)),
+      )
 
   -- `inYears` is exactly the seconds of the days of the years 1 to 9999
   pub in-years-days : (inYears u ≡ true → OfYears u) × (OfYears u → inYears u ≡ true)

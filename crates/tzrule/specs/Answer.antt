@@ -1,11 +1,8 @@
 -- What reading answers: what stood there and the place behind it, or the place of a fault.
-use Prim.Native.Nat.{ℕ, _+_, _≤_}
-use lib.Dec.{eqb}
-use mathlib.Core.List.{List}
-use Rattle.numbers.specs.Answer.{if_then_else_}
-use Rattle.tzrule.specs.{Text.{byteAt}, declared.{number.Number.{Number}, date.Found.{Found}}}
-use Rattle.tzrule.specs.declared.number.Number.the-variants as N
+use Rattle.numbers.specs.{Answer.{if_then_else_}, Prelude.{ℕ, _+_, _≤_, eqb, List}}
+use Rattle.tzrule.specs.{Text.{byteAt}, declared.{date.Found.{Found}, number.Number.{Number}}}
 use Rattle.calendar.specs.{Rules.{IsWhen}, declared.rule.When.{When}}
+use Rattle.tzrule.specs.declared.number.Number.the-variants as N
 use Rattle.tzrule.specs.declared.date.Found.the-variants as F
 
 pub data Answer (A : Type 0) : Type 0 where

@@ -1,8 +1,5 @@
 -- What a TZ string says of an instant.
-use Prim.Native.Nat.{ℕ, _+_, _-_, _^_}
-use lib.Dec.{leb}
-use mathlib.Core.Bool.{Bool, _&&_}
-use Rattle.numbers.specs.Answer.{if_then_else_}
+use Rattle.numbers.specs.{Answer.{if_then_else_}, Prelude.{ℕ, _+_, _-_, _^_, leb, Bool, _&&_}}
 use Rattle.tzrule.specs.{Summer.{isSummer, IsRule}, declared.{ask.{Asked.{Asked, the-variants.{Holds, Outside}}, Time.{Time}}, rule.Tz.{Tz, the-variants.{Fixed, Changing}}}}
 
 -- an instant, which is given more 2 ^ 63, less a correction, which is given more 2 ^ 31

@@ -1,8 +1,5 @@
 -- The grammar of the numbers and times of a TZ string.
-use Prim.Native.Nat.{ℕ, _+_, _-_, _*_, _≤_}
-use lib.Dec.{ltb}
-use mathlib.Core.List.{List}
-use Rattle.numbers.specs.Answer.{if_then_else_}
+use Rattle.numbers.specs.{Answer.{if_then_else_}, Prelude.{ℕ, _+_, _-_, _*_, _≤_, ltb, List}}
 use Rattle.tzrule.specs.{Answer.{Answer, read, fault, _>>=_, give, ifByte}, Text.{digitsOf}, declared.number.{Digits.{Digits}, Shape.{Shape}}}
 use Rattle.calendar.specs.declared.rule.When.{When, the-variants.{Julian, Zero, Month}}
 

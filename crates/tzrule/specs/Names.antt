@@ -1,9 +1,6 @@
 -- The names of a TZ string.
-use Prim.Native.Nat.{ℕ, zero, suc, _+_, _-_, _≤_}
-use lib.{Dec.{ltb, eqb}, ListN.{length}}
-use mathlib.Core.{Bool.{Bool, true, false}, List.{List}}
-use Rattle.numbers.specs.Answer.{if_then_else_}
-use Rattle.tzrule.specs.{Answer.{Answer, read, fault, ifByte}, declared.name.{Named.{Named}, Span.{Span}}, Text.{byteAt, isDigit}}
+use Rattle.numbers.specs.{Answer.{if_then_else_}, Prelude.{ℕ, zero, suc, _+_, _-_, _≤_, eqb, ltb, length, Bool, true, false, List}}
+use Rattle.tzrule.specs.{Answer.{Answer, read, fault, ifByte}, Text.{byteAt, isDigit}, declared.name.{Named.{Named}, Span.{Span}}}
 use Rattle.tzrule.specs.declared.name.Named.the-variants as N
 
 -- A to Z, a to z

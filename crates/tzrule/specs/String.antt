@@ -1,10 +1,7 @@
 -- The whole TZ string: std offset [dst [offset] , date [/time] , date [/time]], and the newline that closes it.
-use Prim.Native.Nat.{ℕ, _-_}
-use lib.Dec.{eqb}
-use mathlib.Core.{Bool.{Bool}, List.{List}}
-use Rattle.tzrule.specs.{Answer.{Answer, read, fault, _>>=_, give, ifByte}, Grammar.{laterOf, signedOf, dateOf}, Names.{nameOf}, Text.{byteAt}}
-use Rattle.tzrule.specs.declared.{number.Shape.{Shape}, rule.{Change.{Change}, Clock.{Clock}, Tz.{Tz, the-variants.{Fixed, Changing}}}}
-use Rattle.numbers.specs.Answer.{if_then_else_}
+use Rattle.numbers.specs.{Answer.{if_then_else_}, Prelude.{ℕ, _-_, eqb, Bool, List}}
+use Rattle.tzrule.specs.{Answer.{Answer, read, fault, _>>=_, give, ifByte}, Grammar.{laterOf, signedOf, dateOf}, Names.{nameOf}, Text.{byteAt}, declared.number.Shape.{Shape}}
+use Rattle.tzrule.specs.declared.rule.{Change.{Change}, Clock.{Clock}, Tz.{Tz, the-variants.{Fixed, Changing}}}
 
 -- hours of an offset, and of a time of version 2: 0 to 24; of a time from version 3 on: 0 to 167, with a sign
 abbrev pub dayHours : Shape

@@ -1,8 +1,5 @@
 -- Summer time. Instants are seconds from the first midnight of the first year, more 1209600: a week for the time and one for the offset.
-use Prim.Native.Nat.{ℕ, zero, suc, _+_, _*_, _≤_, _<_}
-use lib.Dec.{ltb, leb}
-use mathlib.Core.Bool.{Bool, true, false}
-use Rattle.numbers.specs.Answer.{if_then_else_}
+use Rattle.numbers.specs.{Answer.{if_then_else_}, Prelude.{ℕ, zero, suc, _+_, _*_, _≤_, _<_, ltb, leb, Bool, true, false}}
 use Rattle.calendar.specs.Rules.{dayOf, IsWhen}
 use Rattle.tzrule.specs.declared.rule.{Change.{Change}, Rule.{Rule}}
 

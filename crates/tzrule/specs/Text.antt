@@ -1,8 +1,5 @@
 -- The numbers of a TZ string, read from a place on.
-use Prim.Native.Nat.{ℕ, zero, suc, _+_, _-_, _*_}
-use lib.{Dec.{ltb}, ListN.{getD}}
-use mathlib.Core.{Bool.{Bool, false}, List.{List}}
-use Rattle.numbers.specs.Answer.{if_then_else_}
+use Rattle.numbers.specs.{Answer.{if_then_else_}, Prelude.{ℕ, zero, suc, _+_, _-_, _*_, ltb, getD, Bool, false, List}}
 use Rattle.tzrule.specs.declared.number.Digits.{Digits}
 
 -- the byte at a place; 0, which is no letter, digit or sign, past the end

@@ -1,39 +1,20 @@
 -- What a returned 0 means to firmware: the call was answered, whatever it was given. Each exported function's contract fixes what it returns,
--- the number said in `openingSpoken`, `foundSpoken`, `manySpoken`, `writtenSpoken`, `builtSpoken`, `salvageSpoken` or `localSpoken`; here, that this number is 0 exactly where the definition gives an answer. Assumes nothing.
-use Prim.Native.Nat.{ℕ}
-use mathlib.Core.{Bool.{Bool, true, false}, List.{List, [], _∷_, _++_}, Logic.{_↔_}, Path.{_≡_, refl, sym, subst}}
-use native.Mathlib.Omega.{arith}
-use lib.{IntN.{ℤ}, Ieee.{Float}}
+-- the number said in `openingSpoken`, `foundSpoken`, `manySpoken` or `localSpoken`; here, that this number is 0 exactly where the definition gives an answer. Assumes nothing.
+use Rattle.numbers.proofs.Prelude.{ℕ, Float, ℤ, Bool, List, [], _∷_, _++_, _↔_, _≡_, refl, sym, subst, arith}
+use Rattle.numbers.{proofs.{Refusals.{Listed}, Saying.{Answered, never-zero, zero-said}}, specs.{Reply.{given, refused}, Spoken.{noValues, saidOf}, declared.refusal.Refusal.{Refusal}}}
 use Rattle.atlas.{proofs.BesideIsPlain.{simple-beside-is-plain}, specs.Beside.{NoneOrAtlas, simplyBeside}}
-use Rattle.batch.proofs.{ManyIsPlain.{many-beside-is-plain}, NumberedMany.{manyNumbers, many-refusals}}
-use Rattle.batch.specs.{Many.{Batch, Left, manyBeside, lookedUpMany}, declared.many.Totals.{Totals}}
-use Rattle.batch.specs.Many as B
-use Rattle.numbers.{proofs.Refusals.{Listed}, specs.{Reply.{Reply, given, refused}, declared.refusal.Refusal.{Refusal}}}
+use Rattle.batch.{proofs.{ManyIsPlain.{many-beside-is-plain}, NumberedMany.{manyNumbers, many-refusals}}, specs.{Many.{Batch, Left, manyBeside, lookedUpMany}, declared.many.Totals.{Totals}}}
+use Rattle.index.{proofs.{NumberedThrough.{throughNumbers, through-refusals, indexed-refusals}, Refusing.{tyingNumbers, tied-refusals}}, specs.{Through.{lookedThrough, lookedIndexed}, Tied.{tiedOf}}}
 use Rattle.localtime.{proofs.Numbered.{footerNumbers, local-time-refusals}, specs.Local.{localTime, scaleAt}}
 use Rattle.tzif.specs.declared.local.LocalTime.{LocalTime}
+use Rattle.header.{proofs.Numbered.{openingNumbers, opening-refusals, strict-opening-refusals}, specs.Opening.{openedOf, openedStrictly}}
+use Rattle.zones.{proofs.NumberedLookup.{lookupNumbers, lookup-refusals, strict-lookup-refusals, simple-lookup-refusals}, specs.{Lent.{Replied}, Lookup.{lookedUp, lookedStrictly}}}
+use Rattle.zones.specs.{Simple.{simplyLooked}, declared.simple.Described.{Described}}
+use Rattle.table.specs.declared.location.Location.{Location}
+use Rattle.uskelzar.specs.{Many.{manySaid, manySpoken}, Spoken.{openingValues, zonesValues, describedValues, localValues, localReply, openingSpoken, foundSpoken, localSpoken}}
+use Rattle.batch.specs.Many as B
 use Rattle.tzif.specs.declared.local.LocalTime.the-variants as L
 use Rattle.tzif.specs.declared.refusal.Refusal as T
-use Rattle.header.{proofs.Numbered.{openingNumbers, opening-refusals, strict-opening-refusals}, specs.Opening.{openedOf, openedStrictly}}
-use Rattle.zones.proofs.NumberedLookup.{lookupNumbers, lookup-refusals, strict-lookup-refusals, simple-lookup-refusals}
-use Rattle.zones.specs.{Lent.{Replied}, Lookup.{lookedUp, lookedStrictly}, Simple.{simplyLooked}, declared.simple.Described.{Described}}
-use Rattle.table.specs.declared.location.Location.{Location}
-use Rattle.uskelzar.specs.{Many.{manySaid, manySpoken}}
-use Rattle.uskelzar.specs.Spoken.{saidOf, openingValues, zonesValues, describedValues, localValues, localReply, openingSpoken, foundSpoken, localSpoken}
-
--- the reply is an answer, and no refusal
-abbrev pub Answered : {A : Type 0} → Reply A → Type 0
-Answered {A} reply = (answer : A) × (reply ≡ given answer)
-
--- a number of a list without 0 is not 0
-pub never-zero : (numbers : List ℕ) → (Listed numbers 0 → false ≡ true) → (n : ℕ) → Listed numbers n → n ≡ 0 → ⊥
-never-zero numbers without n listed is = let no-zero = without (subst (Listed numbers) is listed) in let z : _≡_ {A = ℕ} 0 1 = cc in omega arith
-
--- where no refusal has the number 0, that number is said for an answer alone
-module _ {A : Type 0} (values : A → List ℕ) where
-  pub zero-said : (reply : Reply A) → ((why : Refusal) → reply ≡ refused why → why .number ≡ 0 → ⊥) → (saidOf values reply .number ≡ 0) ↔ Answered reply
-  unfolding saidOf
-  zero-said (given a) never = ((λ zero. (a, refl)), (λ answered. refl))
-  zero-said (refused why) never = ((λ zero. absurd (never why refl zero)), (λ answered. cc))
 
 -- ---- for each exported function
 -- `uskelzar_open`
@@ -45,14 +26,12 @@ open-zero file room =
 pub lookup-zero : (file : List ℕ) (location : Location) (asked : Bool) (n room : ℕ)
     → (foundSpoken zonesValues (lookedUp file location asked n room) .said .number ≡ 0) ↔ Answered (lookedUp file location asked n room .reply)
 lookup-zero file location asked n room =
-    zero-said zonesValues (lookedUp file location asked n room .reply)
-    (λ why is. never-zero lookupNumbers (λ z. z) (why .number) (lookup-refusals file location asked n room why is))
+    zero-said zonesValues (lookedUp file location asked n room .reply) (λ why is. never-zero lookupNumbers (λ z. z) (why .number) (lookup-refusals file location asked n room why is))
 
 -- `uskelzar_open_strict`
 pub open-strict-zero : (file : List ℕ) (room : ℕ) → (openingSpoken (openedStrictly file room) .said .number ≡ 0) ↔ Answered (openedStrictly file room .reply)
 open-strict-zero file room =
-    zero-said openingValues (openedStrictly file room .reply)
-    (λ why is. never-zero (openingNumbers ++ 31 ∷ []) (λ z. z) (why .number) (strict-opening-refusals file room why is))
+    zero-said openingValues (openedStrictly file room .reply) (λ why is. never-zero (openingNumbers ++ 31 ∷ []) (λ z. z) (why .number) (strict-opening-refusals file room why is))
 
 -- `uskelzar_lookup_strict`
 pub lookup-strict-zero : (file : List ℕ) (location : Location) (asked : Bool) (n room : ℕ)
@@ -73,15 +52,13 @@ many-said (B.refused index why) never = ((λ zero. absurd (never index why refl 
 pub many-zero : (file : List ℕ) (lats lons : List Float) (asked : Bool) (n room third : ℕ)
     → (manySpoken (lookedUpMany file lats lons asked n room third) .said .number ≡ 0) ↔ AnsweredMany (lookedUpMany file lats lons asked n room third .reply)
 many-zero file lats lons asked n room third =
-    many-said (lookedUpMany file lats lons asked n room third .reply)
-    (λ index why is. never-zero manyNumbers (λ z. z) (why .number) (many-refusals file lats lons asked n room third index why is))
+    many-said (lookedUpMany file lats lons asked n room third .reply) (λ index why is. never-zero manyNumbers (λ z. z) (why .number) (many-refusals file lats lons asked n room third index why is))
 
 -- `uskelzar_simple_lookup`
 pub simple-lookup-zero : (file : List ℕ) (location : Location) (n room : ℕ)
     → (foundSpoken describedValues (simplyLooked file location n room) .said .number ≡ 0) ↔ Answered (simplyLooked file location n room .reply)
 simple-lookup-zero file location n room =
-    zero-said describedValues (simplyLooked file location n room .reply)
-    (λ why is. never-zero lookupNumbers (λ z. z) (why .number) (simple-lookup-refusals file location n room why is))
+    zero-said describedValues (simplyLooked file location n room .reply) (λ why is. never-zero lookupNumbers (λ z. z) (why .number) (simple-lookup-refusals file location n room why is))
 
 -- `uskelzar_simple_atlas` and `uskelzar_many_atlas`, with no words or words of which `is_atlas` says 0
 pub simple-atlas-zero : (file words : List ℕ) → NoneOrAtlas file words → (location : Location) (n room : ℕ)
@@ -95,6 +72,24 @@ pub many-atlas-zero : (file words : List ℕ) → NoneOrAtlas file words → (la
 many-atlas-zero file words so lats lons asked n room third =
     subst (λ (left : Left). (manySpoken left .said .number ≡ 0) ↔ AnsweredMany (left .reply)) (sym (many-beside-is-plain file words so lats lons asked n room third))
     (many-zero file lats lons asked n room third)
+
+-- `uskelzar_index_tied`
+pub index-tied-zero : (file words : List ℕ) → (saidOf noValues (tiedOf file words) .number ≡ 0) ↔ Answered (tiedOf file words)
+index-tied-zero file words = zero-said noValues (tiedOf file words) (λ why is. never-zero tyingNumbers (λ z. z) (why .number) (tied-refusals file words why is))
+
+-- `uskelzar_lookup_through`
+pub lookup-through-zero : (file words : List ℕ) (location : Location) (asked : Bool) (n room : ℕ)
+    → (foundSpoken zonesValues (lookedThrough file words location asked n room) .said .number ≡ 0) ↔ Answered (lookedThrough file words location asked n room .reply)
+lookup-through-zero file words location asked n room =
+    zero-said zonesValues (lookedThrough file words location asked n room .reply)
+    (λ why is. never-zero throughNumbers (λ z. z) (why .number) (through-refusals file words location asked n room why is))
+
+-- `uskelzar_lookup_indexed`
+pub lookup-indexed-zero : (file words : List ℕ) (location : Location) (asked : Bool) (n room : ℕ)
+    → (foundSpoken zonesValues (lookedIndexed file words location asked n room) .said .number ≡ 0) ↔ Answered (lookedIndexed file words location asked n room .reply)
+lookup-indexed-zero file words location asked n room =
+    zero-said zonesValues (lookedIndexed file words location asked n room .reply)
+    (λ why is. never-zero throughNumbers (λ z. z) (why .number) (indexed-refusals file words location asked n room why is))
 
 -- `uskelzar_local_time`, answered with a local time or with unknown
 of-local : (time : LocalTime) (why : Refusal) → localReply time ≡ refused why → ((told : T.Refusal) → time ≡ L.Refused told → Listed footerNumbers (told .number)) → Listed footerNumbers (why .number)

@@ -1,15 +1,12 @@
 -- What a slip's returned 0 means to firmware: the lent output is that of a stamped slip, of which slip's theorems speak. Assumes nothing.
-use Prim.Native.Nat.{ℕ}
-use mathlib.Core.{Bool.{true, false}, List.{List, [], _∷_}, Logic.{_↔_, _⊎_, inl}, Path.{_≡_, refl, sym, ap, subst, _∙_}}
-use native.Mathlib.Omega.{arith}
+use Rattle.numbers.proofs.Prelude.{ℕ, true, false, List, [], _∷_, inl, _↔_, _≡_, refl, sym, ap, _∙_, arith}
+use Rattle.numbers.{proofs.Saying.{Answered, never-zero, zero-said}, specs.{Reply.{Reply, refused}, Spoken.{Spoken, saidOf, spoken}, declared.refusal.Refusal.{Refusal}}}
 use Rattle.atlas.specs.Beside.{NoneOrAtlas}
-use Rattle.numbers.specs.{Lists.{padded}, Reply.{Reply, given, refused}, declared.refusal.Refusal.{Refusal}}
 use Rattle.bundle.{proofs.Theorems.{found-refusals}, specs.Bundle.{findOf}}
 use Rattle.request.{proofs.{Refusing.{fiveNumbers}, Theorems.{request-refusals}}, specs.{Request.{requestOf}, declared.read.Fix.{Fix}}}
-use Rattle.slip.proofs.{Theorems.{slip-refusals, slip-at-refusals}, Worked.{sentence, square, berlin, texts, line, stamped}}
-use Rattle.slip.specs.{Says.{isAtNumber, isSlipNumber}, Slip.{Replied, replied, slippedAt, slipped}, declared.slip.Stamped.{Stamped}}
-use Rattle.uskelzar.proofs.Numbered.{Answered, never-zero, zero-said}
-use Rattle.uskelzar.specs.{Slips.{Printed, fixValues, fileValues, stampedValues, replySpoken, slipSpoken}, Spoken.{Spoken, saidOf, spoken}}
+use Rattle.slip.{proofs.{Theorems.{slip-refusals, slip-at-refusals}, Worked.{sentence, square, berlin, texts, line, stamped}}, specs.Says.{isAtNumber, isSlipNumber}}
+use Rattle.slip.specs.{Slip.{Replied, replied, slippedAt, slipped}, declared.slip.Stamped.{Stamped}}
+use Rattle.uskelzar.specs.Slips.{Printed, fixValues, fileValues, stampedValues, replySpoken, slipSpoken}
 
 -- the reply is refused, and so all of it
 whole : (left : Replied) {why : Refusal} → left .reply ≡ refused why → replied (refused why) (left .hits) (left .text) (left .out) ≡ left
@@ -35,15 +32,13 @@ bundle-find-zero bundle name = zero-said fileValues (findOf bundle name) (λ why
 -- `uskelzar_slip`, and `uskelzar_slip_atlas` with no words or words of which `is_atlas` says 0
 pub slip-zero : (request map atlas zones : List ℕ) → NoneOrAtlas map atlas → (n room size : ℕ)
     → (slipSpoken (slipped request map atlas zones n room size) .said .number ≡ 0) ↔ Answered (slipped request map atlas zones n room size .reply)
-slip-zero request map atlas zones so n room size =
-    let left = slipped request map atlas zones n room size in
+slip-zero request map atlas zones so n room size = let left = slipped request map atlas zones n room size in
     zero-said stampedValues (left .reply) (λ why is. not-slip (why .number) (slip-refusals request map atlas zones so n room size why (left .hits) (left .text) (left .out) (whole left is)))
 
 -- `uskelzar_slip_at`, and `uskelzar_slip_at_atlas` alike
 pub slip-at-zero : (fix : Fix) (map atlas zones : List ℕ) → NoneOrAtlas map atlas → (n room size : ℕ)
     → (slipSpoken (slippedAt fix map atlas zones n room size) .said .number ≡ 0) ↔ Answered (slippedAt fix map atlas zones n room size .reply)
-slip-at-zero fix map atlas zones so n room size =
-    let left = slippedAt fix map atlas zones n room size in
+slip-at-zero fix map atlas zones so n room size = let left = slippedAt fix map atlas zones n room size in
     zero-said stampedValues (left .reply) (λ why is. not-at (why .number) (slip-at-refusals fix map atlas zones so n room size why (left .hits) (left .text) (left .out) (whole left is)))
 
 -- what was answered was printed
@@ -53,19 +48,18 @@ printed left {number} {words} {hits} {text} {out} e (stamped, is) = record {
   stamped = stamped;
   left-so = (λ i. replied (sym is i) (ap (λ (s : Spoken). first (s .lent)) e i) (ap (λ (s : Spoken). second (s .lent)) e i) (ap (λ (s : Spoken). third (s .lent)) e i));
   words-are = ap (λ (s : Spoken). s .said .words) e ∙ ap (λ (r : Reply Stamped). saidOf stampedValues r .words) is;
-}
-  where
-    first : List (List ℕ) → List ℕ
-    first [] = []
-    first (l ∷ ls) = l
+} where
+  first : List (List ℕ) → List ℕ
+  first [] = []
+  first (l ∷ ls) = l
 
-    second : List (List ℕ) → List ℕ
-    second [] = []
-    second (l ∷ ls) = first ls
+  second : List (List ℕ) → List ℕ
+  second [] = []
+  second (l ∷ ls) = first ls
 
-    third : List (List ℕ) → List ℕ
-    third [] = []
-    third (l ∷ ls) = second ls
+  third : List (List ℕ) → List ℕ
+  third [] = []
+  third (l ∷ ls) = second ls
 
 -- A call of `uskelzar_slip`, or of `uskelzar_slip_atlas` with an atlas, that returned 0 left a stamped slip, and its length, matches and offset in the reply's words;
 pub returned-slip : (request map atlas zones : List ℕ) → NoneOrAtlas map atlas → (n room size : ℕ) {number : ℕ} {words hits text out : List ℕ}

@@ -1,13 +1,10 @@
 -- What a returned 0 and a 1 in the reply's second word mean together: nothing was missed. Neither says it alone, since a refusal can leave a 1 there too. Assumes nothing.
-use Prim.Native.Nat.{ℕ}
-use lib.ListN.{getD}
-use mathlib.Core.{Bool.{Bool, false}, List.{List, [], _∷_}, Path.{_≡_, refl, sym, ap, _∙_}}
-use Rattle.numbers.specs.Reply.{Reply, given, refused, refusal}
+use Rattle.numbers.{proofs.Prelude.{ℕ, getD, Bool, false, List, [], _∷_, _≡_, refl, sym, ap, _∙_}, specs.{Reply.{Reply, given, refused, refusal}, Spoken.{saidOf, Spoken, spoken}}}
 use Rattle.table.specs.declared.location.Location.{Location}
-use Rattle.zones.proofs.{WholeMeansWhole.{whole-means-whole, simple-whole-means-whole}, WorkedEnding.{printed, inTheZone, answered}}
-use Rattle.zones.specs.{Lent.{Replied}, Lookup.{lookedUp}, Simple.{simplyLooked}, Unstopped.{lookedThroughAll, simplyLookedThroughAll}, declared.{lookup.Zones.{Zones}, simple.Described.{Described}}}
+use Rattle.zones.{proofs.{WholeMeansWhole.{whole-means-whole, simple-whole-means-whole}, WorkedEnding.{printed, inTheZone, answered}}, specs.{Lent.{Replied}, Lookup.{lookedUp}}}
+use Rattle.zones.specs.{Simple.{simplyLooked}, Unstopped.{lookedThroughAll, simplyLookedThroughAll}, declared.{lookup.Zones.{Zones}, simple.Described.{Described}}}
 use Rattle.uskelzar.proofs.Numbered.{lookup-zero, simple-lookup-zero}
-use Rattle.uskelzar.specs.Spoken.{saidOf, zonesValues, describedValues, Spoken, spoken, foundSpoken}
+use Rattle.uskelzar.specs.Spoken.{zonesValues, describedValues, foundSpoken}
 
 -- the second word of an answer's reply is its mark
 lookup-mark : (reply : Reply Zones) (zones : Zones) → reply ≡ given zones → getD (saidOf zonesValues reply .words) 1 0 ≡ zones .mark

@@ -1,14 +1,12 @@
 -- What the promise of `uskelzar_civil_time` fixes. Assumes nothing.
-use lib.IntN.{ℤ}
-use mathlib.Core.{List.{List}, Path.{_≡_, ap, sym, subst, _∙_}}
-use Prim.Native.Nat.{ℕ}
+use Rattle.numbers.proofs.Prelude.{ℕ, ℤ, List, _≡_, sym, ap, subst, _∙_}
 use Rattle.calendar.{proofs.SameCivil.{same-civil}, specs.{Civil.{CivilOf}, declared.civil.{Civil.{Civil, the-variants.{Shown, Outside}}, Reading.{Reading}}}}
 use Rattle.uskelzar.specs.Civil.{civilNumber, civilWords, CivilSpoken}
 
 -- two calls that it permits return the same number and leave the same words
-pub same-civil-call : {number number′ : ℕ} {words words′ : List ℕ} (instant offset : ℤ) → CivilSpoken instant offset number words → CivilSpoken instant offset number′ words′ → (number ≡ number′) × (words ≡ words′)
-same-civil-call instant offset s t =
-    let same = same-civil instant offset (s .civil) (t .civil) (s .is) (t .is) in
+pub same-civil-call : {number number′ : ℕ} {words words′ : List ℕ} (instant offset : ℤ) → CivilSpoken instant offset number words → CivilSpoken instant offset number′ words′
+    → (number ≡ number′) × (words ≡ words′)
+same-civil-call instant offset s t = let same = same-civil instant offset (s .civil) (t .civil) (s .is) (t .is) in
     (s .number-is ∙ ap civilNumber same ∙ sym (t .number-is), s .words-are ∙ ap civilWords same ∙ sym (t .words-are))
 
 -- the two ways of the call

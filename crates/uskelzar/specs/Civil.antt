@@ -1,7 +1,5 @@
 -- How the date and time of day of an instant go over to C.
-use lib.IntN.{ℤ}
-use mathlib.Core.{List.{List, [], _∷_}, Path.{_≡_}}
-use Prim.Native.Nat.{ℕ}
+use Rattle.numbers.specs.Prelude.{ℕ, ℤ, List, [], _∷_, _≡_}
 use Rattle.calendar.specs.{Civil.{CivilOf}, declared.civil.Civil.{Civil, the-variants.{Shown, Outside}}}
 
 -- 0, or 61 outside the years 1 to 9999

@@ -1,8 +1,6 @@
 -- How the reply to many fixes goes over to C.
-use mathlib.Core.List.{[], _∷_}
+use Rattle.numbers.specs.{Lists.{padded}, Prelude.{[], _∷_}, Spoken.{Spoken}, declared.said.Said.{Said}}
 use Rattle.batch.specs.{Many.{Batch, given, refused, Left}, declared.many.Totals.{Totals}}
-use Rattle.numbers.specs.Lists.{padded}
-use Rattle.uskelzar.specs.{Spoken.{Spoken}, declared.Said.{Said}}
 
 -- 0 with fixes, matches in all and bytes used; or the refusal's number with its cause, its detail and the index of its fix
 unfoldable pub manySaid : Batch Totals → Said

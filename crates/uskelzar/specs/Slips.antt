@@ -1,13 +1,9 @@
 -- How a request, a zone's file in a bundle and a slip go over to C (document 03).
-use lib.Ieee.{binary32, toBits}
-use mathlib.Core.{List.{List, [], _∷_}, Path.{_≡_}}
-use mir.{Syntax.{w32, w64}, Val.{ofZ}}
-use Prim.Native.Nat.{ℕ}
+use Rattle.numbers.specs.{Lists.{padded}, Prelude.{ℕ, binary32, List, [], _∷_, _≡_, w32, w64, ofZ}, Reply.{Reply, given}, Spoken.{Spoken, saidOf}}
+use lib.Ieee.{toBits}
 use Rattle.bundle.specs.declared.find.File.{File}
-use Rattle.numbers.specs.{Lists.{padded}, Reply.{Reply, given}}
 use Rattle.request.specs.declared.read.Fix.{Fix}
 use Rattle.slip.specs.{Slip.{Replied, replied}, declared.slip.Stamped.{Stamped}}
-use Rattle.uskelzar.specs.Spoken.{Spoken, saidOf}
 
 -- the 32 bits of latitude and longitude, the 64 of the instant
 abbrev pub fixValues : Fix → List ℕ

@@ -1,26 +1,13 @@
--- How a reply goes over to C: a number, five words, and all lent output.
-use mathlib.Core.{List.{List, [], _∷_}, Option.{Option, none, some}}
-use mir.{Syntax.{w32}, Val.{ofZ}}
-use Prim.Native.Nat.{ℕ}
+-- The values that each answer goes over to C with.
+use Rattle.numbers.specs.{Prelude.{ℕ, List, [], _∷_, Option, some, none, w32, ofZ}, Reply.{Reply, given, refused, refusal}, Spoken.{Spoken, saidOf}}
 use Rattle.localtime.specs.declared.scale.Scale.{Scale}
-use Rattle.tzif.specs.Local as T
 use Rattle.tzif.specs.declared.local.{Local.{Local}, LocalTime.{LocalTime}}
-use Rattle.tzif.specs.declared.local.LocalTime.the-variants as L
 use Rattle.zones.specs.{Lent.{Replied}, declared.{lookup.Zones.{Zones}, simple.{Described.{Described}, Description.{Description}}}}
-use Rattle.numbers.specs.{Lists.{padded}, Reply.{Reply, given, refused, refusal}, declared.refusal.Refusal.{Refusal}}
-use Rattle.header.specs.Opening as O
 use Rattle.header.specs.declared.opening.Opening.{Opening}
+use Rattle.tzif.specs.Local as T
+use Rattle.tzif.specs.declared.local.LocalTime.the-variants as L
+use Rattle.header.specs.Opening as O
 use Rattle.zones.specs.declared.simple.Description.the-variants as D
-use Rattle.uskelzar.specs.declared.Said.{Said}
-
--- a refusal's number, with its cause and detail
-abbrev pub refusedSaid : Refusal → Said
-refusedSaid why = record { number = why .number; words = padded 5 (why .cause ∷ why .detail ∷ []) }
-
--- 0 and the answer's values, or the refusal; zeros behind either
-unfoldable pub saidOf : {A : Type 0} → (A → List ℕ) → Reply A → Said
-saidOf values (given a) = record { number = 0; words = padded 5 (values a) }
-saidOf values (refused why) = refusedSaid why
 
 -- ---- the values of each answer
 abbrev pub openingValues : Opening → List ℕ
@@ -50,14 +37,6 @@ localReply L.Unknown = given none
 localReply (L.Refused why) = refused (refusal (why .number) 0 (why .detail))
 
 -- ---- what a call leaves
-pub record Spoken : Type 0 where
-  pub said : Said
-  -- the lent outputs, in the order of the parameters
-  pub lent : List (List ℕ)
-
-abbrev pub spoken : ℕ → List ℕ → List (List ℕ) → Spoken
-spoken number words lent = record { said = record { number = number; words = words }; lent = lent }
-
 abbrev pub openingSpoken : O.Replied → Spoken
 openingSpoken left = record { said = saidOf openingValues (left .reply); lent = left .text ∷ [] }
 

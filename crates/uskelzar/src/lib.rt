@@ -3,6 +3,7 @@
 pub mod civil;
 pub mod many;
 pub mod slips;
+pub mod tiles;
 
 ghost use mathlib.Core.{Path.{_≡_}, List.{[], _∷_}};
 ghost use lib.ListN.{length};
@@ -11,7 +12,8 @@ ghost use Rattle.localtime.specs.Local.{localTime, scaleAt};
 ghost use Rattle.zones.specs.{Lookup.{lookedUp, lookedStrictly, toldLooked}, Simple.{simplyLooked, toldSimple}};
 ghost use Rattle.header.specs.Opening.{openedOf, openedStrictly, toldOpened};
 ghost use Rattle.numbers.specs.Reply.{Reply, given, refused};
-ghost use Rattle.uskelzar.specs.Spoken.{saidOf, openingValues, zonesValues, describedValues, localValues, refusedSaid, localReply, spoken, openingSpoken, foundSpoken, localSpoken};
+ghost use Rattle.numbers.specs.Spoken.{saidOf, refusedSaid, spoken};
+ghost use Rattle.uskelzar.specs.Spoken.{openingValues, zonesValues, describedValues, localValues, localReply, openingSpoken, foundSpoken, localSpoken};
 use atlas::lookup::lookup_atlas;
 use atlas::simple::simple_atlas;
 use header::opening::Opened;
@@ -19,8 +21,10 @@ use header::opening::open;
 use header::opening::open_strict;
 use localtime::local::Timed;
 use localtime::local::local_time;
-use numbers::refusal::Refusal;
 use numbers::refusal::refuse;
+use numbers::said::Said;
+use numbers::said::say_refused;
+use numbers::said::speak;
 use table::location::Location;
 use tzif::local::LocalTime;
 use tzif::local::offset_bits;
@@ -30,21 +34,6 @@ use zones::lookup::lookup_strict;
 use zones::simple::Description;
 use zones::simple::Simple;
 use zones::simple::simple_lookup;
-
-// What a call says beside its lent output: a number, and the words of `reply`.
-pub struct Said {
-    pub number: u8,
-    pub words: [u64; 5],
-}
-
-pub fn say_refused(why: Refusal) -> Said
-    ensures { λ r. ⌜ r ≡ refusedSaid why ⌝ }
-{
-    Said {
-        number: why.number,
-        words: [why.cause as u64, why.detail, 0, 0, 0],
-    }
-}
 
 fn say_opened(opened: Opened) -> Said
     ensures { λ r. ⌜ r ≡ saidOf openingValues (toldOpened opened) ⌝ }
@@ -121,14 +110,6 @@ fn say_local(timed: Timed) -> Said
         },
         LocalTime::Refused(why) => say_refused(refuse(why.number, 0, why.detail as u64)),
     }
-}
-
-pub fn speak(said: Said, reply: &mut [u64; 5]) -> u8
-    ensures { λ r. ⌜ spoken r (now (reply .exit)) [] ≡ record { said = said; lent = [] } ⌝ }
-{
-    let words = said.words;
-    *reply = words;
-    said.number
 }
 
 // Opens a file. Values: type, version, precision, field count, bytes used.

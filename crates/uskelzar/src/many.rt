@@ -2,12 +2,13 @@
 ghost use mathlib.Core.{Path.{_≡_}, List.{[], _∷_}};
 ghost use lib.ListN.{length};
 ghost use Rattle.batch.specs.Many.{toldMany, manyBeside, lookedUpMany};
-ghost use Rattle.uskelzar.specs.{Spoken.{spoken}, Many.{manySaid, manySpoken}};
-use crate::Said;
-use crate::speak;
+ghost use Rattle.numbers.specs.Spoken.{spoken};
+ghost use Rattle.uskelzar.specs.Many.{manySaid, manySpoken};
 use batch::many::Many;
 use batch::many::lookup_many;
 use batch::many::many_atlas;
+use numbers::said::Said;
+use numbers::said::speak;
 
 fn say_many(many: Many) -> Said
     ensures { λ r. ⌜ r ≡ manySaid (toldMany many) ⌝ }

@@ -1,87 +1,57 @@
 -- Edges in a field that is far enough from the location leave the least distance as it is. Assumes nothing.
-use Prim.Native.Nat.{ℕ, zero, suc, _+_, _-_, _*_, _^_, _≤_, _<_}
-use borrow.Author.Tests.{ltb-true, lt-ltb}
-use lib.{Dec.{ltb}, IntN.{ℤ, pos, negsuc, negℤ, natAbs, sucℤ, _+ℤ_, _-ℤ_, _*ℤ_, +ℤ-idr, +ℤ-sucℤ, +ℤ-comm, negℤ-+ℤ, negℤ-negℤ}, Signed.{ltZ, leZ, mag}}
-use mathlib.Core.{Bool.{Bool, true, false, cond, _&&_, _||_}, Path.{_≡_, refl, sym, ap, _∙_, subst}}
-use native.Mathlib.{Nat.{mul-le-mul, mod-eq-of-lt}, Omega.{arith}}
-use Rattle.verdict.proofs.{Checks.{checked-fits}, CutDifference.{close}, Gliding.{less-le, le-less, less-le-less, within-both, field-quadrant, gliding-measures}}
-use Rattle.numbers.proofs.Tests.{differ}
+use Rattle.numbers.proofs.Prelude.{ℕ, zero, suc, _+_, _-_, _*_, _^_, _≤_, _<_, lt-ltb, ltb-true, ltb, ℤ, pos, negsuc, _+ℤ_, _-ℤ_, negℤ, natAbs, mag, ltZ, leZ, Bool, true, false, _&&_, _||_, cond}
+use Rattle.numbers.proofs.{Prelude.{_≡_, refl, sym, ap, subst, _∙_, mul-le-mul, mod-eq-of-lt, arith}, Tests.{differ, both}, write.Gaps.{size-sum, size-neg}}
+use lib.IntN.{sucℤ, _*ℤ_, +ℤ-idr, +ℤ-sucℤ, +ℤ-comm, negℤ-+ℤ, negℤ-negℤ}
+use Rattle.verdict.proofs.{Checks.{checked-fits}, Gliding.{le-less, less-le-less}}
 use Rattle.border.specs.declared.place.Point.{Point}
-use Rattle.numbers.proofs.Tests.{both}
-use Rattle.verdict.specs.{Distance.{squared, toSegment, toVertex, distanceOf, measured}, Edge.{between, inBox, spotOf, edgeOf, closestOn, cutOf}}
-use Rattle.verdict.specs.{inner.Gliding.{inSpan, beside, aside, within, farFrom, nearby, Remote, Calm}, Step.{Step, found}}
-use Rattle.verdict.specs.declared.{edge.Spot.{Spot}, field.{Span.{Span}, Field.{Field}}, step.Tally.{Tally}}
-use Rattle.numbers.specs.{Answer.{if_then_else_}, Float.{toF32, cut32, cut64, _⊟_}}
+use Rattle.verdict.specs.{Distance.{squared}, Edge.{between, inBox}, Step.{Step, found}, declared.field.Span.{Span}, inner.Gliding.{inSpan, farFrom, nearby}}
 
 -- ---- numbers of a span
 
 -- a number between two of a span lies in it
 pub between-span : (span : Span) (a c b : ℤ) → inSpan span a ≡ true → inSpan span b ≡ true → between a c b ≡ true → inSpan span c ≡ true
 unfolding inSpan between
-between-span span a c b h k e = go (leZ a c && leZ c b) refl e
-  where
-    p : (ltZ (span .low) a ≡ true) × (ltZ a (span .high) ≡ true)
-    p = both (ltZ (span .low) a) (ltZ a (span .high)) h
+between-span span a c b h k e = go (leZ a c && leZ c b) refl e where
+  p : (ltZ (span .low) a ≡ true) × (ltZ a (span .high) ≡ true)
+  p = both (ltZ (span .low) a) (ltZ a (span .high)) h
 
-    q : (ltZ (span .low) b ≡ true) × (ltZ b (span .high) ≡ true)
-    q = both (ltZ (span .low) b) (ltZ b (span .high)) k
+  q : (ltZ (span .low) b ≡ true) × (ltZ b (span .high) ≡ true)
+  q = both (ltZ (span .low) b) (ltZ b (span .high)) k
 
-    go : (t : Bool) → (leZ a c && leZ c b) ≡ t → (t || (leZ b c && leZ c a)) ≡ true → (ltZ (span .low) c && ltZ c (span .high)) ≡ true
-    go true l e = let u = both (leZ a c) (leZ c b) l in rw (less-le-less (span .low) a c (p .0) (u .0), le-less c b (span .high) (u .1) (q .1))
-    go false l e = let u = both (leZ b c) (leZ c a) e in rw (less-le-less (span .low) b c (q .0) (u .0), le-less c a (span .high) (u .1) (p .1))
+  go : (t : Bool) → (leZ a c && leZ c b) ≡ t → (t || (leZ b c && leZ c a)) ≡ true → (ltZ (span .low) c && ltZ c (span .high)) ≡ true
+  go true l e = let u = both (leZ a c) (leZ c b) l in rw (less-le-less (span .low) a c (p .0) (u .0), le-less c b (span .high) (u .1) (q .1))
+  go false l e = let u = both (leZ b c) (leZ c a) e in rw (less-le-less (span .low) b c (q .0) (u .0), le-less c a (span .high) (u .1) (p .1))
 
 pub nearby-size : (span : Span) (v : ℤ) → nearby span ≡ true → inSpan span v ≡ true → mag v < 4194304
 unfolding nearby inSpan
-nearby-size span v n h =
-    let p = both (leZ (negsuc 4194303) (span .low)) (leZ (span .high) (pos 4194304)) n in
+nearby-size span v n h = let p = both (leZ (negsuc 4194303) (span .low)) (leZ (span .high) (pos 4194304)) n in
     let q = both (ltZ (span .low) v) (ltZ v (span .high)) h in
-    go v (le-less (negsuc 4194303) (span .low) v (p .0) (q .0)) (less-le-less v (span .high) (pos 4194304) (q .1) (p .1))
-  where
-    go : (v : ℤ) → ltZ (negsuc 4194303) v ≡ true → ltZ v (pos 4194304) ≡ true → mag v < 4194304
-    go (pos n) a b = ltb-true n 4194304 b
-    go (negsuc n) a b = let z = ltb-true n 4194303 a in omega (arith, z)
-
-not-zero : (span : Span) (v : ℤ) → beside (pos 0) span ≡ true → inSpan span v ≡ true → v ≡ pos 0 → ⊥
-unfolding beside inSpan
-not-zero span v e h z = go (leZ (pos 0) (span .low)) refl e
-  where
-    p : (ltZ (span .low) (pos 0) ≡ true) × (ltZ (pos 0) (span .high) ≡ true)
-    p = subst (λ (x : ℤ). (ltZ (span .low) x ≡ true) × (ltZ x (span .high) ≡ true)) z (both (ltZ (span .low) v) (ltZ v (span .high)) h)
-
-    go : (t : Bool) → leZ (pos 0) (span .low) ≡ t → (t || leZ (span .high) (pos 0)) ≡ true → ⊥
-    go true l e = differ (sym (less-le (span .low) (pos 0) (p .0) .1) ∙ l)
-    go false l e = differ (sym (less-le (pos 0) (span .high) (p .1) .1) ∙ e)
+    go v (le-less (negsuc 4194303) (span .low) v (p .0) (q .0)) (less-le-less v (span .high) (pos 4194304) (q .1) (p .1)) where
+      go : (v : ℤ) → ltZ (negsuc 4194303) v ≡ true → ltZ v (pos 4194304) ≡ true → mag v < 4194304
+      go (pos n) a b = ltb-true n 4194304 b
+      go (negsuc n) a b = let z = ltb-true n 4194303 a in omega (arith, z)
 
 gap-up : (x v : ℤ) (r : ℕ) → ltZ (x +ℤ pos r) v ≡ true → suc r ≤ natAbs (v -ℤ x)
 gap-up (pos zero) (pos b) r h = let z = ltb-true (0 + r) b h in omega (arith, z)
-gap-up (pos (suc a)) (pos b) r h = go (ltb b (suc a)) refl
-  where
-    go : (t : Bool) → ltb b (suc a) ≡ t → suc r ≤ natAbs (cond t (negsuc (suc a - suc b)) (pos (b - suc a)))
-    go true e = let z = ltb-true (suc a + r) b h in let w = ltb-true b (suc a) e in absurd (omega (arith, z, w))
-    go false e = let z = ltb-true (suc a + r) b h in omega (arith, z)
+gap-up (pos (suc a)) (pos b) r h = go (ltb b (suc a)) refl where
+  go : (t : Bool) → ltb b (suc a) ≡ t → suc r ≤ natAbs (cond t (negsuc (suc a - suc b)) (pos (b - suc a)))
+  go true e = let z = ltb-true (suc a + r) b h in let w = ltb-true b (suc a) e in absurd (omega (arith, z, w))
+  go false e = let z = ltb-true (suc a + r) b h in omega (arith, z)
 gap-up (pos a) (negsuc b) r h = differ h
-gap-up (negsuc a) (pos b) r h = go (ltb r (suc a)) refl h
-  where
-    go : (t : Bool) → ltb r (suc a) ≡ t → ltZ (cond t (negsuc (suc a - suc r)) (pos (r - suc a))) (pos b) ≡ true → suc r ≤ b + suc a
-    go true e k = let z = ltb-true r (suc a) e in omega (arith, z)
-    go false e k = let z = ltb-true (r - suc a) b k in omega (arith, z)
-gap-up (negsuc a) (negsuc b) r h = go (ltb r (suc a)) refl h
-  where
-    go : (t : Bool) → ltb r (suc a) ≡ t → ltZ (cond t (negsuc (suc a - suc r)) (pos (r - suc a))) (negsuc b) ≡ true → suc r ≤ natAbs (negsuc b -ℤ negsuc a)
-    go true e k = let y = ltb-true r (suc a) e in let z = ltb-true b (suc a - suc r) k in last (ltb (suc a) (suc b)) refl (omega (arith, y, z))
-      where
-        last : (t : Bool) → ltb (suc a) (suc b) ≡ t → suc r + b ≤ a → suc r ≤ natAbs (cond t (negsuc (suc b - suc (suc a))) (pos (suc a - suc b)))
-        last true e m = let z = ltb-true (suc a) (suc b) e in absurd (omega (arith, z, m))
-        last false e m = omega (arith, m)
-    go false e k = differ k
-
-abs-neg : (z : ℤ) → natAbs (negℤ z) ≡ natAbs z
-abs-neg (pos zero) = refl
-abs-neg (pos (suc n)) = refl
-abs-neg (negsuc n) = refl
+gap-up (negsuc a) (pos b) r h = go (ltb r (suc a)) refl h where
+  go : (t : Bool) → ltb r (suc a) ≡ t → ltZ (cond t (negsuc (suc a - suc r)) (pos (r - suc a))) (pos b) ≡ true → suc r ≤ b + suc a
+  go true e k = let z = ltb-true r (suc a) e in omega (arith, z)
+  go false e k = let z = ltb-true (r - suc a) b k in omega (arith, z)
+gap-up (negsuc a) (negsuc b) r h = go (ltb r (suc a)) refl h where
+  go : (t : Bool) → ltb r (suc a) ≡ t → ltZ (cond t (negsuc (suc a - suc r)) (pos (r - suc a))) (negsuc b) ≡ true → suc r ≤ natAbs (negsuc b -ℤ negsuc a)
+  go true e k = let y = ltb-true r (suc a) e in let z = ltb-true b (suc a - suc r) k in last (ltb (suc a) (suc b)) refl (omega (arith, y, z)) where
+    last : (t : Bool) → ltb (suc a) (suc b) ≡ t → suc r + b ≤ a → suc r ≤ natAbs (cond t (negsuc (suc b - suc (suc a))) (pos (suc a - suc b)))
+    last true e m = let z = ltb-true (suc a) (suc b) e in absurd (omega (arith, z, m))
+    last false e m = omega (arith, m)
+  go false e k = differ k
 
 abs-swap : (a b : ℤ) → natAbs (a -ℤ b) ≡ natAbs (b -ℤ a)
-abs-swap a b = sym (abs-neg (a -ℤ b)) ∙ ap natAbs (negℤ-+ℤ a (negℤ b) ∙ ap (λ (z : ℤ). negℤ a +ℤ z) (negℤ-negℤ b) ∙ +ℤ-comm (negℤ a) b)
+abs-swap a b = sym (size-neg (a -ℤ b)) ∙ ap natAbs (negℤ-+ℤ a (negℤ b) ∙ ap (λ (z : ℤ). negℤ a +ℤ z) (negℤ-negℤ b) ∙ +ℤ-comm (negℤ a) b)
 
 suc-less : (a b : ℤ) → ltZ a b ≡ true → ltZ (sucℤ a) (sucℤ b) ≡ true
 suc-less (pos a) (pos b) h = let z = ltb-true a b h in lt-ltb (suc a) (suc b) (omega (arith, z))
@@ -99,14 +69,13 @@ add-less a b (suc r) h = rw (+ℤ-sucℤ a (pos r), +ℤ-sucℤ b (pos r)) (suc-
 
 pub far-size : (r : ℕ) (x : ℤ) (span : Span) (v : ℤ) → farFrom r x span ≡ true → inSpan span v ≡ true → suc r ≤ natAbs (v -ℤ x)
 unfolding farFrom inSpan
-far-size r x span v e h = go (leZ (x +ℤ pos r) (span .low)) refl e
-  where
-    p : (ltZ (span .low) v ≡ true) × (ltZ v (span .high) ≡ true)
-    p = both (ltZ (span .low) v) (ltZ v (span .high)) h
+far-size r x span v e h = go (leZ (x +ℤ pos r) (span .low)) refl e where
+  p : (ltZ (span .low) v ≡ true) × (ltZ v (span .high) ≡ true)
+  p = both (ltZ (span .low) v) (ltZ v (span .high)) h
 
-    go : (t : Bool) → leZ (x +ℤ pos r) (span .low) ≡ t → (t || leZ (span .high +ℤ pos r) x) ≡ true → suc r ≤ natAbs (v -ℤ x)
-    go true l e = gap-up x v r (le-less (x +ℤ pos r) (span .low) v l (p .0))
-    go false l e = subst (λ (n : ℕ). suc r ≤ n) (abs-swap x v) (gap-up v x r (less-le-less (v +ℤ pos r) (span .high +ℤ pos r) x (add-less v (span .high) r (p .1)) e))
+  go : (t : Bool) → leZ (x +ℤ pos r) (span .low) ≡ t → (t || leZ (span .high +ℤ pos r) x) ≡ true → suc r ≤ natAbs (v -ℤ x)
+  go true l e = gap-up x v r (le-less (x +ℤ pos r) (span .low) v l (p .0))
+  go false l e = subst (λ (n : ℕ). suc r ≤ n) (abs-swap x v) (gap-up v x r (less-le-less (v +ℤ pos r) (span .high +ℤ pos r) x (add-less v (span .high) r (p .1)) e))
 
 -- ---- squares
 
@@ -123,34 +92,22 @@ square-most n h = mul-le-mul h h
 
 squared-found : (y x : ℤ) → natAbs y ≤ 2 ^ 24 → natAbs x ≤ 2 ^ 24 → squared y x ≡ found (natAbs y * natAbs y + 4 * (natAbs x * natAbs x))
 unfolding squared
-squared-found y x h k =
-    let p = square-most (natAbs y) h in
-    let q = square-most (natAbs x) k in
-    rw (checked-fits 63 (y *ℤ y) (subst (λ (n : ℕ). n < 2 ^ 63) (sym (square-mag y)) (omega (arith, p))), checked-fits 63 (x *ℤ x) (subst (λ (n : ℕ). n < 2 ^ 63) (sym (square-mag x)) (omega (arith, q))), square-abs y, square-abs x)
+squared-found y x h k = let p = square-most (natAbs y) h in let q = square-most (natAbs x) k in
+    rw (
+      checked-fits 63 (y *ℤ y) (subst (λ (n : ℕ). n < 2 ^ 63) (sym (square-mag y)) (omega (arith, p))),
+      checked-fits 63 (x *ℤ x) (subst (λ (n : ℕ). n < 2 ^ 63)
+          (sym (square-mag x)) (omega (arith, q))),
+      square-abs y,
+      square-abs x,
+    )
     (ap found (mod-eq-of-lt (omega (arith, p, q))))
 
 pub difference-most : (a b : ℤ) → natAbs (a -ℤ b) ≤ natAbs a + natAbs b
-difference-most a (pos zero) = let z = ap natAbs (+ℤ-idr a) in omega (arith, z)
-difference-most (pos a) (pos (suc b)) = go (ltb a (suc b))
-  where
-    go : (t : Bool) → natAbs (cond t (negsuc (suc b - suc a)) (pos (a - suc b))) ≤ a + suc b
-    go true = omega arith
-    go false = omega arith
-difference-most (negsuc a) (pos (suc b)) = omega arith
-difference-most (pos a) (negsuc b) = omega arith
-difference-most (negsuc a) (negsuc b) = go (ltb (suc b) (suc a))
-  where
-    go : (t : Bool) → natAbs (cond t (negsuc (suc a - suc (suc b))) (pos (suc b - suc a))) ≤ suc a + suc b
-    go true = omega arith
-    go false = omega arith
+difference-most a b = omega (arith, size-sum a (negℤ b), size-neg b)
 
 pub abs-mag : (z : ℤ) → natAbs z ≤ suc (mag z)
 abs-mag (pos n) = omega arith
 abs-mag (negsuc n) = omega arith
-
-pub mag-abs : (z : ℤ) → mag z ≤ natAbs z
-mag-abs (pos n) = omega arith
-mag-abs (negsuc n) = omega arith
 
 -- ---- the distance
 
@@ -165,64 +122,5 @@ pub record Further (least : ℕ) (step : Step ℕ) : Type 0 where
   pub further : least ≤ value
 
 pub reached : (least r q : ℕ) (y x : ℤ) → r ≤ natAbs y → q ≤ natAbs x → natAbs y ≤ 2 ^ 24 → natAbs x ≤ 2 ^ 24 → least ≤ r * r + 4 * (q * q) → Further least (squared y x)
-reached least r q y x a b h k e =
-    let u = mul-le-mul a a in
-    let v = mul-le-mul b b in
+reached least r q y x a b h k e = let u = mul-le-mul a a in let v = mul-le-mul b b in
     record { value = natAbs y * natAbs y + 4 * (natAbs x * natAbs x); is = squared-found y x h k; further = omega (arith, u, v, e) }
-
-module _ (fix : Point) (field : Field) (least : ℕ) (remote : Remote fix least field) where
-  to-vertex-far : (to : Point) → within field to ≡ true → Further least (toVertex to fix)
-  unfolding toVertex
-  to-vertex-far to h =
-      let p = within-both field to h in
-      let y = nearby-size (field .lat) (to .lat .0) (remote .lat-near) (p .0) in
-      let x = nearby-size (field .lon) (to .lon .0) (remote .lon-near) (p .1) in
-      let dy = difference-most (to .lat .0) (fix .lat .0) in
-      let dx = difference-most (to .lon .0) (fix .lon .0) in
-      let my : natAbs (to .lat .0 -ℤ fix .lat .0) ≤ 2 ^ 24 = omega (arith, y, dy, abs-mag (to .lat .0), abs-mag (fix .lat .0), remote .lat-fix) in
-      let mx : natAbs (to .lon .0 -ℤ fix .lon .0) ≤ 2 ^ 24 = omega (arith, x, dx, abs-mag (to .lon .0), abs-mag (fix .lon .0), remote .lon-fix) in
-      rw (checked-fits 31 (to .lat .0 -ℤ fix .lat .0) (omega (arith, my, mag-abs (to .lat .0 -ℤ fix .lat .0))), checked-fits 31 (to .lon .0 -ℤ fix .lon .0) (omega (arith, mx, mag-abs (to .lon .0 -ℤ fix .lon .0))))
-      (reached least (remote .lat-reach) (remote .lon-reach) (to .lat .0 -ℤ fix .lat .0) (to .lon .0 -ℤ fix .lon .0)
-      (let z = far-size (remote .lat-reach) (fix .lat .0) (field .lat) (to .lat .0) (remote .lat-far) (p .0) in omega (arith, z))
-      (let z = far-size (remote .lon-reach) (fix .lon .0) (field .lon) (to .lon .0) (remote .lon-far) (p .1) in omega (arith, z))
-      my mx (remote .enough))
-
-  to-segment-far : (near : Spot) → inSpan (field .lat) (cut32 (near .lat)) ≡ true → inSpan (field .lon) (cut32 (near .lon)) ≡ true → Further least (toSegment near (spotOf fix))
-  unfolding toSegment
-  to-segment-far near h k =
-      let y = close (near .lat) (cut32 (near .lat)) (fix .lat .0) refl (not-zero (field .lat) (cut32 (near .lat)) (remote .lat-sign) h) (nearby-size (field .lat) (cut32 (near .lat)) (remote .lat-near) h) (remote .lat-fix) in
-      let x = close (near .lon) (cut32 (near .lon)) (fix .lon .0) refl (not-zero (field .lon) (cut32 (near .lon)) (remote .lon-sign) k) (nearby-size (field .lon) (cut32 (near .lon)) (remote .lon-near) k) (remote .lon-fix) in
-      let fy = far-size (remote .lat-reach) (fix .lat .0) (field .lat) (cut32 (near .lat)) (remote .lat-far) h in
-      let fx = far-size (remote .lon-reach) (fix .lon .0) (field .lon) (cut32 (near .lon)) (remote .lon-far) k in
-      reached least (remote .lat-reach) (remote .lon-reach) (cut64 (near .lat ⊟ toF32 (fix .lat .0))) (cut64 (near .lon ⊟ toF32 (fix .lon .0)))
-      (omega (arith, fy, y .least)) (omega (arith, fx, x .least)) (y .most) (x .most) (remote .enough)
-
-  -- An edge in a remote field is not nearer than the least distance so far.
-  too-far : (from to : Point) → within field from ≡ true → within field to ≡ true → Further least (distanceOf fix from to)
-  unfolding distanceOf
-  too-far from to h k = by (inBox to (cutOf near) from) refl
-    where
-      near : Spot
-      near = closestOn (edgeOf from to) (spotOf fix)
-
-      by : (t : Bool) → inBox to (cutOf near) from ≡ t → Further least (if t then toSegment near (spotOf fix) else toVertex to fix)
-      by true e =
-          let p = within-both field from h in
-          let q = within-both field to k in
-          let b = in-both to (cutOf near) from e in
-          to-segment-far near (between-span (field .lat) (to .lat .0) (cut32 (near .lat)) (from .lat .0) (q .0) (p .0) (b .0)) (between-span (field .lon) (to .lon .0) (cut32 (near .lon)) (from .lon .0) (q .1) (p .1) (b .1))
-      by false e = to-vertex-far to k
-
--- So it changes nothing.
-pub too-far-to-matter : (fix : Point) (field : Field) (tally : Tally) → Remote fix (tally .least) field → (from to : Point) → within field from ≡ true → within field to ≡ true → measured true fix from to tally ≡ found tally
-unfolding measured
-too-far-to-matter fix field tally remote from to h k =
-    let f = too-far fix field (tally .least) remote from to h k in
-    rw (f .is) (ap (λ (n : ℕ). found (record { winding = tally .winding; least = n })) (omega (arith, f .further)))
-
--- A remote field aside of the fix is calm, with the distance asked for.
-pub remote-calm : (fix : Point) (tally : Tally) (field : Field) → aside fix field ≡ true → Remote fix (tally .least) field → Calm fix true tally field
-remote-calm fix tally field beyond remote =
-    record {
-      keeps = λ from to h k. gliding-measures fix from to (field-quadrant fix field beyond from to h k) true tally ∙ too-far-to-matter fix field tally remote from to h k;
-    }

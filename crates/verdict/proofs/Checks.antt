@@ -1,8 +1,5 @@
 -- A result that the checked Rust holds against a range, where it was found inside and where not. Assumes nothing.
-use Prim.Native.Nat.{ℕ, _<_, _^_}
-use mathlib.Core.{Path.{_≡_, sym, _∙_}, Bool.{Bool, true, false}}
-use lib.{Dec.{ltb}, IntN.{ℤ}, Signed.{mag}}
-use borrow.Author.Tests.{lt-ltb}
+use Rattle.numbers.proofs.Prelude.{ℕ, _^_, _<_, lt-ltb, ltb, ℤ, mag, Bool, true, false, _≡_, sym, _∙_}
 use Rattle.verdict.specs.Step.{found, refused, checked}
 
 module _ (bits : ℕ) (z : ℤ) {t : Bool} (e : t ≡ ltb (mag z) (2 ^ bits)) where

@@ -1,21 +1,17 @@
 -- Coordinates and windings are i32: equal and between, read back from their bits. Assumes nothing.
-use native.Mathlib.{Nat.{le-refl}, Omega.{arith}}
-use mathlib.Core.{Path.{_≡_, sym, ap, _∙_}, Bool.{Bool, true, false}}
-use lib.{Dec.{leb, eqb}, IntN.{ℤ, pos, negsuc}}
-use mir.{Syntax.{w32}, Val.{SFits, toZ, ofZ}, Facts.{toZ-ofZ}}
-use borrow.Author.Tests.{leb-true, le-leb, eq-eqb, ne-eqb, eqb-true}
+use Rattle.numbers.proofs.Prelude.{eq-eqb, ne-eqb, le-leb, leb-true, eqb-true, eqb, leb, ℤ, pos, negsuc, Bool, true, false, _≡_, sym, ap, _∙_, w32, SFits, ofZ, toZ, le-refl, arith}
+use Rattle.numbers.proofs.Tests.{differ, both}
+use mir.Facts.{toZ-ofZ}
 use Rattle.verdict.specs.Edge.{sameZ, between}
-use Rattle.numbers.proofs.Tests.{differ}
 use Rattle.border.proofs.Signs.{by-test}
-use Rattle.numbers.proofs.Tests.{both}
 
 -- ---- equality
 
-same-self : (a : ℤ) → sameZ a a ≡ true
+pub same-self : (a : ℤ) → sameZ a a ≡ true
 same-self (pos n) = rw (le-leb n n (le-refl n))
 same-self (negsuc n) = rw (le-leb n n (le-refl n))
 
-same-eq : (a b : ℤ) → sameZ a b ≡ true → a ≡ b
+pub same-eq : (a b : ℤ) → sameZ a b ≡ true → a ≡ b
 same-eq (pos a) (pos b) e = let p = both (leb a b) (leb b a) e in ap pos (omega (arith, leb-true a b (p .0), leb-true b a (p .1)))
 same-eq (pos a) (negsuc b) e = differ e
 same-eq (negsuc a) (pos b) e = differ e
@@ -27,9 +23,8 @@ module _ {a b : ℤ} (f : SFits w32 a) (g : SFits w32 b) where
   -- equality is tested on the bits
   pub same-bits : eqb (ofZ w32 a) (ofZ w32 b) ≡ sameZ a b
   same-bits =
-      by-test (eqb (ofZ w32 a) (ofZ w32 b)) (sameZ a b)
-      (λ e. ap (sameZ a) (sym (toZ-ofZ g) ∙ ap (toZ w32) (sym (eqb-true (ofZ w32 a) (ofZ w32 b) e)) ∙ toZ-ofZ f) ∙ same-self a)
-      (λ e. eq-eqb _ _ (ap (ofZ w32) (same-eq a b e)))
+      by-test (eqb (ofZ w32 a) (ofZ w32 b)) (sameZ a b) (λ e. ap (sameZ a) (sym (toZ-ofZ g) ∙ ap (toZ w32) (sym (eqb-true (ofZ w32 a) (ofZ w32 b) e)) ∙ toZ-ofZ f)
+      ∙ same-self a) (λ e. eq-eqb _ _ (ap (ofZ w32) (same-eq a b e)))
 
   pub same-read : ofZ w32 a ≡ ofZ w32 b → sameZ a b ≡ true
   same-read e = sym same-bits ∙ eq-eqb _ _ e

@@ -1,25 +1,14 @@
 -- Points strictly inside one quadrant about a location leave the winding as it is. Assumes nothing.
-use Prim.Native.Nat.{ℕ, _+_, _-_, _%_, _^_, _≤_, _<_}
-use borrow.Author.Tests.{ltb-true, leb-true, le-leb, lt-leb, lt-ltb}
-use lib.{IntN.{ℤ, pos, negsuc, _+ℤ_}, ListN.{length}, Signed.{ltZ, leZ, mag}}
-use mir.{Syntax.{w32}, Val.{SFits}}
-use mathlib.Core.{Bool.{Bool, true, false, not, _&&_, _||_, and-false}, List.{List}, Path.{_≡_, refl, sym, ap, _∙_, subst}}
-use native.Mathlib.{Nat.{le-refl}, Omega.{arith}}
-use Rattle.numbers.proofs.Tests.{differ}
-use Rattle.border.proofs.Trace.{gives-trace}
-use Rattle.numbers.proofs.Tests.{both}
-use Rattle.border.proofs.reader.Turns.{open-packed, open-plain, turn-move, backward-move, advances, counted-before, pair-read, pair-moves}
-use Rattle.border.specs.{Encoding.{encodedBy}, Place.{pointAt, moveBy, isStill, movedBy, negated}, Reader.{gives, shownBy, advanced, backwardFrom}}
-use Rattle.border.specs.Trace.{Trace, point, traceOf}
-use Rattle.border.specs.declared.place.Point.{Point}
-use Rattle.border.specs.declared.reader.{Reader.{Reader}, Encoding.{Encoding}, Version.{Version, the-variants.{Plain, Packed}}, Run.{Run, the-variants.{Idle, Backward}}}
-use Rattle.verdict.specs.{Distance.{measured}, Edge.{sameZ, samePoint, straight, between, inBox, quadrantOf}}
+use Rattle.numbers.proofs.{Answers.{All}, Laws.{Read, Before, backward-read}, Prelude.{ℕ, _+_, _-_, _%_, _^_, _≤_, _<_, lt-ltb, le-leb, leb-true, ltb-true, lt-leb, ℤ, pos, negsuc, _+ℤ_, length, mag}}
+use Rattle.numbers.proofs.{Prelude.{ltZ, leZ, Bool, true, false, _&&_, _||_, not, List, _≡_, refl, sym, ap, subst, _∙_, w32, SFits, le-refl, arith}, Readings.{reading-read}, Tests.{differ, both}}
+use Rattle.numbers.specs.{Answer.{found, checked, if_then_else_}, Point.{signedOf, pointOf}, Varint.{Numeral, numeral, readingOf, backwardAt}, declared.point.RawPoint.{RawPoint}}
+use mathlib.Core.Bool.{and-false, or-true}
+use Rattle.border.{proofs.{Trace.{gives-trace}, reader.Turns.{open-packed, open-plain, turn-move, backward-move, advances, counted-before, pair-read, pair-moves}}, specs.Encoding.{encodedBy}}
+use Rattle.border.specs.{Place.{pointAt, moveBy, isStill, movedBy, negated}, Reader.{gives, shownBy, advanced, backwardFrom}, Trace.{Trace, point, traceOf}, declared.place.Point.{Point}}
+use Rattle.border.specs.declared.reader.{Encoding.{Encoding}, Reader.{Reader}, Run.{Run, the-variants.{Idle, Backward}}, Version.{Version, the-variants.{Plain, Packed}}}
+use Rattle.verdict.specs.{Distance.{measured}, Edge.{sameZ, samePoint, straight, between, inBox, quadrantOf}, Verdict.{after, along, passing, thenOn, judge}}
+use Rattle.verdict.specs.{Winding.{quarterBy, clearOf, woundBy}, declared.{field.{Field.{Field}, Span.{Span}}, step.Tally.{Tally}}}
 use Rattle.verdict.specs.inner.Gliding.{sameSide, inOneQuadrant, inSpan, beside, aside, within, Glides, stays, glides, GlidesTo, standing, GlidesForth, GlidesBack, GlidesPlain, points, Calm}
-use Rattle.verdict.specs.{Verdict.{after, along, passing, thenOn, judge}, Winding.{quarterBy, clearOf, woundBy}}
-use Rattle.verdict.specs.declared.{field.{Span.{Span}, Field.{Field}}, step.Tally.{Tally}}
-use Rattle.numbers.specs.{Answer.{found, checked, if_then_else_}, Point.{signedOf, pointOf}, Varint.{Numeral, numeral, readingOf, backwardAt}}
-use Rattle.numbers.specs.declared.point.RawPoint.{RawPoint}
-use Rattle.numbers.proofs.{Answers.{All}, Laws.{Read, Before, backward-read}, Readings.{reading-read}}
 use Rattle.verdict.specs.Step as S
 
 -- ---- the order of whole numbers
@@ -58,28 +47,20 @@ record Compared (x a b : ℤ) : Type 0 where
 
 compared : (x a b : ℤ) → sameSide x a b ≡ true → Compared x a b
 unfolding sameSide
-compared x a b e = by (ltZ x a && ltZ x b) refl e
-  where
-    by : (t : Bool) → (ltZ x a && ltZ x b) ≡ t → (t || (ltZ a x && ltZ b x)) ≡ true → Compared x a b
-    by true l r =
-        let h = both (ltZ x a) (ltZ x b) l in
-        let p = less-le x a (h .0) in
-        let q = less-le x b (h .1) in
-        record { up = true; left = p .0; left-back = p .1; right = q .0; right-back = q .1 }
-    by false l r =
-        let h = both (ltZ a x) (ltZ b x) r in
-        let p = less-le a x (h .0) in
-        let q = less-le b x (h .1) in
-        record { up = false; left = p .1; left-back = p .0; right = q .1; right-back = q .0 }
+compared x a b e = by (ltZ x a && ltZ x b) refl e where
+  by : (t : Bool) → (ltZ x a && ltZ x b) ≡ t → (t || (ltZ a x && ltZ b x)) ≡ true → Compared x a b
+  by true l r = let h = both (ltZ x a) (ltZ x b) l in let p = less-le x a (h .0) in let q = less-le x b (h .1) in
+      record { up = true; left = p .0; left-back = p .1; right = q .0; right-back = q .1 }
+  by false l r = let h = both (ltZ a x) (ltZ b x) r in let p = less-le a x (h .0) in let q = less-le b x (h .1) in
+      record { up = false; left = p .1; left-back = p .0; right = q .1; right-back = q .0 }
 
 -- the fix lies outside the two numbers' range, and is neither
 outside : {x a b : ℤ} → Compared x a b → (between b x a ≡ false) × (sameZ b x ≡ false)
 unfolding between
-outside h = rw (h .left, h .left-back, h .right, h .right-back) (never (h .up))
-  where
-    never : (t : Bool) → (((not t && t) || (not t && t)) ≡ false) × ((not t && t) ≡ false)
-    never true = (refl, refl)
-    never false = (refl, refl)
+outside h = rw (h .left, h .left-back, h .right, h .right-back) (never (h .up)) where
+  never : (t : Bool) → (((not t && t) || (not t && t)) ≡ false) × ((not t && t) ≡ false)
+  never true = (refl, refl)
+  never false = (refl, refl)
 
 abbrev quadrant : Bool → Bool → ℕ
 quadrant north east = if north then (if east then 0 else 1) else (if east then 3 else 2)
@@ -127,13 +108,9 @@ module _ (fix from to : Point) (inside : inOneQuadrant fix from to ≡ true) whe
 
 -- ---- fields
 
-le-self : (x : ℤ) → leZ x x ≡ true
+pub le-self : (x : ℤ) → leZ x x ≡ true
 le-self (pos n) = le-leb n n (le-refl n)
 le-self (negsuc n) = le-leb n n (le-refl n)
-
-pub or-true : (t : Bool) → (t || true) ≡ true
-or-true true = refl
-or-true false = refl
 
 -- the numbers above x, and those below
 pub beside-above : (x high : ℤ) → beside x (record { low = x; high = high }) ≡ true
@@ -146,17 +123,16 @@ beside-below x low = rw (le-self x) (or-true (leZ x low))
 
 same-in-span : (x : ℤ) (span : Span) (a b : ℤ) → beside x span ≡ true → inSpan span a ≡ true → inSpan span b ≡ true → sameSide x a b ≡ true
 unfolding beside inSpan sameSide
-same-in-span x span a b e h k = by (leZ x (span .low)) refl e
-  where
-    p : (ltZ (span .low) a ≡ true) × (ltZ a (span .high) ≡ true)
-    p = both (ltZ (span .low) a) (ltZ a (span .high)) h
+same-in-span x span a b e h k = by (leZ x (span .low)) refl e where
+  p : (ltZ (span .low) a ≡ true) × (ltZ a (span .high) ≡ true)
+  p = both (ltZ (span .low) a) (ltZ a (span .high)) h
 
-    q : (ltZ (span .low) b ≡ true) × (ltZ b (span .high) ≡ true)
-    q = both (ltZ (span .low) b) (ltZ b (span .high)) k
+  q : (ltZ (span .low) b ≡ true) × (ltZ b (span .high) ≡ true)
+  q = both (ltZ (span .low) b) (ltZ b (span .high)) k
 
-    by : (t : Bool) → leZ x (span .low) ≡ t → (t || leZ (span .high) x) ≡ true → ((ltZ x a && ltZ x b) || (ltZ a x && ltZ b x)) ≡ true
-    by true l r = rw (le-less x (span .low) a l (p .0), le-less x (span .low) b l (q .0))
-    by false l r = rw (less-le-less a (span .high) x (p .1) r, less-le-less b (span .high) x (q .1) r) (or-true (ltZ x a && ltZ x b))
+  by : (t : Bool) → leZ x (span .low) ≡ t → (t || leZ (span .high) x) ≡ true → ((ltZ x a && ltZ x b) || (ltZ a x && ltZ b x)) ≡ true
+  by true l r = rw (le-less x (span .low) a l (p .0), le-less x (span .low) b l (q .0))
+  by false l r = rw (less-le-less a (span .high) x (p .1) r, less-le-less b (span .high) x (q .1) r) (or-true (ltZ x a && ltZ x b))
 
 pub aside-of : (fix : Point) (field : Field) → beside (fix .lat .0) (field .lat) ≡ true → beside (fix .lon .0) (field .lon) ≡ true → aside fix field ≡ true
 unfolding aside
@@ -174,22 +150,19 @@ module _ (fix : Point) (field : Field) (beyond : aside fix field ≡ true) where
   -- any two of its points lie in one quadrant
   pub field-quadrant : (from to : Point) → within field from ≡ true → within field to ≡ true → inOneQuadrant fix from to ≡ true
   unfolding aside inOneQuadrant
-  field-quadrant from to h k =
-      let b = both (beside (fix .lat .0) (field .lat)) (beside (fix .lon .0) (field .lon)) beyond in
-      let p = within-both field from h in
-      let q = within-both field to k in
+  field-quadrant from to h k = let b = both (beside (fix .lat .0) (field .lat)) (beside (fix .lon .0) (field .lon)) beyond in
+      let p = within-both field from h in let q = within-both field to k in
       rw (same-in-span _ _ _ _ (b .0) (p .0) (q .0), same-in-span _ _ _ _ (b .1) (p .1) (q .1))
 
 -- between the ends of an i32's span there are only i32s
 pub span-fits : (span : Span) (x : ℤ) → SFits w32 (span .low) → SFits w32 (span .high) → inSpan span x ≡ true → SFits w32 x
 unfolding inSpan
-span-fits span x f g h = let p = both (ltZ (span .low) x) (ltZ x (span .high)) h in record { sfits = go (span .low) (span .high) x (f .sfits) (g .sfits) (p .0) (p .1) }
-  where
-    go : (low high x : ℤ) → mag low < 2 ^ 31 → mag high < 2 ^ 31 → ltZ low x ≡ true → ltZ x high ≡ true → mag x < 2 ^ 31
-    go low (pos b) (pos n) f g h k = omega (arith, g, ltb-true n b k)
-    go low (negsuc b) (pos n) f g h k = differ k
-    go (pos a) high (negsuc n) f g h k = differ h
-    go (negsuc a) high (negsuc n) f g h k = omega (arith, f, ltb-true n a h)
+span-fits span x f g h = let p = both (ltZ (span .low) x) (ltZ x (span .high)) h in record { sfits = go (span .low) (span .high) x (f .sfits) (g .sfits) (p .0) (p .1) } where
+  go : (low high x : ℤ) → mag low < 2 ^ 31 → mag high < 2 ^ 31 → ltZ low x ≡ true → ltZ x high ≡ true → mag x < 2 ^ 31
+  go low (pos b) (pos n) f g h k = omega (arith, g, ltb-true n b k)
+  go low (negsuc b) (pos n) f g h k = differ k
+  go (pos a) high (negsuc n) f g h k = differ h
+  go (negsuc a) high (negsuc n) f g h k = omega (arith, f, ltb-true n a h)
 
 pub fits : (z : ℤ) → mag z < 2 ^ 31 → SFits w32 z
 fits z h = record { sfits = h }
@@ -216,7 +189,8 @@ module _ {fix : Point} {asked : Bool} {tally : Tally} {field : Field} (calm : Ca
   glide-point from to h k trace = rw (calm .keeps from to h k)
 
   -- A border whose next points stay in a calm field is judged as what is left of it after the last of them.
-  pub glide-trace : (from : Point) {last : Point} {trace rest : Trace} → within field from ≡ true → Glides field from trace last rest → judge fix asked (after last) tally rest ≡ judge fix asked (after from) tally trace
+  pub glide-trace : (from : Point) {last : Point} {trace rest : Trace} → within field from ≡ true → Glides field from trace last rest
+      → judge fix asked (after last) tally rest ≡ judge fix asked (after from) tally trace
   glide-trace from h stays = refl
   glide-trace from h (glides {to = to} {trace = trace} k g) = glide-trace to k g ∙ glide-point from to h k trace
 
@@ -242,9 +216,8 @@ module _ (f : List ℕ) (strict : Bool) (field : Field) where
   forth-stays place p = record { forth = λ base moves first. stays }
 
   -- outside a reference a number that is not 0 leads on, inside the field
-  pub forth-on : {start mid : ℕ} {from p : Point} → GlidesForth f strict field start from mid p → {value next : ℕ} {to : Point}
-      → numeral value next ≡ readingOf strict f mid → (value ≡ 0 → ⊥) → found to ≡ movedBy p (pointOf value) → within field to ≡ true
-      → GlidesForth f strict field start from next to
+  pub forth-on : {start mid : ℕ} {from p : Point} → GlidesForth f strict field start from mid p → {value next : ℕ} {to : Point} → numeral value next ≡ readingOf strict f mid
+      → (value ≡ 0 → ⊥) → found to ≡ movedBy p (pointOf value) → within field to ≡ true → GlidesForth f strict field start from next to
   forth-on {mid = mid} {p = p} h {value} {next} {to} read n moved inside =
       record {
         forth = λ base moves first.
@@ -286,7 +259,7 @@ module _ (f : List ℕ) (field : Field) (end : ℕ) where
 
   -- whatever was read backward stands lower
   pub less-below : (place : ℕ) {value next : ℕ} → numeral value next ≡ backwardAt f place → next < place
-  less-below place e = let read = subst (All (Before f place)) (sym e) (backward-read f place) in read .falls
+  less-below place e = subst (All (Before f place)) (sym e) (backward-read f place) .falls
 
 -- ---- version 0
 
@@ -299,9 +272,8 @@ module _ (f : List ℕ) (strict : Bool) (field : Field) where
 
   -- a move that is not nothing leads on, inside the field
   pub plain-on : {start count mid moves : ℕ} {from p : Point} → GlidesPlain f strict field start count from mid moves p → {lat lon middle next : ℕ} {to : Point}
-      → numeral lat middle ≡ readingOf strict f mid → numeral lon next ≡ readingOf strict f middle → 0 < moves
-      → isStill (moveBy (signedOf lat) (signedOf lon)) ≡ false → found to ≡ movedBy p (moveBy (signedOf lat) (signedOf lon)) → within field to ≡ true
-      → GlidesPlain f strict field start count from next (moves - 1) to
+      → numeral lat middle ≡ readingOf strict f mid → numeral lon next ≡ readingOf strict f middle → 0 < moves → isStill (moveBy (signedOf lat) (signedOf lon)) ≡ false
+      → found to ≡ movedBy p (moveBy (signedOf lat) (signedOf lon)) → within field to ≡ true → GlidesPlain f strict field start count from next (moves - 1) to
   plain-on {mid = mid} {moves = moves} {p = p} h {lat} {lon} {middle} {next} {to} read second more stirs moved inside =
       record {
         plainly = λ base first.
@@ -321,11 +293,11 @@ module _ (f : List ℕ) (strict : Bool) (field : Field) where
 -- ---- any state
 
 -- with the points that were kept of the two states
-pub carried : (f : List ℕ) (encoding : Encoding) (fix : Point) (asked : Bool) (tally : Tally) (s r : Reader) (p q : Point) {field : Field} → Calm fix asked tally field → within field (s .point) ≡ true → GlidesTo f encoding field s r
-    → p ≡ r .point → q ≡ s .point → judge fix asked (after p) tally (traceOf f encoding r) ≡ judge fix asked (after q) tally (traceOf f encoding s)
+pub carried : (f : List ℕ) (encoding : Encoding) (fix : Point) (asked : Bool) (tally : Tally) (s r : Reader) (p q : Point) {field : Field} → Calm fix asked tally field
+    → within field (s .point) ≡ true → GlidesTo f encoding field s r → p ≡ r .point → q ≡ s .point
+    → judge fix asked (after p) tally (traceOf f encoding r) ≡ judge fix asked (after q) tally (traceOf f encoding s)
 carried f encoding fix asked tally s r p q calm inside g h k =
-    ap (λ (o : Point). judge fix asked (after o) tally (traceOf f encoding r)) h
-    ∙ glide-trace calm (s .point) inside g
+    ap (λ (o : Point). judge fix asked (after o) tally (traceOf f encoding r)) h ∙ glide-trace calm (s .point) inside g
     ∙ ap (λ (o : Point). judge fix asked (after o) tally (traceOf f encoding s)) (sym k)
 
 module _ (s : Reader) (begun : s .begun ≡ true) (unclosed : s .closed ≡ false) {run : Run} (runs : s .run ≡ run) where
@@ -335,9 +307,11 @@ module _ (s : Reader) (begun : s .begun ≡ true) (unclosed : s .closed ≡ fals
       ∙ ap (λ (t : Bool). record { place = s .place; moves = s .moves; begun = true; closed = t; run = s .run; point = s .point; first = s .first }) unclosed
       ∙ ap (λ (r : Run). record { place = s .place; moves = s .moves; begun = true; closed = false; run = r; point = s .point; first = s .first }) runs
 
-  pub from-standing : (f : List ℕ) (encoding : Encoding) (field : Field) (r : Reader) → GlidesTo f encoding field (standing (s .first) (s .place) (s .moves) run (s .point)) r → GlidesTo f encoding field s r
+  pub from-standing : (f : List ℕ) (encoding : Encoding) (field : Field) (r : Reader) → GlidesTo f encoding field (standing (s .first) (s .place) (s .moves) run (s .point)) r
+      → GlidesTo f encoding field s r
   from-standing f encoding field r g = subst (λ (t : Reader). Glides field (s .point) (traceOf f encoding t) (r .point) (traceOf f encoding r)) (sym stands) g
 
 -- an encoding of a known version
-pub of-version : (f : List ℕ) (encoding : Encoding) (field : Field) (s r : Reader) {version : Version} → encoding .version ≡ version → GlidesTo f (encodedBy (encoding .strict) version (encoding .«data»)) field s r → GlidesTo f encoding field s r
+pub of-version : (f : List ℕ) (encoding : Encoding) (field : Field) (s r : Reader) {version : Version} → encoding .version ≡ version
+    → GlidesTo f (encodedBy (encoding .strict) version (encoding .«data»)) field s r → GlidesTo f encoding field s r
 of-version f encoding field s r e g = subst (λ (v : Version). GlidesTo f (encodedBy (encoding .strict) v (encoding .«data»)) field s r) (sym e) g

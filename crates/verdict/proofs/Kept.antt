@@ -1,9 +1,6 @@
 -- What is kept of a point: its quadrant, one of four, and its floats where the distance is asked for. Assumes nothing.
-use Prim.Native.Nat.{ℕ, _≤_}
-use mathlib.Core.{Path.{_≡_, sym, ap, _∙_}, Bool.{Bool, true, false}}
-use lib.{Dec.{lit≤}, Signed.{leZ}}
-use Rattle.numbers.specs.Answer.{if_then_else_}
-use Rattle.verdict.specs.{Edge.{quadrantOf, spotOf}, inner.Kept.{seenFrom}, declared.edge.{Spot.{Spot}, Seen.{Seen}}}
+use Rattle.numbers.{proofs.Prelude.{_≤_, lit≤, leZ, Bool, true, false, _≡_, sym, ap, _∙_}, specs.Answer.{if_then_else_}}
+use Rattle.verdict.specs.{Edge.{quadrantOf, spotOf}, declared.edge.Seen.{Seen}, inner.Kept.{seenFrom}}
 use Rattle.border.specs.declared.place.Point.{Point}
 
 one-of-four : (t u : Bool) → (if t then (if u then 0 else 1) else (if u then 3 else 2)) ≤ 3

@@ -1,15 +1,9 @@
 -- The left bound of the crossing test never leaves an i32, so its 13 is never given: at the least longitude no point lies west of the
 -- location, and no edge leads across two quadrants. Assumes nothing.
-use Prim.Native.Nat.{ℕ, suc, _+_, _-_, _%_, _^_, _<_}
-use native.Mathlib.Omega.{arith}
-use mathlib.Core.{Path.{_≡_, refl, sym, ap, _∙_}, Bool.{Bool, true, false, cond}, Logic.{_⊎_, inl, inr}}
-use lib.{Dec.{ltb, eqb}, IntN.{ℤ, pos, negsuc, _-ℤ_}, Signed.{leZ, mag}}
-use mir.{Syntax.{w32}, Val.{SFits}}
-use borrow.Author.Tests.{le-leb, ltb-true, ltb-false}
-use Rattle.numbers.specs.Answer.{if_then_else_}
-use Rattle.verdict.specs.{Step.{found, checked}, Edge.{quadrantOf}}
+use Rattle.numbers.proofs.Prelude.{ℕ, suc, _+_, _-_, _%_, _^_, _<_, le-leb, ltb-true, ltb-false, eqb, ltb, ℤ, pos, negsuc, _-ℤ_, mag, leZ, Bool, true, false, _⊎_, inl, inr, _≡_, refl, sym, ap, _∙_}
+use Rattle.numbers.{proofs.{Prelude.{w32, SFits, arith}, Signed.{mag-cond}, Tests.{differ}}, specs.Answer.{if_then_else_}}
+use Rattle.verdict.specs.{Edge.{quadrantOf}, Step.{found, checked}}
 use Rattle.border.specs.declared.place.Point.{Point}
-use Rattle.numbers.proofs.Tests.{differ}
 use Rattle.verdict.proofs.Checks.{checked-fits}
 
 abbrev least : ℤ
@@ -20,12 +14,8 @@ below : (n : ℕ) (t : Bool) → ltb n 2147483647 ≡ t → n < 2 ^ 31 → (negs
 below n true e h = inr (omega (arith, ltb-true n 2147483647 e))
 below n false e h = inl (ap negsuc (omega (arith, ltb-false n 2147483647 e)))
 
-either-small : (t : Bool) (a b : ℕ) → a < 2 ^ 31 → b < 2 ^ 31 → mag (cond t (negsuc a) (pos b)) < 2 ^ 31
-either-small true a b h g = h
-either-small false a b h g = g
-
 before-fits : (z : ℤ) → SFits w32 z → (z ≡ least) ⊎ (mag (z -ℤ pos 1) < 2 ^ 31)
-before-fits (pos n) h = inr (let x : n < 2 ^ 31 = h .sfits in either-small (ltb n 1) (1 - suc n) (n - 1) (omega arith) (omega arith))
+before-fits (pos n) h = inr (let x : n < 2 ^ 31 = h .sfits in mag-cond (ltb n 1) (1 - suc n) (n - 1) (2 ^ 31) (omega arith) (omega arith))
 before-fits (negsuc n) h = below n (ltb n 2147483647) refl (h .sfits)
 
 least-le : (z : ℤ) → SFits w32 z → leZ least z ≡ true

@@ -1,16 +1,10 @@
 -- Which numbers a border can be refused with where it is judged: 12 and 13, and 31 where it is read strictly. Assumes nothing.
-use mathlib.Core.{Bool.{Bool, true, _&&_}, Path.{_≡_}, List.{List}}
-use Prim.Native.Nat.{ℕ, _+_, _-_, _%_, _^_}
-use lib.{Dec.{ltb, eqb}, IntN.{ℤ, pos, negsuc}, Signed.{mag, ltZ}}
-use Rattle.numbers.proofs.Refusals.{either}
-use Rattle.verdict.specs.Distance.{squared, toSegment, toVertex, distanceOf, measured}
-use Rattle.verdict.specs.{Edge.{samePoint, sameZ, inBox, straight, quadrantOf, spotOf, edgeOf, closestOn, cutOf}, Step.{Step}}
-use Rattle.verdict.specs.Verdict.{Judgement, Last, none, after, along, passing, closedAt, thenOn, judge, judgedAt}
-use Rattle.verdict.specs.{Stretch.{leapt}, Winding.{turned, quarterBy, turnAt, acrossBy, clearOf, woundBy}}
-use Rattle.verdict.specs.declared.edge.{Edge.{Edge, the-variants.{Sloped, EqualLongitude, EqualLatitude}}, Spot.{Spot}}
-use Rattle.verdict.specs.declared.step.{Tally.{Tally}, Verdict.{Verdict}}
-use Rattle.border.specs.{Trace.{Trace}, declared.{place.{FixedLat.{FixedLat}, FixedLon.{FixedLon}, Point.{Point}}, reader.Encoding.{Encoding}}}
-use Rattle.border.proofs.Numbered.{NumberedTrace, point, closed, failed, stopped, trace-numbered}
+use Rattle.numbers.proofs.{Prelude.{ℕ, _+_, _-_, _%_, _^_, eqb, ltb, ℤ, pos, negsuc, mag, ltZ, Bool, true, _&&_, List, _≡_}, Refusals.{either}}
+use Rattle.verdict.specs.{Distance.{squared, toSegment, toVertex, distanceOf, measured}, Edge.{samePoint, sameZ, inBox, straight, quadrantOf, spotOf, edgeOf, closestOn, cutOf}, Step.{Step}}
+use Rattle.verdict.specs.{Stretch.{leapt}, Verdict.{Judgement, Last, none, after, along, passing, closedAt, thenOn, judge, judgedAt}, Winding.{turned, quarterBy, turnAt, acrossBy, clearOf}}
+use Rattle.verdict.specs.{Winding.{woundBy}, declared.{edge.{Edge.{Edge, the-variants.{Sloped, EqualLongitude, EqualLatitude}}, Spot.{Spot}}, step.{Tally.{Tally}, Verdict.{Verdict}}}}
+use Rattle.border.{proofs.Numbered.{NumberedTrace, point, closed, failed, stopped, trace-numbered}, specs.{Trace.{Trace}, declared.place.{FixedLat.{FixedLat}, FixedLon.{FixedLon}, Point.{Point}}}}
+use Rattle.border.specs.declared.reader.Encoding.{Encoding}
 use Rattle.verdict.specs.Step as S
 use Rattle.verdict.specs.Verdict as J
 
@@ -50,9 +44,7 @@ module _ {P : ℕ → Type 0} (twelve : P 12) (thirteen : P 13) where
 
   distance : (fix from to : Point) → NumberedStep P (distanceOf fix from to)
   unfolding distanceOf
-  distance fix from to =
-      let at = spotOf fix in
-      let near = closestOn (edgeOf from to) at in
+  distance fix from to = let at = spotOf fix in let near = closestOn (edgeOf from to) at in
       either (NumberedStep P) (inBox to (cutOf near) from) (segment near at) (vertex to fix)
 
   measures : (asked : Bool) (fix from to : Point) (tally : Tally) → NumberedStep P (measured asked fix from to tally)
@@ -75,9 +67,7 @@ module _ {P : ℕ → Type 0} (twelve : P 12) (thirteen : P 13) where
   crosses : (crossing fix : FixedLon) (q : ℕ) → NumberedStep P (turnAt crossing fix q)
   unfolding turnAt
   crosses crossing fix q =
-      then-step (step-fits 31 _)
-      (λ left. either (NumberedStep P) (ltZ (crossing .0) left) goes
-      (then-step (step-fits 31 _) (λ right. either (NumberedStep P) (ltZ right (crossing .0)) goes meets)))
+      then-step (step-fits 31 _) (λ left. either (NumberedStep P) (ltZ (crossing .0) left) goes (then-step (step-fits 31 _) (λ right. either (NumberedStep P) (ltZ right (crossing .0)) goes meets)))
 
   across : (fix : Point) (edge : Edge) (q : ℕ) (tally : Tally) → NumberedStep P (acrossBy fix edge q tally)
   unfolding acrossBy
@@ -91,9 +81,7 @@ module _ {P : ℕ → Type 0} (twelve : P 12) (thirteen : P 13) where
 
   winds : (fix from to : Point) (tally : Tally) → NumberedStep P (woundBy fix from to tally)
   unfolding woundBy
-  winds fix from to tally =
-      let q = quadrantOf fix to in
-      let quarters = (q + 4 - quadrantOf fix from) % 4 in
+  winds fix from to tally = let q = quadrantOf fix to in let quarters = (q + 4 - quadrantOf fix from) % 4 in
       either (NumberedStep P) (eqb quarters 2) (across fix (edgeOf from to) q tally) (then-step (quarter quarters tally) (clear fix from to))
 
   -- ---- the verdict
@@ -109,8 +97,7 @@ module _ {P : ℕ → Type 0} (twelve : P 12) (thirteen : P 13) where
   pub closes : (asked : Bool) (tally : Tally) → NumberedJudgement P (closedAt asked tally)
   unfolding closedAt
   closes asked tally =
-      either (NumberedJudgement P) (sameZ (tally .winding) (negsuc 3)) judged
-      (either (NumberedJudgement P) (sameZ (tally .winding) (pos 4)) judged
+      either (NumberedJudgement P) (sameZ (tally .winding) (negsuc 3)) judged (either (NumberedJudgement P) (sameZ (tally .winding) (pos 4)) judged
       (either (NumberedJudgement P) (sameZ (tally .winding) (pos 0)) judged judged))
 
   pub goes-on : (asked : Bool) (least : ℕ) {step : Step Tally} {rest : Tally → Judgement} → NumberedStep P step → ((tally : Tally) → NumberedJudgement P (rest tally))

@@ -1,17 +1,12 @@
 -- A fix outside the box of a border's points is not in its zone. All points lie on one side of it, in two neighbouring quadrants, so that no edge leads across two
 -- quadrants, and back at its first point the border has turned back as often as on. It holds for coordinates of any size, and for no points too. Assumes nothing.
-use Prim.Native.Nat.{ℕ, _+_, _-_, _%_}
-use native.Mathlib.Omega.{arith}
-use mathlib.Core.{Path.{_≡_, refl, sym, ap, _∙_}, Bool.{Bool, true, false, not, _&&_, and-false}, Logic.{_⊎_, inl, inr}, List.{List, [], _∷_}}
-use lib.{Dec.{eqb}, IntN.{ℤ, pos, negsuc}, Signed.{leZ}}
-use borrow.Author.Tests.{leb-true, leb-false, le-leb}
-use Rattle.numbers.specs.Answer.{if_then_else_}
-use Rattle.border.specs.{Encoding.{encodedIn}, Place.{pointAt}, Trace.{point, closed}, Written.{Stands, pointsThen, roundTrip}}
-use Rattle.border.specs.{Box.{Box, minZ, maxZ, grown, boxOver, boxOf, holds}, declared.{place.Point.{Point}, reader.Version.{Version}}}
-use Rattle.numbers.proofs.Tests.{differ}
-use Rattle.border.proofs.Delivered.{delivered}
-use Rattle.verdict.specs.{Step.{Step, found, _>>=_, checked}, Edge.{samePoint, between, inBox, quadrantOf}, Winding.{turned, quarterBy, clearOf, woundBy}}
-use Rattle.verdict.specs.{Distance.{measured}, Verdict.{Judgement, reached, failed, refused, none, after, along, passing, closedAt, thenOn, judge, judgedAt}}
+use Rattle.numbers.proofs.Prelude.{ℕ, _+_, _-_, _%_, le-leb, leb-true, leb-false, eqb, ℤ, pos, negsuc, leZ, Bool, true, false, _&&_, not, List, [], _∷_, _⊎_, inl, inr, _≡_, refl, sym, ap, _∙_, arith}
+use Rattle.numbers.{proofs.Tests.{differ}, specs.Answer.{if_then_else_}}
+use mathlib.Core.Bool.{and-false}
+use Rattle.border.{proofs.Delivered.{delivered}, specs.{Box.{Box, minZ, maxZ, grown, boxOver, boxOf, holds}, Encoding.{encodedIn}, Place.{pointAt}, Trace.{point, closed}}}
+use Rattle.border.specs.{Written.{Stands, pointsThen, roundTrip}, declared.{place.Point.{Point}, reader.Version.{Version}}}
+use Rattle.verdict.specs.{Distance.{measured}, Edge.{samePoint, between, inBox, quadrantOf}, Step.{Step, found, _>>=_, checked}}
+use Rattle.verdict.specs.{Verdict.{Judgement, reached, failed, refused, none, after, along, passing, closedAt, thenOn, judge, judgedAt}, Winding.{turned, quarterBy, clearOf, woundBy}}
 use Rattle.verdict.specs.declared.step.{Tally.{Tally}, Verdict.the-variants.{NotInZone}}
 use Rattle.verdict.proofs.Unasked.{Agrees, asked-or-not}
 
@@ -38,19 +33,17 @@ unless false u f e = refl
 
 pub below-min : (a b x : ℤ) → leZ (minZ a b) x ≡ false → (leZ a x ≡ false) × (leZ b x ≡ false)
 unfolding minZ
-below-min a b x = by-test (leZ a b) refl
-  where
-    by-test : (t : Bool) → leZ a b ≡ t → leZ (if t then a else b) x ≡ false → (leZ a x ≡ false) × (leZ b x ≡ false)
-    by-test true e h = (h, unless (leZ b x) (leZ a x) (leZ-trans a b x e) h)
-    by-test false e h = (unless (leZ a x) (leZ b x) (leZ-trans b a x (leZ-total a b e)) h, h)
+below-min a b x = by-test (leZ a b) refl where
+  by-test : (t : Bool) → leZ a b ≡ t → leZ (if t then a else b) x ≡ false → (leZ a x ≡ false) × (leZ b x ≡ false)
+  by-test true e h = (h, unless (leZ b x) (leZ a x) (leZ-trans a b x e) h)
+  by-test false e h = (unless (leZ a x) (leZ b x) (leZ-trans b a x (leZ-total a b e)) h, h)
 
 pub above-max : (a b x : ℤ) → leZ x (maxZ a b) ≡ false → (leZ x a ≡ false) × (leZ x b ≡ false)
 unfolding maxZ
-above-max a b x = by-test (leZ a b) refl
-  where
-    by-test : (t : Bool) → leZ a b ≡ t → leZ x (if t then b else a) ≡ false → (leZ x a ≡ false) × (leZ x b ≡ false)
-    by-test true e h = (unless (leZ x a) (leZ x b) (λ k. leZ-trans x a b k e) h, h)
-    by-test false e h = (h, unless (leZ x b) (leZ x a) (λ k. leZ-trans x b a k (leZ-total a b e)) h)
+above-max a b x = by-test (leZ a b) refl where
+  by-test : (t : Bool) → leZ a b ≡ t → leZ x (if t then b else a) ≡ false → (leZ x a ≡ false) × (leZ x b ≡ false)
+  by-test true e h = (unless (leZ x a) (leZ x b) (λ k. leZ-trans x a b k e) h, h)
+  by-test false e h = (h, unless (leZ x b) (leZ x a) (λ k. leZ-trans x b a k (leZ-total a b e)) h)
 
 -- ---- the side of the fix on which points lie, and its two quadrants in the order of turning
 
@@ -208,9 +201,7 @@ module _ (fix : Point) where
   over-beyond : (side : Side) (box : Box) (ps : List Point) → Beyond side (corner side (boxOver box ps)) → Beyond side (corner side box) × AllBeyond side ps
   unfolding boxOver
   over-beyond side box [] h = (h, tt)
-  over-beyond side box (p ∷ ps) h =
-      let later = over-beyond side (grown box p) ps h in
-      let now = grown-beyond side box p (later .0) in
+  over-beyond side box (p ∷ ps) h = let later = over-beyond side (grown box p) ps h in let now = grown-beyond side box p (later .0) in
       (now .0, (now .1, later .1))
 
   box-beyond : (side : Side) (points : List Point) → Beyond side (corner side (boxOf points)) → AllBeyond side points
@@ -223,15 +214,14 @@ module _ (fix : Point) where
 
   pub on-some-side : (box : Box) → holds box fix ≡ false → (side : Side) × Beyond side (corner side box)
   on-some-side box =
-      by-tests (leZ (box .low .lat .0) (fix .lat .0)) (leZ (fix .lat .0) (box .high .lat .0)) (leZ (box .low .lon .0) (fix .lon .0)) (leZ (fix .lon .0) (box .high .lon .0)) refl refl refl refl
-    where
-      by-tests : (s t u v : Bool) → leZ (box .low .lat .0) (fix .lat .0) ≡ s → leZ (fix .lat .0) (box .high .lat .0) ≡ t → leZ (box .low .lon .0) (fix .lon .0) ≡ u → leZ (fix .lon .0) (box .high .lon .0) ≡ v
-          → (s && t && (u && v)) ≡ false → (side : Side) × Beyond side (corner side box)
-      by-tests false t u v a b c d e = (north, a)
-      by-tests true false u v a b c d e = (south, b)
-      by-tests true true false v a b c d e = (east, c)
-      by-tests true true true false a b c d e = (west, d)
-      by-tests true true true true a b c d e = differ (sym e)
+      by-tests (leZ (box .low .lat .0) (fix .lat .0)) (leZ (fix .lat .0) (box .high .lat .0)) (leZ (box .low .lon .0) (fix .lon .0)) (leZ (fix .lon .0) (box .high .lon .0)) refl refl refl refl where
+        by-tests : (s t u v : Bool) → leZ (box .low .lat .0) (fix .lat .0) ≡ s → leZ (fix .lat .0) (box .high .lat .0) ≡ t → leZ (box .low .lon .0) (fix .lon .0) ≡ u
+            → leZ (fix .lon .0) (box .high .lon .0) ≡ v → (s && t && (u && v)) ≡ false → (side : Side) × Beyond side (corner side box)
+        by-tests false t u v a b c d e = (north, a)
+        by-tests true false u v a b c d e = (south, b)
+        by-tests true true false v a b c d e = (east, c)
+        by-tests true true true false a b c d e = (west, d)
+        by-tests true true true true a b c d e = differ (sym e)
 
 -- ---- the verdict
 

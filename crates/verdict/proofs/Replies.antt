@@ -1,5 +1,5 @@
 -- A promise permits one reply: what an answer says determines it. Assumes nothing.
-use mathlib.Core.Path.{_≡_, refl, sym, ap, _∙_}
+use Rattle.numbers.proofs.Prelude.{_≡_, refl, sym, ap, _∙_}
 use Rattle.verdict.specs.{Verdict.{Judgement, reached}, declared.judge.Judged.{Judged}}
 use Rattle.verdict.specs.Verdict as Judge
 use Rattle.verdict.specs.declared.judge.Judged.the-variants as J

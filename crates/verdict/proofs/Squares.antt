@@ -1,11 +1,9 @@
 -- Squares that fit an i64: those of the numbers up to 3,037,000,499 in size. Assumes nothing.
-use Prim.Native.Nat.{ℕ, suc, _+_, _*_, _/_, _%_, _^_, _≤_, _<_}
-use native.Mathlib.{Nat.{mul-le-mul, lt-of-le-of-lt, le-trans, add-mul-mod-self-left}, Omega.{arith}}
-use mathlib.Core.{Path.{_≡_, refl, sym, ap, _∙_}, Bool.{Bool, true, false, _&&_}}
-use lib.{Dec.{T, ltb, leb, lit<, lit≤}, IntN.{ℤ, pos, negsuc, natAbs, _*ℤ_}, Signed.{mag, leZ, nonNeg}}
-use borrow.Author.Tests.{leb-true, leb-false, lt-ltb, le-ltb}
-use mir.{Syntax.{w32}, Val.{SFits}}
-use Rattle.border.proofs.Signs.{and-true}
+use Rattle.numbers.proofs.Prelude.{ℕ, suc, _+_, _*_, _/_, _%_, _^_, _≤_, _<_, lt-ltb, le-ltb, leb-true, leb-false, ltb, leb, T, lit<, lit≤, ℤ, pos, negsuc, natAbs, mag, leZ, Bool, true, false, _&&_}
+use Rattle.numbers.proofs.Prelude.{_≡_, refl, sym, ap, _∙_, w32, SFits, le-trans, lt-of-le-of-lt, mul-le-mul, arith}
+use native.Mathlib.Nat.{add-mul-mod-self-left}
+use lib.{IntN.{_*ℤ_}, Signed.{nonNeg}}
+use mathlib.Core.Bool.{and-true}
 
 square-fits : (n : ℕ) → n ≤ 3037000499 → n * n < 2 ^ 63
 square-fits n h = lt-of-le-of-lt (mul-le-mul h h) (lit< tt)
@@ -17,8 +15,7 @@ by-size n false small large = sym (le-ltb _ _ (let h = large refl in le-trans (l
 pub square-test : (z : ℤ) → (leZ (negsuc 3037000498) z && leZ z (pos 3037000499)) ≡ ltb (mag (z *ℤ z)) (2 ^ 63)
 square-test (pos n) = by-size n (leb n 3037000499) (leb-true n 3037000499) (λ e. omega (arith, leb-false n 3037000499 e))
 square-test (negsuc n) =
-    and-true (leb n 3037000498)
-    ∙ by-size (suc n) (leb n 3037000498) (λ e. omega (arith, leb-true n 3037000498 e)) (λ e. omega (arith, leb-false n 3037000498 e))
+    and-true (leb n 3037000498) ∙ by-size (suc n) (leb n 3037000498) (λ e. omega (arith, leb-true n 3037000498 e)) (λ e. omega (arith, leb-false n 3037000498 e))
 
 pub square-not-negative : (z : ℤ) → T (nonNeg (z *ℤ z))
 square-not-negative (pos n) = tt

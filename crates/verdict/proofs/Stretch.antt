@@ -1,17 +1,14 @@
 -- A stretch of a border whose box does not hold the fix lies on one side of it, in two neighbouring quadrants: it turns about the fix as its one edge from the first
 -- point to the last does. So its points in between need not be read. Assumes nothing.
-use Prim.Native.Nat.{ℕ, suc, _-_, _^_, _<_}
-use native.Mathlib.Omega.{arith}
-use mathlib.Core.{Path.{_≡_, refl, sym, ap, _∙_, subst}, Bool.{Bool, true, false, cond, _&&_, and-false}}
-use lib.{Dec.{ltb, eqb}, IntN.{ℤ, pos, negsuc, _+ℤ_, +ℤ-negℤ-cancel, -ℤ-+ℤ-cancel}, Signed.{leZ, mag}}
-use Rattle.numbers.specs.Answer.{if_then_else_}
-use Rattle.border.specs.{Trace.{Trace, point}, Box.{Box, holds}, declared.place.Point.{Point}}
-use Rattle.numbers.proofs.Tests.{both}
-use Rattle.verdict.specs.{Step.{Step, found, meets, refused, _>>=_}, Distance.{measured}, Winding.{turned, quarterBy, clearOf, woundBy}, Far.{isAfar}, inner.Afar.{fieldOf}}
-use Rattle.verdict.specs.{Verdict.{after, along, passing, thenOn, judge}, Stretch.{Stretch, stays, leads, leapt}, declared.step.Tally.{Tally}}
-use Rattle.verdict.proofs.{AfarField.{afar-quiet}, AfarBox.{holds-parts, afar-box, held-within}, Checks.{checked-fits}}
-use Rattle.verdict.proofs.OutsideBox.{Side, north, west, south, east, leZ-trans, unless, corner, tallied, first, quarters, quarters-led}
-use Rattle.verdict.proofs.OutsideBox.{Beyond, ahead, two-quadrants, no-vertex, not-in-edge-box, on-some-side}
+use Rattle.numbers.proofs.Prelude.{ℕ, suc, _-_, _^_, _<_, eqb, ltb, ℤ, pos, negsuc, _+ℤ_, mag, leZ, Bool, true, false, _≡_, refl, sym, ap, subst, _∙_, arith}
+use Rattle.numbers.{proofs.Signed.{mag-cond}, specs.Answer.{if_then_else_}}
+use mathlib.Core.Bool.{and-false}
+use lib.IntN.{+ℤ-negℤ-cancel, -ℤ-+ℤ-cancel}
+use Rattle.border.specs.{Box.{Box, holds}, Trace.{Trace, point}, declared.place.Point.{Point}}
+use Rattle.verdict.specs.{Distance.{measured}, Far.{isAfar}, Step.{Step, found, meets, refused, _>>=_}, Stretch.{Stretch, stays, leads, leapt}, Verdict.{after, along, passing, thenOn, judge}}
+use Rattle.verdict.specs.{Winding.{turned, quarterBy, clearOf, woundBy}, declared.step.Tally.{Tally}, inner.Afar.{fieldOf}}
+use Rattle.verdict.proofs.{AfarBox.{holds-parts, afar-box, held-within}, AfarField.{afar-quiet}, Checks.{checked-fits}, OutsideBox.{Side, north, west, south, east, leZ-trans, unless, corner}}
+use Rattle.verdict.proofs.OutsideBox.{tallied, first, quarters, quarters-led, Beyond, ahead, two-quadrants, no-vertex, not-in-edge-box, on-some-side}
 
 -- ---- one more quarter turn
 
@@ -19,16 +16,12 @@ use Rattle.verdict.proofs.OutsideBox.{Beyond, ahead, two-quadrants, no-
 abbrev pub Roomy : ℤ → Type 0
 Roomy w = mag w < 2147483647
 
-either-small : (t : Bool) (a b n : ℕ) → a < n → b < n → mag (cond t (negsuc a) (pos b)) < n
-either-small true a b n h g = h
-either-small false a b n h g = g
-
 up-fits : (w : ℤ) → Roomy w → mag (w +ℤ pos 1) < 2 ^ 31
 up-fits (pos n) h = omega (arith, h)
-up-fits (negsuc n) h = either-small (ltb 1 (suc n)) (suc n - suc 1) (1 - suc n) (2 ^ 31) (omega (arith, h)) (omega arith)
+up-fits (negsuc n) h = mag-cond (ltb 1 (suc n)) (suc n - suc 1) (1 - suc n) (2 ^ 31) (omega (arith, h)) (omega arith)
 
 down-fits : (w : ℤ) → Roomy w → mag (w +ℤ negsuc 0) < 2 ^ 31
-down-fits (pos n) h = either-small (ltb n 1) (1 - suc n) (n - 1) (2 ^ 31) (omega arith) (omega (arith, h))
+down-fits (pos n) h = mag-cond (ltb n 1) (1 - suc n) (n - 1) (2 ^ 31) (omega arith) (omega (arith, h))
 down-fits (negsuc n) h = omega (arith, h)
 
 roomy-fits : (w : ℤ) → Roomy w → mag w < 2 ^ 31
@@ -95,9 +88,7 @@ module _ (fix : Point) (side : Side) where
     -- it turns by a quarter or not at all, and meets nothing
     wound-on-side : (t : Tally) → woundBy fix from to t ≡ quarterBy (quarters (ahead fix side from) (ahead fix side to)) t
     unfolding woundBy
-    wound-on-side t =
-        let a = ahead fix side from in
-        let b = ahead fix side to in
+    wound-on-side t = let a = ahead fix side from in let b = ahead fix side to in
         rw (two-quadrants fix side to k, two-quadrants fix side from h, quarters-led (first side) a b, never-two a b) (unchanged (quarterBy (quarters a b) t) (clearOf fix from to) clear)
 
     -- and so does the leap from one to the other
@@ -180,9 +171,8 @@ module _ (fix : Point) (asked : Bool) (box : Box) {from to : Point} {trace rest 
 
   leap : leapt fix from to t ≡ found led-to
   leap =
-      subst (λ (u : Tally). leapt fix from to u ≡ found led-to) from-there
-      (leapt-on-side fix side from to (sided from start) (sided to (ends-held box start stretch)) (at fix side a (t .winding) (t .least) room from)
-      ∙ quarter-led a a (ahead fix side to) (t .winding) (t .least) room)
+      subst (λ (u : Tally). leapt fix from to u ≡ found led-to) from-there (leapt-on-side fix side from to (sided from start) (sided to (ends-held box start stretch))
+      (at fix side a (t .winding) (t .least) room from) ∙ quarter-led a a (ahead fix side to) (t .winding) (t .least) room)
 
   as-leap : Quiet fix asked box (t .least) → judge fix asked (after from) t trace ≡ thenOn asked (t .least) (leapt fix from to t) (λ u. judge fix asked (after to) u rest)
   unfolding thenOn
@@ -190,16 +180,16 @@ module _ (fix : Point) (asked : Bool) (box : Box) {from to : Point} {trace rest 
 
 -- A stretch whose box does not hold the fix, judged without the distance, does to what follows it what its one edge does: no point of it is met, nothing is refused, and the turns add up
 -- to the edge's. The winding before it needs room for one more quarter turn; how many points the stretch has does not matter.
-pub stretch-is-edge : (fix : Point) (box : Box) {from to : Point} {trace rest : Trace} (t : Tally) → holds box fix ≡ false → holds box from ≡ true → Stretch box from trace to rest → Roomy (t .winding)
-    → judge fix false (after from) t trace ≡ judge fix false (after from) t (point to rest)
+pub stretch-is-edge : (fix : Point) (box : Box) {from to : Point} {trace rest : Trace} (t : Tally) → holds box fix ≡ false → holds box from ≡ true
+    → Stretch box from trace to rest → Roomy (t .winding) → judge fix false (after from) t trace ≡ judge fix false (after from) t (point to rest)
 unfolding judge measured thenOn
 stretch-is-edge fix box {from} {to} {trace} {rest} t out start stretch room =
     whole fix false box t out start stretch room (λ x y h k w. refl)
     ∙ ap (λ (m : Step Tally). thenOn false (t .least) m (λ u. judge fix false (after to) u rest)) (sym (edge fix false box t out start stretch room))
 
 -- And the edge is no more than a leap from one quadrant to the same or the next,
-pub stretch-is-leap : (fix : Point) (box : Box) {from to : Point} {trace rest : Trace} (t : Tally) → holds box fix ≡ false → holds box from ≡ true → Stretch box from trace to rest → Roomy (t .winding)
-    → judge fix false (after from) t trace ≡ thenOn false (t .least) (leapt fix from to t) (λ u. judge fix false (after to) u rest)
+pub stretch-is-leap : (fix : Point) (box : Box) {from to : Point} {trace rest : Trace} (t : Tally) → holds box fix ≡ false → holds box from ≡ true
+    → Stretch box from trace to rest → Roomy (t .winding) → judge fix false (after from) t trace ≡ thenOn false (t .least) (leapt fix from to t) (λ u. judge fix false (after to) u rest)
 unfolding measured
 stretch-is-leap fix box t out start stretch room = as-leap fix false box t out start stretch room (λ x y h k w. refl)
 

@@ -1,18 +1,14 @@
 -- The distance, asked for or not, does not change the verdict: where the border is answered with it, it is answered without it, and alike.
 -- Assumes nothing.
-use Prim.Native.Nat.{ℕ, _+_, _-_, _%_, _^_, min}
-use native.Mathlib.Omega.{arith}
-use mathlib.Core.{Path.{_≡_, refl, sym, subst, ap, _∙_}, Bool.{Bool, true, false, _&&_}, List.{List}, Logic.{_⊎_, inl, inr}}
-use lib.{Dec.{ltb, eqb}, IntN.{ℤ, pos, negsuc, _+ℤ_, _-ℤ_, _*ℤ_}, Signed.{mag}}
+use Rattle.numbers.proofs.Prelude.{ℕ, _+_, _-_, _%_, _^_, min, eqb, ltb, ℤ, pos, negsuc, _+ℤ_, _-ℤ_, mag, Bool, true, false, _&&_, List, _⊎_, inl, inr, _≡_, refl, sym, ap, subst, _∙_, arith}
 use Rattle.numbers.specs.Answer.{if_then_else_}
-use Rattle.border.specs.Trace as T
-use Rattle.border.specs.{Trace.{Trace, point, closed}, declared.{place.{Point.{Point}, FixedLat.{FixedLat}, FixedLon.{FixedLon}}, reader.Encoding.{Encoding}}}
-use Rattle.verdict.specs.{Step.{Step, found, meets, _>>=_, checked}, Edge.{sameZ, samePoint, straight, inBox, quadrantOf, spotOf, edgeOf, closestOn, cutOf}}
-use Rattle.verdict.specs.Winding.{turned, quarterBy, turnAt, crossingOf, acrossBy, clearOf, woundBy}
-use Rattle.verdict.specs.Distance.{squared, toSegment, toVertex, distanceOf, measured}
-use Rattle.verdict.specs.Verdict.{Judgement, reached, failed, refused, Last, none, after, along, passing, onBorder, closedAt, thenOn, judge, judgedAt}
-use Rattle.verdict.specs.declared.edge.Edge.{Edge, the-variants.{Sloped, EqualLongitude, EqualLatitude}}
+use lib.IntN.{_*ℤ_}
+use Rattle.border.specs.{Trace.{Trace, point, closed}, declared.{place.{FixedLat.{FixedLat}, FixedLon.{FixedLon}, Point.{Point}}, reader.Encoding.{Encoding}}}
+use Rattle.verdict.specs.{Distance.{squared, toSegment, toVertex, distanceOf, measured}, Edge.{sameZ, samePoint, straight, inBox, quadrantOf, spotOf, edgeOf, closestOn, cutOf}, Step.{Step}}
+use Rattle.verdict.specs.{Step.{found, meets, _>>=_, checked}, Verdict.{Judgement, reached, failed, refused, Last, none, after, along, passing, onBorder, closedAt, thenOn, judge, judgedAt}}
+use Rattle.verdict.specs.{Winding.{turned, quarterBy, turnAt, crossingOf, acrossBy, clearOf, woundBy}, declared.edge.Edge.{Edge, the-variants.{Sloped, EqualLongitude, EqualLatitude}}}
 use Rattle.verdict.specs.declared.step.{Tally.{Tally}, Verdict.{Verdict, the-variants.{NotInZone, InZone, InExcludedZone, OnBorderVertex, OnBorderSegment}}}
+use Rattle.border.specs.Trace as T
 use Rattle.verdict.specs.Step as S
 
 -- ---- a distance is found or refused by 13, and meets no border
@@ -38,15 +34,13 @@ checked-plain bits z = if-plain (ltb (mag z) (2 ^ bits)) _ _ tt refl
 squared-plain : (lat lon : ℤ) → Plain (squared lat lon)
 unfolding squared
 squared-plain lat lon =
-    bound-plain (checked 63 (lat *ℤ lat)) _ (checked-plain 63 _)
-    (λ y. bound-plain (checked 63 (lon *ℤ lon)) _ (checked-plain 63 _) (λ x. tt))
+    bound-plain (checked 63 (lat *ℤ lat)) _ (checked-plain 63 _) (λ y. bound-plain (checked 63 (lon *ℤ lon)) _ (checked-plain 63 _) (λ x. tt))
 
 distance-plain : (fix from to : Point) → Plain (distanceOf fix from to)
 unfolding distanceOf toSegment toVertex
 distance-plain fix from to =
-    if-plain (inBox to (cutOf (closestOn (edgeOf from to) (spotOf fix))) from) _ _ (squared-plain _ _)
-    (bound-plain (checked 31 (to .lat .0 -ℤ fix .lat .0)) _ (checked-plain 31 _)
-    (λ lat. bound-plain (checked 31 (to .lon .0 -ℤ fix .lon .0)) _ (checked-plain 31 _) (λ lon. squared-plain lat lon)))
+    if-plain (inBox to (cutOf (closestOn (edgeOf from to) (spotOf fix))) from) _ _ (squared-plain _ _) (bound-plain (checked 31 (to .lat .0 -ℤ fix .lat .0)) _
+    (checked-plain 31 _) (λ lat. bound-plain (checked 31 (to .lon .0 -ℤ fix .lon .0)) _ (checked-plain 31 _) (λ lon. squared-plain lat lon)))
 
 -- a step with the distance and one without it, and a judgement with and without
 module _ (d : ℕ) where
@@ -108,12 +102,9 @@ module _ (d : ℕ) where
 
       pub wound-kept : (t : Tally) → woundBy fix from to (with t) ≡ (woundBy fix from to t >>= kept)
       unfolding woundBy
-      wound-kept t =
-          let q = quadrantOf fix to in
-          let n = (q + 4 - quadrantOf fix from) % 4 in
-          through (eqb n 2) (acrossBy fix (edgeOf from to) q t) (quarterBy n t >>= clearOf fix from to) (acrossBy fix (edgeOf from to) q (with t)) (quarterBy n (with t) >>= clearOf fix from to)
-          (across-kept (edgeOf from to) q t)
-          (ap (λ (m : Step Tally). m >>= clearOf fix from to) (quarter-kept n t) ∙ clear-kept (quarterBy n t))
+      wound-kept t = let q = quadrantOf fix to in let n = (q + 4 - quadrantOf fix from) % 4 in
+          through (eqb n 2) (acrossBy fix (edgeOf from to) q t) (quarterBy n t >>= clearOf fix from to) (acrossBy fix (edgeOf from to) q (with t))
+          (quarterBy n (with t) >>= clearOf fix from to) (across-kept (edgeOf from to) q t) (ap (λ (m : Step Tally). m >>= clearOf fix from to) (quarter-kept n t) ∙ clear-kept (quarterBy n t))
 
       -- ---- the edge
 
@@ -131,7 +122,9 @@ module _ (d : ℕ) where
     along-alike : (last : Last) (to : Point) (t : Tally) → Alike (along fix true last to t) (along fix false last to (with t))
     unfolding along
     along-alike none to t = refl
-    along-alike (after from) to t = subst (λ (m : Step Tally). Alike (woundBy fix from to t >>= measured true fix from to) (m >>= measured false fix from to)) (sym (wound-kept from to t)) (edge-alike from to (woundBy fix from to t))
+    along-alike (after from) to t =
+        subst (λ (m : Step Tally). Alike (woundBy fix from to t >>= measured true fix from to) (m >>= measured false fix from to)) (sym (wound-kept from to t))
+        (edge-alike from to (woundBy fix from to t))
 
     if-alike : (t : Bool) (v : Verdict) (m n : Step Tally) → Alike m n → Alike (if t then meets v else m) (if t then meets v else n)
     if-alike true v m n h = refl
@@ -150,7 +143,8 @@ module _ (d : ℕ) where
     then-agrees e (S.refused i) n k l (inl h) g = inl h
     then-agrees e (S.refused i) n k l (inr h) g = inr (ap (λ (x : Step Tally). thenOn false d x l) h)
 
-    tests-agree : (e : ℕ) (t u v : Bool) (a b c o : Verdict) → Agrees (if t then reached a e else (if u then reached b e else (if v then reached c e else onBorder o true e))) (if t then reached a d else (if u then reached b d else (if v then reached c d else onBorder o false d)))
+    tests-agree : (e : ℕ) (t u v : Bool) (a b c o : Verdict) → Agrees (if t then reached a e else (if u then reached b e else (if v then reached c e else onBorder o true e)))
+        (if t then reached a d else (if u then reached b d else (if v then reached c d else onBorder o false d)))
     tests-agree e true u v a b c o = refl
     tests-agree e false true v a b c o = refl
     tests-agree e false false true a b c o = refl
@@ -163,7 +157,8 @@ module _ (d : ℕ) where
     -- Where a border is answered, or fails, with the distance asked for, it is answered alike, or fails, without it; a refusal differs only by a 13.
     pub asked-or-not : (last : Last) (t : Tally) (trace : Trace) → Agrees (judge fix true last t trace) (judge fix false last (with t) trace)
     unfolding judge
-    asked-or-not last t (point to trace) = then-agrees (t .least) (passing fix true last to t) (passing fix false last to (with t)) _ _ (passing-alike last to t) (λ later. asked-or-not (after to) later trace)
+    asked-or-not last t (point to trace) =
+        then-agrees (t .least) (passing fix true last to t) (passing fix false last to (with t)) _ _ (passing-alike last to t) (λ later. asked-or-not (after to) later trace)
     asked-or-not last t closed = closed-agrees t
     asked-or-not last t T.failed = refl
     asked-or-not last t (T.refused n) = inr refl
@@ -190,8 +185,7 @@ stays fix from to (S.refused n) d u h e = let z : _≡_ {A = ℕ} 0 1 = cc in ab
 -- An edge that is passed without the distance leaves the least so far.
 pub passing-least : (fix from to : Point) (t u : Tally) → passing fix false (after from) to t ≡ found u → u .least ≡ t .least
 unfolding passing along
-passing-least fix from to t u = go (samePoint to fix)
-  where
-    go : (b : Bool) → (if b then meets OnBorderVertex else (woundBy fix from to t >>= measured false fix from to)) ≡ found u → u .least ≡ t .least
-    go true e = let z : _≡_ {A = ℕ} 0 1 = cc in absurd (omega arith)
-    go false e = stays fix from to (woundBy fix from to t) (t .least) u (wound-kept (t .least) fix from to t) e
+passing-least fix from to t u = go (samePoint to fix) where
+  go : (b : Bool) → (if b then meets OnBorderVertex else (woundBy fix from to t >>= measured false fix from to)) ≡ found u → u .least ≡ t .least
+  go true e = let z : _≡_ {A = ℕ} 0 1 = cc in absurd (omega arith)
+  go false e = stays fix from to (woundBy fix from to t) (t .least) u (wound-kept (t .least) fix from to t) e

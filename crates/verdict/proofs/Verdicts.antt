@@ -1,15 +1,10 @@
 -- Document 01's worked verdicts: the border (2,2) (10,2) (10,10) (2,10), in both versions, and its points reversed. Assumes nothing.
-use Prim.Native.Nat.{ℕ, _-_, _^_}
-use mathlib.Core.{Path.{_≡_, refl, ap, _∙_}, Bool.{true}, List.{List, [], _∷_}}
-use lib.{IntN.{pos}, Ieee.{ofInt, add, sub, mul, div, toSigned}}
-use Rattle.border.specs.{Encoding.{encodedIn}, Place.{pointAt}, Trace.{Trace, point, closed}}
-use Rattle.border.specs.declared.{place.Point.{Point}, reader.Version.{Version, the-variants.{Plain, Packed}}}
-use Rattle.border.proofs.Worked.{square, packed-square, plain-square}
-use Rattle.verdict.specs.{Step.{checked}, Edge.{samePoint, between, inBox, quadrantOf, slopeOf, edgeOf, straight, closestOn}}
-use Rattle.verdict.specs.Winding.{turned, quarterBy, halfTurn, turnAt, crossingOf, acrossBy, clearOf, woundBy}
-use Rattle.verdict.specs.Distance.{squared, toSegment, toVertex, distanceOf, measured}
-use Rattle.verdict.specs.Verdict.{Judgement, reached, none, along, passing, closedAt, thenOn, judge, judgedAt}
-use Rattle.verdict.specs.declared.step.{Tally.{Tally}, Verdict.the-variants.{InZone, InExcludedZone, OnBorderVertex, OnBorderSegment}}
+use Rattle.numbers.proofs.Prelude.{ℕ, _-_, _^_, ofInt, toSigned, add, sub, mul, div, pos, true, List, [], _∷_, _≡_, refl, ap, _∙_}
+use Rattle.border.{proofs.Worked.{square, packed-square, plain-square}, specs.{Encoding.{encodedIn}, Place.{pointAt}, Trace.{Trace, point, closed}, declared.reader.Version.{Version}}}
+use Rattle.border.specs.declared.reader.Version.the-variants.{Plain, Packed}
+use Rattle.verdict.specs.{Distance.{squared, toSegment, toVertex, distanceOf, measured}, Edge.{samePoint, between, inBox, quadrantOf, slopeOf, edgeOf, straight, closestOn}, Step.{checked}}
+use Rattle.verdict.specs.{Verdict.{Judgement, reached, none, along, passing, closedAt, thenOn, judge, judgedAt}, Winding.{turned, quarterBy, halfTurn, turnAt, crossingOf, acrossBy, clearOf}}
+use Rattle.verdict.specs.{Winding.{woundBy}, declared.step.{Tally.{Tally}, Verdict.the-variants.{InZone, InExcludedZone, OnBorderVertex, OnBorderSegment}}}
 
 abbrev start : Tally
 start = record { winding = pos 0; least = 2 ^ 64 - 1 }
@@ -18,7 +13,8 @@ abbrev at : ℕ → ℕ → Trace → Judgement
 at lat lon border = judge (pointAt (pos lat) (pos lon)) true none start border
 
 inside : at 5 5 square ≡ reached InZone 9
-unfolding judge thenOn passing along closedAt samePoint between inBox quadrantOf edgeOf straight closestOn checked turned quarterBy clearOf woundBy squared toSegment toVertex distanceOf measured ofInt sub toSigned
+unfolding judge thenOn passing along closedAt samePoint between inBox quadrantOf edgeOf straight closestOn checked turned quarterBy clearOf woundBy squared
+    toSegment toVertex distanceOf measured ofInt sub toSigned
 inside = refl
 
 vertex : at 2 2 square ≡ reached OnBorderVertex 0
@@ -26,16 +22,20 @@ unfolding judge thenOn passing samePoint
 vertex = refl
 
 segment : at 2 5 square ≡ reached OnBorderSegment 0
-unfolding judge thenOn passing along closedAt samePoint between inBox quadrantOf edgeOf straight closestOn checked turned quarterBy clearOf woundBy squared toSegment toVertex distanceOf measured ofInt sub toSigned
+unfolding judge thenOn passing along closedAt samePoint between inBox quadrantOf edgeOf straight closestOn checked turned quarterBy clearOf woundBy squared
+    toSegment toVertex distanceOf measured ofInt sub toSigned
 segment = refl
 
-pub reversed-inside : at 5 5 (point (pointAt (pos 2) (pos 10)) (point (pointAt (pos 10) (pos 10)) (point (pointAt (pos 10) (pos 2)) (point (pointAt (pos 2) (pos 2)) (point (pointAt (pos 2) (pos 10)) closed))))) ≡ reached InExcludedZone 9
-unfolding judge thenOn passing along closedAt samePoint between inBox quadrantOf edgeOf straight closestOn checked turned quarterBy clearOf woundBy squared toSegment toVertex distanceOf measured ofInt sub toSigned
+pub reversed-inside : at 5 5 (point (pointAt (pos 2) (pos 10)) (point (pointAt (pos 10) (pos 10)) (point (pointAt (pos 10) (pos 2))
+    (point (pointAt (pos 2) (pos 2)) (point (pointAt (pos 2) (pos 10)) closed))))) ≡ reached InExcludedZone 9
+unfolding judge thenOn passing along closedAt samePoint between inBox quadrantOf edgeOf straight closestOn checked turned quarterBy clearOf woundBy squared
+    toSegment toVertex distanceOf measured ofInt sub toSigned
 reversed-inside = refl
 
 -- a triangle whose long side crosses two quadrants
 pub triangle-inside : at 3 3 (point (pointAt (pos 0) (pos 0)) (point (pointAt (pos 12) (pos 0)) (point (pointAt (pos 0) (pos 12)) (point (pointAt (pos 0) (pos 0)) closed)))) ≡ reached InZone 9
-unfolding judge thenOn passing along closedAt samePoint between inBox quadrantOf slopeOf edgeOf straight closestOn checked turned quarterBy halfTurn turnAt crossingOf acrossBy clearOf woundBy squared toSegment toVertex distanceOf measured ofInt add sub mul div toSigned
+unfolding judge thenOn passing along closedAt samePoint between inBox quadrantOf slopeOf edgeOf straight closestOn checked turned quarterBy halfTurn turnAt
+    crossingOf acrossBy clearOf woundBy squared toSegment toVertex distanceOf measured ofInt add sub mul div toSigned
 triangle-inside = refl
 
 abbrev packed : List ℕ

@@ -1,13 +1,10 @@
 -- How far one edge of a border winds: two quarters at most. Assumes nothing.
-use Prim.Native.Nat.{ℕ, suc, _+_, _-_, _*_, _%_, _^_, _≤_, min}
-use native.Mathlib.Omega.{arith}
-use mathlib.Core.{Path.{_≡_, refl, subst}, Bool.{Bool, true, false, cond, _&&_}}
-use lib.{Dec.{ltb, eqb}, IntN.{ℤ, pos, negsuc, natAbs, _+ℤ_, _-ℤ_}, Signed.{ltZ, mag}}
-use Rattle.numbers.specs.Answer.{if_then_else_}
+use Rattle.numbers.proofs.Prelude.{ℕ, _+_, _-_, _%_, _^_, _≤_, min, eqb, ltb, ℤ, pos, negsuc, _+ℤ_, _-ℤ_, natAbs, mag, ltZ, Bool, true, false, _&&_, arith}
+use Rattle.numbers.{proofs.write.Gaps.{size-sum}, specs.Answer.{if_then_else_}}
 use Rattle.border.specs.declared.place.{FixedLon.{FixedLon}, Point.{Point}}
-use Rattle.verdict.specs.{Step.{Step, found, meets, refused, _>>=_, checked}, Edge.{samePoint, straight, inBox, quadrantOf, edgeOf}, Distance.{distanceOf, measured}}
-use Rattle.verdict.specs.{Winding.{turned, quarterBy, halfTurn, turnAt, crossingOf, acrossBy, clearOf, woundBy}, Stretch.{leapt}, Verdict.{after, along, passing}}
-use Rattle.verdict.specs.declared.{edge.Edge.{Edge, the-variants.{Sloped, EqualLongitude, EqualLatitude}}, step.{Tally.{Tally}, Verdict.the-variants.{OnBorderVertex, OnBorderSegment}}}
+use Rattle.verdict.specs.{Distance.{distanceOf, measured}, Edge.{samePoint, straight, inBox, quadrantOf, edgeOf}, Step.{Step, found, meets, refused, _>>=_, checked}, Stretch.{leapt}}
+use Rattle.verdict.specs.{Verdict.{after, along, passing}, Winding.{turned, quarterBy, halfTurn, turnAt, crossingOf, acrossBy, clearOf, woundBy}, declared.edge.Edge.{Edge}}
+use Rattle.verdict.specs.declared.{edge.Edge.the-variants.{Sloped, EqualLongitude, EqualLatitude}, step.{Tally.{Tally}, Verdict.the-variants.{OnBorderVertex, OnBorderSegment}}}
 
 -- what a step finds winds no further than this
 abbrev pub Winds : ℕ → Step Tally → Type 0
@@ -38,27 +35,12 @@ bound-halves (found z) k g = g z
 bound-halves (meets v) k g = tt
 bound-halves (refused i) k g = tt
 
-sum-most : (a b : ℤ) → natAbs (a +ℤ b) ≤ natAbs a + natAbs b
-sum-most (pos a) (pos b) = omega arith
-sum-most (pos a) (negsuc b) = go (ltb a (suc b))
-  where
-    go : (t : Bool) → natAbs (cond t (negsuc (suc b - suc a)) (pos (a - suc b))) ≤ a + suc b
-    go true = omega arith
-    go false = omega arith
-sum-most (negsuc a) (pos b) = go (ltb b (suc a))
-  where
-    go : (t : Bool) → natAbs (cond t (negsuc (suc a - suc b)) (pos (b - suc a))) ≤ suc a + b
-    go true = omega arith
-    go false = omega arith
-sum-most (negsuc a) (negsuc b) = omega arith
-
 turned-winds : (by : ℤ) (t : Tally) → natAbs by ≤ 2 → Winds (natAbs (t .winding) + 2) (turned by t)
 unfolding turned checked
-turned-winds by t h = go (ltb (mag (t .winding +ℤ by)) (2 ^ 31))
-  where
-    go : (b : Bool) → Winds (natAbs (t .winding) + 2) ((if b then found (t .winding +ℤ by) else refused 13) >>= λ w. found (record { winding = w; least = t .least }))
-    go true = let z = sum-most (t .winding) by in omega (arith, z, h)
-    go false = tt
+turned-winds by t h = go (ltb (mag (t .winding +ℤ by)) (2 ^ 31)) where
+  go : (b : Bool) → Winds (natAbs (t .winding) + 2) ((if b then found (t .winding +ℤ by) else refused 13) >>= λ w. found (record { winding = w; least = t .least }))
+  go true = let z = size-sum (t .winding) by in omega (arith, z, h)
+  go false = tt
 
 quarter-winds : (n : ℕ) (t : Tally) → Winds (natAbs (t .winding) + 2) (quarterBy n t)
 unfolding quarterBy
@@ -72,33 +54,28 @@ leapt-winds fix from to t = quarter-winds _ t
 
 half-turns : (west : Bool) (q : ℕ) → Halves (found (halfTurn west q))
 unfolding halfTurn
-half-turns true q = go (ltb q 2)
-  where
-    go : (t : Bool) → natAbs (if t then negsuc 1 else pos 2) ≤ 2
-    go true = omega arith
-    go false = omega arith
-half-turns false q = go (ltb q 2)
-  where
-    go : (t : Bool) → natAbs (if t then pos 2 else negsuc 1) ≤ 2
-    go true = omega arith
-    go false = omega arith
+half-turns true q = go (ltb q 2) where
+  go : (t : Bool) → natAbs (if t then negsuc 1 else pos 2) ≤ 2
+  go true = omega arith
+  go false = omega arith
+half-turns false q = go (ltb q 2) where
+  go : (t : Bool) → natAbs (if t then pos 2 else negsuc 1) ≤ 2
+  go true = omega arith
+  go false = omega arith
 
 turn-halves : (crossing fix : FixedLon) (q : ℕ) → Halves (turnAt crossing fix q)
 unfolding turnAt
 turn-halves crossing fix q =
-    bound-halves (checked 31 (fix .0 -ℤ pos 1)) _
-    (λ left. if-halves (ltZ (crossing .0) left) (found (halfTurn true q)) _ (half-turns true q)
-    (bound-halves (checked 31 (fix .0 +ℤ pos 1)) _
-    (λ right. if-halves (ltZ right (crossing .0)) (found (halfTurn false q)) (meets OnBorderSegment) (half-turns false q) tt)))
+    bound-halves (checked 31 (fix .0 -ℤ pos 1)) _ (λ left. if-halves (ltZ (crossing .0) left) (found (halfTurn true q)) _ (half-turns true q)
+    (bound-halves (checked 31 (fix .0 +ℤ pos 1)) _ (λ right. if-halves (ltZ right (crossing .0)) (found (halfTurn false q)) (meets OnBorderSegment) (half-turns false q) tt)))
 
 across-winds : (fix : Point) (edge : Edge) (q : ℕ) (t : Tally) → Winds (natAbs (t .winding) + 2) (acrossBy fix edge q t)
 unfolding acrossBy
-across-winds fix (Sloped line) q t = go (turnAt (crossingOf fix line) (fix .lon) q) (turn-halves (crossingOf fix line) (fix .lon) q)
-  where
-    go : (m : Step ℤ) → Halves m → Winds (natAbs (t .winding) + 2) (m >>= λ turn. turned turn t)
-    go (found z) h = turned-winds z t h
-    go (meets v) h = tt
-    go (refused n) h = tt
+across-winds fix (Sloped line) q t = go (turnAt (crossingOf fix line) (fix .lon) q) (turn-halves (crossingOf fix line) (fix .lon) q) where
+  go : (m : Step ℤ) → Halves m → Winds (natAbs (t .winding) + 2) (m >>= λ turn. turned turn t)
+  go (found z) h = turned-winds z t h
+  go (meets v) h = tt
+  go (refused n) h = tt
 across-winds fix (EqualLongitude lon) q t = tt
 across-winds fix (EqualLatitude lat) q t = tt
 
@@ -108,27 +85,22 @@ clear-winds fix from to n t h = if-winds n (straight from to && inBox to fix fro
 
 wound-winds : (fix from to : Point) (t : Tally) → Winds (natAbs (t .winding) + 2) (woundBy fix from to t)
 unfolding woundBy
-wound-winds fix from to t =
-    let most = natAbs (t .winding) + 2 in
-    let q = quadrantOf fix to in
-    let n = (q + 4 - quadrantOf fix from) % 4 in
+wound-winds fix from to t = let most = natAbs (t .winding) + 2 in let q = quadrantOf fix to in let n = (q + 4 - quadrantOf fix from) % 4 in
     if-winds most (eqb n 2) (acrossBy fix (edgeOf from to) q t) (quarterBy n t >>= clearOf fix from to) (across-winds fix (edgeOf from to) q t)
     (bound-winds most most (quarterBy n t) (clearOf fix from to) (quarter-winds n t) (clear-winds fix from to most))
 
 measured-winds : (asked : Bool) (fix from to : Point) (n : ℕ) (t : Tally) → natAbs (t .winding) ≤ n → Winds n (measured asked fix from to t)
 unfolding measured
-measured-winds true fix from to n t h = go (distanceOf fix from to)
-  where
-    go : (m : Step ℕ) → Winds n (m >>= λ new. found (record { winding = t .winding; least = min new (t .least) }))
-    go (found d) = h
-    go (meets v) = tt
-    go (refused i) = tt
+measured-winds true fix from to n t h = go (distanceOf fix from to) where
+  go : (m : Step ℕ) → Winds n (m >>= λ new. found (record { winding = t .winding; least = min new (t .least) }))
+  go (found d) = h
+  go (meets v) = tt
+  go (refused i) = tt
 measured-winds false fix from to n t h = h
 
 -- An edge winds by two quarters at most.
 pub passing-winds : (fix : Point) (asked : Bool) (from to : Point) (t : Tally) → Winds (natAbs (t .winding) + 2) (passing fix asked (after from) to t)
 unfolding passing along
-passing-winds fix asked from to t =
-    let most = natAbs (t .winding) + 2 in
+passing-winds fix asked from to t = let most = natAbs (t .winding) + 2 in
     if-winds most (samePoint to fix) (meets OnBorderVertex) (woundBy fix from to t >>= measured asked fix from to) tt
     (bound-winds most most (woundBy fix from to t) (measured asked fix from to) (wound-winds fix from to t) (measured-winds asked fix from to most))

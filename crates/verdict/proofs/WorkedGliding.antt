@@ -1,12 +1,9 @@
 -- Cases that meet what the glide's theorems ask for, by computation: two points in one quadrant about a location, and a field ten away from it.
-use mathlib.Core.{Path.{_≡_, refl}, Bool.{true, false}}
-use lib.IntN.{pos}
-use Prim.Native.Nat.{ℕ}
-use native.Mathlib.Omega.{arith}
+use Rattle.numbers.proofs.Prelude.{pos, true, false, _≡_, refl, arith}
 use Rattle.border.specs.{Place.{pointAt}, declared.place.Point.{Point}}
-use Rattle.verdict.proofs.{Gliding.{gliding-keeps}, Beyond.{too-far-to-matter}}
-use Rattle.verdict.specs.{Distance.{measured}, inner.Gliding.{sameSide, inOneQuadrant, inSpan, beside, within, farFrom, nearby, Remote}, Step.{found}, Verdict.{after, passing}}
-use Rattle.verdict.specs.declared.{field.Field.{Field}, step.Tally.{Tally}}
+use Rattle.verdict.proofs.{AfarField.{too-far-to-matter}, Gliding.{gliding-keeps}}
+use Rattle.verdict.specs.{Distance.{measured}, Step.{found}, Verdict.{after, passing}, declared.{field.Field.{Field}, step.Tally.{Tally}}}
+use Rattle.verdict.specs.inner.Gliding.{sameSide, inOneQuadrant, inSpan, beside, within, farFrom, nearby, Remote}
 
 abbrev fix : Point
 fix = pointAt (pos 3) (pos 4)
@@ -34,7 +31,21 @@ field = record { lat = record { low = pos 13; high = pos 4194304 }; lon = record
 
 far : Remote fix (tally .least) field
 unfolding beside farFrom nearby
-far = record { lat-near = refl; lon-near = refl; lat-sign = refl; lon-sign = refl; lat-fix = omega arith; lon-fix = omega arith; lat-reach = 10; lon-reach = 0; lat-far = refl; lon-far = refl; enough = omega arith }
+far =
+    record {
+      lat-near = refl;
+      lon-near = refl;
+      lat-sign = refl;
+      lon-sign = refl;
+      lat-fix = omega arith;
+      lon-fix = omega arith;
+      lat-reach = 10;
+      lon-reach = 0;
+      lat-far =
+          refl;
+      lon-far = refl;
+      enough = omega arith;
+    }
 
 from-within : within field from ≡ true
 unfolding within inSpan

@@ -1,11 +1,9 @@
 -- A stretch north of a location, worked, with the distance too; and that the bound on the winding is needed.
-use native.Mathlib.Omega.{arith}
-use mathlib.Core.{Path.{_≡_, refl}, Bool.{true, false}}
-use lib.IntN.{pos, negsuc}
-use Rattle.border.specs.{Place.{pointAt}, Trace.{Trace, point, closed}, Box.{Box}, declared.place.Point.{Point}}
-use Rattle.verdict.specs.{Step.{checked}, Edge.{samePoint, straight, between, inBox, quadrantOf}, Winding.{turned, quarterBy, clearOf, woundBy}}
-use Rattle.verdict.specs.{Distance.{measured}, Far.{small, isSmall, raised, gapOf, isAfar}}
-use Rattle.verdict.specs.{Verdict.{reached, refused, after, along, passing, closedAt, thenOn, judge}, Stretch.{Stretch, stays, leads, leapt}, declared.step.Verdict.the-variants.{OnBorderSegment}}
+use Rattle.numbers.proofs.Prelude.{pos, negsuc, true, false, _≡_, refl, arith}
+use Rattle.border.specs.{Box.{Box}, Place.{pointAt}, Trace.{Trace, point, closed}, declared.place.Point.{Point}}
+use Rattle.verdict.specs.{Distance.{measured}, Edge.{samePoint, straight, between, inBox, quadrantOf}, Far.{small, isSmall, raised, gapOf, isAfar}, Step.{checked}}
+use Rattle.verdict.specs.{Stretch.{Stretch, stays, leads, leapt}, Verdict.{reached, refused, after, along, passing, closedAt, thenOn, judge}, Winding.{turned, quarterBy, clearOf, woundBy}}
+use Rattle.verdict.specs.declared.step.Verdict.the-variants.{OnBorderSegment}
 use Rattle.verdict.proofs.{OutsideBox.{tallied}, Stretch.{stretch-is-edge, afar-is-leap}}
 
 abbrev here : Point

@@ -1,10 +1,8 @@
 -- The squared distance of a location from an edge. The longitude counts twice: it has half the scale.
-use Prim.Native.Nat.{ℕ, _+_, _*_, _%_, _^_, min}
-use mathlib.Core.Bool.{Bool}
-use lib.IntN.{ℤ, _-ℤ_, _*ℤ_, natAbs}
-use Rattle.numbers.specs.{Answer.{if_then_else_}, Float.{cut64, _⊟_}}
-use Rattle.verdict.specs.{Step.{Step, found, refused, _>>=_, checked}, Edge.{inBox, spotOf, edgeOf, closestOn, cutOf}}
-use Rattle.verdict.specs.declared.{edge.Spot.{Spot}, step.Tally.{Tally}, distance.Distance.{Distance, the-variants.{Is, Over}}}
+use Rattle.numbers.specs.{Answer.{if_then_else_}, Float.{cut64, _⊟_}, Prelude.{ℕ, _+_, _*_, _%_, _^_, min, ℤ, _-ℤ_, natAbs, Bool}}
+use lib.IntN.{_*ℤ_}
+use Rattle.verdict.specs.{Edge.{inBox, spotOf, edgeOf, closestOn, cutOf}, Step.{Step, found, refused, _>>=_, checked}, declared.distance.Distance.{Distance, the-variants.{Is, Over}}}
+use Rattle.verdict.specs.declared.{edge.Spot.{Spot}, step.Tally.{Tally}}
 use Rattle.border.specs.declared.place.Point.{Point}
 
 -- what the enum's cases say

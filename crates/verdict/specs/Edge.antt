@@ -1,10 +1,7 @@
 -- Edges of a border in f32, each operation rounded once, in the Rust's order; boxes; quadrants.
-use Prim.Native.Nat.{ℕ}
-use mathlib.Core.Bool.{Bool, false, _&&_, _||_}
-use lib.{IntN.{ℤ, pos}, Ieee.{Float, fin}, Signed.{leZ}}
-use Rattle.numbers.specs.{Answer.{if_then_else_}, Float.{toF32, cut32, _⊞_, _⊟_, _⊠_, _⊘_}}
+use Rattle.numbers.specs.{Answer.{if_then_else_}, Float.{toF32, cut32, _⊞_, _⊟_, _⊠_, _⊘_}, Prelude.{ℕ, Float, fin, ℤ, pos, leZ, Bool, false, _&&_, _||_}}
 use Rattle.border.specs.{Place.{pointAt}, declared.place.Point.{Point}}
-use Rattle.verdict.specs.declared.edge.{Spot.{Spot}, Slope.{Slope}, Edge.{Edge, the-variants.{Sloped, EqualLongitude, EqualLatitude}}}
+use Rattle.verdict.specs.declared.edge.{Edge.{Edge, the-variants.{Sloped, EqualLongitude, EqualLatitude}}, Slope.{Slope}, Spot.{Spot}}
 
 -- ---- points
 

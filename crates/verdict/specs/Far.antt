@@ -1,8 +1,5 @@
 -- Boxes so far from a location that no edge in them comes nearer than the least squared distance.
-use Prim.Native.Nat.{ℕ, _+_, _-_, _*_}
-use mathlib.Core.Bool.{Bool, _&&_}
-use lib.{Dec.{ltb, leb}, IntN.{ℤ, pos, negsuc, natAbs, _+ℤ_}, Signed.{ltZ}}
-use Rattle.numbers.specs.Answer.{if_then_else_}
+use Rattle.numbers.specs.{Answer.{if_then_else_}, Prelude.{ℕ, _+_, _-_, _*_, ltb, leb, ℤ, pos, negsuc, _+ℤ_, natAbs, ltZ, Bool, _&&_}}
 use Rattle.border.specs.declared.place.Point.{Point}
 
 -- less than 2 ^ 22 in size, where a whole number and the floats about it are told apart

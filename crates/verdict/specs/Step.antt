@@ -1,8 +1,6 @@
 -- What a step along a border comes to.
-use Prim.Native.Nat.{ℕ}
-use lib.IntN.{ℤ}
-use Rattle.numbers.specs.Answer.{inRange, if_then_else_}
-use Rattle.verdict.specs.declared.step.{Verdict.{Verdict}, Tally.{Tally}, Passed.{Passed, the-variants.{On, Meets, Over}}}
+use Rattle.numbers.specs.{Answer.{inRange, if_then_else_}, Prelude.{ℕ, ℤ}}
+use Rattle.verdict.specs.declared.step.{Passed.{Passed, the-variants.{On, Meets, Over}}, Tally.{Tally}, Verdict.{Verdict}}
 
 -- it goes on with what was found, or meets the location on the border, or is refused by a number
 pub data Step (A : Type 0) : Type 0 where

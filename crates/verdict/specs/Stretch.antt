@@ -1,8 +1,7 @@
 -- A stretch of a border, for what is judged by its box or over so many edges.
-use Prim.Native.Nat.{ℕ, zero, suc, _+_, _-_, _%_}
-use mathlib.Core.{Path.{_≡_}, Bool.{Bool, true}}
-use Rattle.border.specs.{Trace.{Trace, point, closed, failed, refused}, Box.{Box, holds}, declared.place.Point.{Point}}
-use Rattle.verdict.specs.{Step.{Step, found, _>>=_}, Edge.{quadrantOf}, Winding.{quarterBy}, Verdict.{Last, after, passing}, declared.step.Tally.{Tally}}
+use Rattle.numbers.specs.Prelude.{ℕ, zero, suc, _+_, _-_, _%_, Bool, true, _≡_}
+use Rattle.border.specs.{Box.{Box, holds}, Trace.{Trace, point, closed, failed, refused}, declared.place.Point.{Point}}
+use Rattle.verdict.specs.{Edge.{quadrantOf}, Step.{Step, found, _>>=_}, Verdict.{Last, after, passing}, Winding.{quarterBy}, declared.step.Tally.{Tally}}
 
 -- a trace after a point comes to what is left of it after a later point, and the box holds all points on the way
 pub data Stretch (box : Box) : Point → Trace → Point → Trace → Type 0 where

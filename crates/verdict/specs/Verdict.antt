@@ -1,14 +1,9 @@
 -- A border's verdict on a location: a judge over the trace of its points, which may answer before the trace ends.
-use Prim.Native.Nat.{ℕ}
-use mathlib.Core.{Bool.{Bool}, List.{List}}
-use lib.IntN.{ℤ, pos, negsuc}
-use Rattle.numbers.specs.Answer.{if_then_else_}
+use Rattle.numbers.specs.{Answer.{if_then_else_}, Prelude.{ℕ, pos, negsuc, Bool, List}}
+use Rattle.border.specs.{Trace.{Trace, point, closed, traceOf, borderAt}, declared.{place.{FixedLat.{FixedLat}, FixedLon.{FixedLon}, Point.{Point}}, reader.Encoding.{Encoding}}}
+use Rattle.verdict.specs.{Distance.{measured}, Edge.{sameZ, samePoint}, Step.{Step, found, meets, _>>=_}, Winding.{woundBy}, declared.{judge.Judged.{Judged}, step.Tally.{Tally}}}
+use Rattle.verdict.specs.declared.step.Verdict.{Verdict, the-variants.{NotInZone, InZone, InExcludedZone, OnBorderVertex, OnBorderSegment}}
 use Rattle.border.specs.Trace as T
-use Rattle.border.specs.Trace.{Trace, point, closed, traceOf, borderAt}
-use Rattle.border.specs.declared.{place.{FixedLat.{FixedLat}, FixedLon.{FixedLon}, Point.{Point}}, reader.Encoding.{Encoding}}
-use Rattle.verdict.specs.{Step.{Step, found, meets, _>>=_}, Edge.{sameZ, samePoint}, Winding.{woundBy}, Distance.{measured}}
-use Rattle.verdict.specs.declared.step.{Tally.{Tally}, Verdict.{Verdict, the-variants.{NotInZone, InZone, InExcludedZone, OnBorderVertex, OnBorderSegment}}}
-use Rattle.verdict.specs.declared.judge.Judged.{Judged}
 use Rattle.verdict.specs.Step as S
 use Rattle.verdict.specs.declared.judge.Judged.the-variants as J
 

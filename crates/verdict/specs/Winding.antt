@@ -1,11 +1,8 @@
 -- How often a border winds about a location, in quarter turns.
-use Prim.Native.Nat.{ℕ, _+_, _-_, _%_}
-use mathlib.Core.Bool.{Bool, true, false, _&&_}
-use lib.{Dec.{ltb, eqb}, IntN.{ℤ, pos, negsuc, _+ℤ_, _-ℤ_}, Signed.{ltZ}}
-use Rattle.numbers.specs.{Answer.{if_then_else_}, Float.{toF32, cut32, _⊟_, _⊘_}}
-use Rattle.verdict.specs.{Step.{Step, found, meets, refused, _>>=_, checked}, Edge.{straight, inBox, quadrantOf, edgeOf}}
-use Rattle.verdict.specs.declared.edge.{Edge.{Edge, the-variants.{Sloped, EqualLongitude, EqualLatitude}}, Slope.{Slope}}
-use Rattle.verdict.specs.declared.{step.{Tally.{Tally}, Verdict.the-variants.{OnBorderSegment}}, winding.Crossing.{Crossing, the-variants.{Turns, OnSegment, Over}}}
+use Rattle.numbers.specs.{Answer.{if_then_else_}, Float.{toF32, cut32, _⊟_, _⊘_}, Prelude.{ℕ, _+_, _-_, _%_, eqb, ltb, ℤ, pos, negsuc, _+ℤ_, _-ℤ_, ltZ, Bool, true, false, _&&_}}
+use Rattle.verdict.specs.{Edge.{straight, inBox, quadrantOf, edgeOf}, Step.{Step, found, meets, refused, _>>=_, checked}, declared.edge.Edge.{Edge}}
+use Rattle.verdict.specs.declared.{edge.{Edge.the-variants.{Sloped, EqualLongitude, EqualLatitude}, Slope.{Slope}}, step.{Tally.{Tally}, Verdict.the-variants.{OnBorderSegment}}}
+use Rattle.verdict.specs.declared.winding.Crossing.{Crossing, the-variants.{Turns, OnSegment, Over}}
 use Rattle.border.specs.declared.place.{FixedLon.{FixedLon}, Point.{Point}}
 
 -- what the enum's cases say

@@ -1,7 +1,10 @@
 // A border that stays in a field, read quickly. A reader of the verdict may skip this file: it only hurries.
 ghost use mathlib.Core.{Path.{_≡_}, Bool.{true, false}};
+ghost use Prim.Native.Nat.{_+_, _-_, _<_};
+ghost use lib.ListN.{length};
+ghost use Rattle.numbers.specs.Varint.{told, readingOf};
 ghost use Rattle.border.specs.Encoding.{encodedBy};
-ghost use Rattle.verdict.specs.inner.Gliding.{LedTo, GlidesForth, GlidesBack, GlidesPlain, GlidesTo, standing};
+ghost use Rattle.verdict.specs.inner.Gliding.{pointed, Narrow, LedTo, GlidesForth, GlidesBack, GlidesPlain, GlidesTo, standing};
 use crate::field::Field;
 use crate::field::lies_in;
 use border::place::Away;
@@ -20,28 +23,52 @@ use numbers::point::signed;
 use numbers::varint::Varint;
 use numbers::varint::read_backward;
 use numbers::varint::read_number;
+use numbers::varint::read_short;
+
+// A point whose coordinates are held wide, each by itself: a point that is one word is taken apart and put together at every move.
+pub(crate) struct Wide {
+    pub lat: i64,
+    pub lon: i64,
+}
+
+fn widen(p: Point) -> Wide
+    ensures { λ r. ⌜ (pointed r ≡ p) × Narrow r ⌝ }
+{
+    Wide {
+        lat: p.lat.0 as i64,
+        lon: p.lon.0 as i64,
+    }
+}
+
+fn narrow(w: Wide) -> Point
+    requires { ⌜ Narrow w ⌝ }
+    ensures { λ r. ⌜ r ≡ pointed w ⌝ }
+{
+    Point {
+        lat: FixedLat(w.lat as i32),
+        lon: FixedLon(w.lon as i32),
+    }
+}
 
 // Where a move leads inside the field.
 pub(crate) enum Led {
-    To(Point),
+    To(Wide),
     Out,
 }
 
-fn lead(field: Field, p: Point, by: RawPoint) -> Led
+fn lead(field: Field, p: Wide, by: RawPoint) -> Led
+    requires { ⌜ Narrow p ⌝ }
     ensures { λ r. ⌜ LedTo field p by r ⌝ }
 {
-    let lat = (p.lat.0 as i64) + (by.lat as i64);
+    let lat = p.lat + (by.lat as i64);
     if !lies_in(field.lat, lat) {
         return Led::Out;
     }
-    let lon = (p.lon.0 as i64) + (by.lon as i64);
+    let lon = p.lon + (by.lon as i64);
     if !lies_in(field.lon, lon) {
         return Led::Out;
     }
-    Led::To(Point {
-        lat: FixedLat(lat as i32),
-        lon: FixedLon(lon as i32),
-    })
+    Led::To(Wide { lat, lon })
 }
 
 // A place of the border, and the point there.
@@ -50,26 +77,57 @@ pub(crate) struct Glided {
     pub point: Point,
 }
 
-// Version 1, outside a reference.
+fn glided_at(place: usize, point: Wide) -> Glided
+    requires { ⌜ Narrow point ⌝ }
+    ensures { λ r. ⌜ r ≡ record { place = place; point = pointed point } ⌝ }
+{
+    Glided {
+        place,
+        point: narrow(point),
+    }
+}
+
+// A number where four bytes stand: nearly every move is a short one.
+fn read_move(file: &[u8], place: usize, strict: bool) -> Varint
+    requires { ⌜ place + 3 < length (now file) ⌝ }
+    ensures { λ r. ⌜ told r ≡ readingOf strict (now (file .entry)) place ⌝ }
+{
+    let n = read_short(file, place);
+    let Varint::Number(number) = n else {
+        return read_number(file, place, strict);
+    };
+    Varint::Number(number)
+}
+
+// The end of the places where four bytes stand.
+fn fours_end(file: &[u8]) -> usize
+    ensures { λ r. ⌜ r ≡ length (now (file .entry)) - 3 ⌝ }
+{
+    if file.len() < 3 { 0 } else { file.len() - 3 }
+}
+
+// Version 1, outside a reference, but for the last bytes of a file.
 fn glide_forth(file: &[u8], strict: bool, field: Field, start: usize, from: Point) -> Glided
     ensures { λ r. ⌜ GlidesForth (now (file .entry)) strict field start «from» (r .place) (r .point) ⌝ }
 {
+    let end = fours_end(file);
     let mut place = start;
-    let mut point = from;
-    loop {
-        let n = read_number(file, place, strict);
+    let mut point = widen(from);
+    while place < end {
+        let n = read_move(file, place, strict);
         let Varint::Number(number) = n else {
-            return Glided { place, point };
+            return glided_at(place, point);
         };
         if number.value == 0 {
-            return Glided { place, point };
+            return glided_at(place, point);
         }
         let Led::To(to) = lead(field, point, decode_point(number.value)) else {
-            return Glided { place, point };
+            return glided_at(place, point);
         };
         place = number.place;
         point = to;
     }
+    glided_at(place, point)
 }
 
 // Version 1, inside a reference that is read backward, up to its last move.
@@ -77,23 +135,23 @@ fn glide_back(file: &[u8], field: Field, start: usize, end: usize, from: Point) 
     ensures { λ r. ⌜ GlidesBack (now (file .entry)) field end start «from» (r .place) (r .point) ⌝ }
 {
     let mut place = start;
-    let mut point = from;
+    let mut point = widen(from);
     loop {
         let n = read_backward(file, place);
         let Varint::Number(number) = n else {
-            return Glided { place, point };
+            return glided_at(place, point);
         };
         if number.value == 0 {
-            return Glided { place, point };
+            return glided_at(place, point);
         }
         if number.place <= end {
-            return Glided { place, point };
+            return glided_at(place, point);
         }
         let Away::By(by) = negate(decode_point(number.value)) else {
-            return Glided { place, point };
+            return glided_at(place, point);
         };
         let Led::To(to) = lead(field, point, by) else {
-            return Glided { place, point };
+            return glided_at(place, point);
         };
         place = number.place;
         point = to;
@@ -107,13 +165,14 @@ pub(crate) struct Counted {
     pub point: Point,
 }
 
-fn counted_at(place: usize, moves: u64, point: Point) -> Counted
-    ensures { λ r. ⌜ r ≡ record { place = place; moves = moves; point = point } ⌝ }
+fn counted_at(place: usize, moves: u64, point: Wide) -> Counted
+    requires { ⌜ Narrow point ⌝ }
+    ensures { λ r. ⌜ r ≡ record { place = place; moves = moves; point = pointed point } ⌝ }
 {
     Counted {
         place,
         moves,
-        point,
+        point: narrow(point),
     }
 }
 
@@ -130,7 +189,7 @@ fn glide_plain(
 {
     let mut place = start;
     let mut moves = count;
-    let mut point = from;
+    let mut point = widen(from);
     while 0 < moves {
         let n = read_number(file, place, strict);
         let Varint::Number(lat) = n else {

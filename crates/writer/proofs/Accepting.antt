@@ -1,9 +1,5 @@
 -- The tests of a piece in turn, each with those before it. Assumes nothing.
-use Prim.Native.Nat.{ℕ, _+_, _-_, _<_, _≤_}
-use native.Mathlib.Omega.{arith}
-use mathlib.Core.{Path.{_≡_, ap, _∙_}, Bool.{Bool, true, false, _&&_, _||_}, List.{List}}
-use lib.{IntN.{ℤ}, ListN.{length, take, drop}, Dec.{eqb}}
-use borrow.Author.Tests.{lt-ltb, le-ltb, le-leb, lt-leb, eq-eqb, ne-eqb}
+use Rattle.numbers.proofs.Prelude.{ℕ, _+_, _-_, _≤_, _<_, eq-eqb, ne-eqb, lt-ltb, le-leb, le-ltb, lt-leb, eqb, ℤ, length, take, drop, Bool, true, false, _&&_, _||_, List, _≡_, ap, _∙_, arith}
 use Rattle.writer.specs.{Moves.{movesOf}, Pieces.{lentBy, lentMoves, spells, clearBefore, accepted}, declared.write.Piece.{Piece}}
 use Rattle.writer.proofs.Indexed.{border-length}
 
@@ -30,10 +26,9 @@ module _ (earlier : List ℕ) (lats lons : List ℤ) (free : ℕ) (p : Piece) wh
 
     module _ (full : p .first + p .count ≡ p .first → ⊥) where
       some : 0 < p .count
-      some = go (p .count) full
-        where
-          go : (n : ℕ) → (p .first + n ≡ p .first → ⊥) → 0 < n
-          go n h = omega (arith, h)
+      some = go (p .count) full where
+        go : (n : ℕ) → (p .first + n ≡ p .first → ⊥) → 0 < n
+        go n h = omega (arith, h)
 
       long : length (movesOf lats lons) < p .first + p .count → false ≡ answer
       unfolding accepted

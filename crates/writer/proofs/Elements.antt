@@ -1,13 +1,7 @@
 -- The checks, one element at a time. Assumes nothing.
-use Prim.Native.Nat.{ℕ, suc}
-use native.Mathlib.Omega.{arith}
-use mathlib.Core.{Path.{_≡_, refl, sym, ap, _∙_}, Bool.{Bool, true, false, not, _&&_}, List.{List}}
-use lib.{Dec.{eqb}, IntN.{ℤ, pos, negsuc, negℤ, _-ℤ_}, Signed.{ltZ, leZ}}
-use mir.{Syntax.{w32}, Val.{SFits, toZ, ofZ}}
-use borrow.Author.Tests.{ltb-true, ltb-false, le-leb, lt-leb, ne-eqb, eq-eqb}
-use Rattle.numbers.specs.{Answer.{if_then_else_}, Point.{pointOf}, declared.point.RawPoint.{RawPoint}, Spelling.{signedForm}}
+use Rattle.numbers.proofs.Prelude.{ℕ, suc, eq-eqb, ne-eqb, le-leb, ltb-true, lt-leb, ltb-false, eqb, ℤ, pos, negsuc, _-ℤ_, negℤ, ltZ, leZ, Bool, true, false, _&&_, not, List, _≡_, refl, sym, ap, _∙_}
+use Rattle.numbers.{proofs.{Prelude.{w32, SFits, ofZ, toZ, arith}, Tests.{differ}}, specs.{Answer.{if_then_else_}, Point.{pointOf}, Spelling.{signedForm}, declared.point.RawPoint.{RawPoint}}}
 use Rattle.border.specs.Place.{isStill, isZero}
-use Rattle.numbers.proofs.Tests.{differ}
 use Rattle.writer.specs.{Moves.{isMove, turnedBack, sameMove}, Writer.{near}, inner.Stored.{gapAt, moveAt}}
 use Rattle.writer.proofs.Signs.{form-zero, formed, from-zero}
 
@@ -69,10 +63,9 @@ module _ (lats lons : List ℤ) (i direction value : ℕ) (by : RawPoint) (is : 
     unfolding sameMove
     lent-lat other = ap (λ (t : Bool). t && lon-test) (sym (ne-eqb r s other) ∙ lat-test) ∙ ap (λ (m : RawPoint). sameMove m (own ahead)) is
 
-    pub lent-lon : r ≡ s → {u v : ℕ} → SFits w32 (by .lon) → u ≡ signedForm (toZ w32 (ofZ w32 (by .lon)) -ℤ toZ w32 (ofZ w32 (pos 0))) → v ≡ signedForm (turnedAt ahead (gapAt lons i)) → eqb u v ≡ sameMove (pointOf value) (own ahead)
+    pub lent-lon : r ≡ s → {u v : ℕ} → SFits w32 (by .lon) → u ≡ signedForm (toZ w32 (ofZ w32 (by .lon)) -ℤ toZ w32 (ofZ w32 (pos 0))) → v ≡ signedForm (turnedAt ahead (gapAt lons i)) →
+        eqb u v ≡ sameMove (pointOf value) (own ahead)
     unfolding sameMove
     lent-lon same fits₂ e₂ g₂ =
-        same-form (by .lon) (turnedAt ahead (gapAt lons i)) fits₂ e₂ g₂
-        ∙ ap (λ (z : ℤ). eqb (signedForm (by .lon)) (signedForm z)) (own-lon ahead)
-        ∙ ap (λ (t : Bool). t && lon-test) (sym (eq-eqb r s same) ∙ lat-test)
-        ∙ ap (λ (m : RawPoint). sameMove m (own ahead)) is
+        same-form (by .lon) (turnedAt ahead (gapAt lons i)) fits₂ e₂ g₂ ∙ ap (λ (z : ℤ). eqb (signedForm (by .lon)) (signedForm z)) (own-lon ahead)
+        ∙ ap (λ (t : Bool). t && lon-test) (sym (eq-eqb r s same) ∙ lat-test) ∙ ap (λ (m : RawPoint). sameMove m (own ahead)) is

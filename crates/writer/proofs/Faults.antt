@@ -1,14 +1,9 @@
 -- The checks of a border in turn, each with those before it. Assumes nothing.
-use Prim.Native.Nat.{ℕ, _^_, _<_, _≤_}
-use native.Mathlib.Omega.{arith}
-use mathlib.Core.{Path.{_≡_, sym, ap, _∙_}, Bool.{true, false, _&&_}, List.{List}}
-use lib.{Dec.{ltb, leb, eqb}, IntN.{ℤ}, ListN.{length, take, drop}}
-use borrow.Author.Tests.{lt-ltb, le-ltb, le-leb, lt-leb, ltb-true, leb-true, eqb-true}
-use Rattle.numbers.specs.{Reply.{given, refused, refusal, plain, demand, _>>_}, declared.point.RawPoint.{RawPoint}}
+use Rattle.numbers.proofs.Prelude.{ℕ, _^_, _≤_, _<_, lt-ltb, le-leb, le-ltb, leb-true, ltb-true, lt-leb, eqb-true, eqb, ltb, leb, ℤ, length, take, drop, true, false, _&&_, List, _≡_, sym, ap, _∙_}
+use Rattle.numbers.{proofs.{Prelude.{arith}, Tests.{both}}, specs.{Reply.{given, refused, refusal, plain, demand, _>>_}, declared.point.RawPoint.{RawPoint}}}
 use Rattle.writer.specs.{Moves.{movesOf, isMove}, Writer.{every, near, sized, checks}, inner.Stored.{moveAt}}
-use Rattle.numbers.proofs.Tests.{both}
-use Rattle.border.proofs.Signs.{and-true}
 use Rattle.writer.proofs.Indexed.{moves-next}
+use mathlib.Core.Bool.{and-true}
 
 -- what a border of good size has
 pub record Sizes (lats lons : List ℤ) : Type 0 where
@@ -18,8 +13,7 @@ pub record Sizes (lats lons : List ℤ) : Type 0 where
 
 pub sizes : (lats lons : List ℤ) → sized lats lons ≡ true → Sizes lats lons
 unfolding sized
-sizes lats lons e =
-    let h = both (eqb (length lats) (length lons)) (ltb 0 (length lats) && leb (length lats) 65535) e in
+sizes lats lons e = let h = both (eqb (length lats) (length lons)) (ltb 0 (length lats) && leb (length lats) 65535) e in
     let k = both (ltb 0 (length lats)) (leb (length lats) 65535) (h .1) in
     record { some = ltb-true 0 (length lats) (k .0); same = sym (eqb-true (length lats) (length lons) (h .0)); few = leb-true (length lats) 65535 (k .1) }
 
@@ -47,7 +41,8 @@ module _ (version : ℕ) (lats lons : List ℤ) (earlier : List ℕ) where
   not-sized e₁ e₂ h = rw (le-leb (length earlier) (2 ^ 30) e₁, lt-ltb version 2 e₂, h)
 
 module _ {version : ℕ} {lats lons : List ℤ} {earlier : List ℕ} (g : Early version lats lons earlier) where
-  left : (demand (every near lats && every near lons) (plain 20) >> (demand (every isMove (drop 1 (movesOf lats lons))) (plain 21) >> demand (every isMove (take 1 (movesOf lats lons))) (plain 22))) ≡ checks version lats lons earlier
+  left : (demand (every near lats && every near lons) (plain 20) >>
+      (demand (every isMove (drop 1 (movesOf lats lons))) (plain 21) >> demand (every isMove (take 1 (movesOf lats lons))) (plain 22))) ≡ checks version lats lons earlier
   unfolding checks
   left = rw (le-leb (length earlier) (2 ^ 30) (g .short), lt-ltb version 2 (g .version-known), g .right)
 
@@ -64,9 +59,7 @@ module _ {version : ℕ} {lats lons : List ℤ} {earlier : List ℕ} (g : Early 
 
       module _ (apart : every isMove (drop 1 (movesOf lats lons)) ≡ true) where
         last : demand (isMove (moveAt lats lons 0)) (plain 22) ≡ checks version lats lons earlier
-        last =
-            let s = sizes lats lons (g .right) in
-            let e = first-move lats lons (s .some) (omega (arith, s .some, s .same)) in
+        last = let s = sizes lats lons (g .right) in let e = first-move lats lons (s .some) (omega (arith, s .some, s .same)) in
             rw (north, east, apart, e) at left
 
         pub at-origin : isMove (moveAt lats lons 0) ≡ false → refused (plain 22) ≡ checks version lats lons earlier

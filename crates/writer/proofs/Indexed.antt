@@ -1,10 +1,8 @@
 -- The border's points and moves by index. Assumes nothing.
-use Prim.Native.Nat.{ℕ, zero, suc, _+_, _-_, _*_, _<_, _≤_, min}
-use native.Mathlib.{Nat.{mul-suc}, Omega.{arith}}
-use borrow.Author.Tests.{ltb-true, ltb-false}
-use mathlib.Core.{Path.{_≡_, refl, sym, ap, _∙_}, Bool.{Bool, true, false, _&&_}, List.{List, [], _∷_, _++_, zipWith, flatMap}}
-use lib.{IntN.{ℤ, pos, _-ℤ_}, Dec.{ltb}, ListN.{length, getD, drop, length-take, length-drop, length-append}, Seq.{slice, slice-cons, drop-cons, take-all, take-length}}
+use Rattle.numbers.proofs.Prelude.{ℕ, zero, suc, _+_, _-_, _*_, _≤_, _<_, min, ltb-true, ltb-false, ltb, ℤ, pos, _-ℤ_, length, drop, getD, length-append, length-drop, length-take, slice, drop-cons}
+use Rattle.numbers.proofs.Prelude.{take-all, take-length, Bool, true, false, _&&_, List, [], _∷_, _++_, flatMap, zipWith, _≡_, refl, sym, ap, _∙_, mul-suc, arith}
 use Rattle.numbers.specs.declared.point.RawPoint.{RawPoint}
+use lib.Seq.{slice-cons}
 use Rattle.border.specs.{Place.{pointAt, moveBy}, declared.place.Point.{Point}}
 use Rattle.writer.specs.{Moves.{moveTo, movesFrom, pointsOf, movesOf}, Writer.{every}, inner.Stored.{gapAt, moveAt}}
 
@@ -52,17 +50,14 @@ module _ (lats lons : List ℤ) (i : ℕ) (h : i < length lats) (k : i < length 
   moves = movesOf lats lons
 
   pub moves-next : drop i moves ≡ moveAt lats lons i ∷ drop (i + 1) moves
-  moves-next =
-      let n : suc i ≡ i + 1 = omega arith in
-      drop-cons moves i still (omega (arith, border-length lats lons)) ∙ rw (move-at, ← n)
+  moves-next = let n : suc i ≡ i + 1 = omega arith in drop-cons moves i still (omega (arith, border-length lats lons)) ∙ rw (move-at, ← n)
 
   -- what is left to write
-  pub each-next : (each : RawPoint → List ℕ) (to : ℕ) → i < to → to ≤ length lats → to ≤ length lons → flatMap each (slice i to moves) ≡ each (moveAt lats lons i) ++ flatMap each (slice (i + 1) to moves)
+  pub each-next : (each : RawPoint → List ℕ) (to : ℕ) → i < to → to ≤ length lats → to ≤ length lons →
+      flatMap each (slice i to moves) ≡ each (moveAt lats lons i) ++ flatMap each (slice (i + 1) to moves)
   unfolding flatMap
-  each-next each to l m n =
-      let next : suc i ≡ i + 1 = omega arith in
-      ap (flatMap each) (slice-cons i to moves still l (omega (arith, border-length lats lons)))
-      ∙ rw (move-at, ← next)
+  each-next each to l m n = let next : suc i ≡ i + 1 = omega arith in
+      ap (flatMap each) (slice-cons i to moves still l (omega (arith, border-length lats lons))) ∙ rw (move-at, ← next)
 
 slice-past : {A : Type 0} (from to : ℕ) (ms : List A) → to ≤ from → slice from to ms ≡ []
 slice-past zero zero ms h = refl
@@ -82,13 +77,12 @@ module _ {A : Type 0} (good : A → Bool) (xs : List A) (i : ℕ) where
   every-next d h = let n : suc i ≡ i + 1 = omega arith in rw (drop-cons xs i d h, ← n)
 
   pub every-done : length xs ≤ i → every good (drop i xs) ≡ every good []
-  every-done h = ap (every good) (nothing xs i h)
-    where
-      nothing : (xs : List A) (i : ℕ) → length xs ≤ i → drop i xs ≡ []
-      nothing [] zero h = refl
-      nothing [] (suc i) h = refl
-      nothing (x ∷ xs) zero h = absurd (omega arith)
-      nothing (x ∷ xs) (suc i) h = nothing xs i (omega arith)
+  every-done h = ap (every good) (nothing xs i h) where
+    nothing : (xs : List A) (i : ℕ) → length xs ≤ i → drop i xs ≡ []
+    nothing [] zero h = refl
+    nothing [] (suc i) h = refl
+    nothing (x ∷ xs) zero h = absurd (omega arith)
+    nothing (x ∷ xs) (suc i) h = nothing xs i (omega arith)
 
   -- in a loop over the elements: the ith one is bad, or good
   module _ (d : A) (h : i < length xs) where
@@ -102,9 +96,7 @@ module _ {A : Type 0} (good : A → Bool) (xs : List A) (i : ℕ) where
 pub each-few : (each : RawPoint → List ℕ) (k : ℕ) → ((m : RawPoint) → length (each m) ≤ k) → (ms : List RawPoint) → length (flatMap each ms) ≤ k * length ms
 unfolding flatMap
 each-few each k few [] = omega arith
-each-few each k few (m ∷ ms) =
-    let n = length ms in
-    let e : k * suc n ≡ k * n + k = mul-suc k n in
+each-few each k few (m ∷ ms) = let n = length ms in let e : k * suc n ≡ k * n + k = mul-suc k n in
     rw e (simp length-append (omega (arith, few m, each-few each k few ms)))
 
 pub slice-few : {A : Type 0} (from to : ℕ) (xs : List A) → length (slice from to xs) ≤ length xs
@@ -112,17 +104,11 @@ slice-few from to xs = simp (length-take, length-drop) (omega arith)
 
 -- a slice ends with the list
 pub slice-ends : {A : Type 0} (from to : ℕ) (xs : List A) → slice from (min to (length xs)) xs ≡ slice from to xs
-slice-ends from to xs = by-test (ltb to (length xs)) refl
-  where
-    by-test : (t : Bool) → ltb to (length xs) ≡ t → slice from (min to (length xs)) xs ≡ slice from to xs
-    by-test true e =
-        let h = ltb-true to (length xs) e in
-        let m : min to (length xs) ≡ to = omega arith in
-        rw m
-    by-test false e =
-        let h = ltb-false to (length xs) e in
-        let m : min to (length xs) ≡ length xs = omega arith in
-        rw m (ap (drop from) (take-length xs ∙ sym (take-all to xs h)))
+slice-ends from to xs = by-test (ltb to (length xs)) refl where
+  by-test : (t : Bool) → ltb to (length xs) ≡ t → slice from (min to (length xs)) xs ≡ slice from to xs
+  by-test true e = let h = ltb-true to (length xs) e in let m : min to (length xs) ≡ to = omega arith in rw m
+  by-test false e = let h = ltb-false to (length xs) e in let m : min to (length xs) ≡ length xs = omega arith in
+      rw m (ap (drop from) (take-length xs ∙ sym (take-all to xs h)))
 
 pub slice-rest : {A : Type 0} (from : ℕ) (xs : List A) → slice from (length xs) xs ≡ drop from xs
 slice-rest from xs = ap (drop from) (take-length xs)

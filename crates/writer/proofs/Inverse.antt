@@ -1,12 +1,7 @@
 -- The moves of a border are read back. Assumes nothing.
-use Prim.Native.Nat.{ℕ, zero, suc, _^_, _<_}
-use native.Mathlib.Omega.{arith}
-use mathlib.Core.{Path.{_≡_, sym, ap, _∙_}, Bool.{true, false}}
-use lib.IntN.{natAbs}
-use Rattle.numbers.proofs.Spelling.{signed-back, point-zero, point-back, point-small}
-use Rattle.numbers.specs.{Point.{signedOf, pointOf}, Spelling.{signedForm}, declared.point.RawPoint.{RawPoint}}
+use Rattle.numbers.proofs.Prelude.{ℕ, zero, suc, _^_, _<_, natAbs, true, false, _≡_, sym, ap, _∙_, arith}
+use Rattle.numbers.{proofs.{Spelling.{signed-back, point-zero, point-back, point-small}, Tests.{differ}}, specs.{Point.{signedOf, pointOf}, Spelling.{signedForm}, declared.point.RawPoint.{RawPoint}}}
 use Rattle.border.specs.Place.{moveBy, isStill}
-use Rattle.numbers.proofs.Tests.{differ}
 use Rattle.writer.specs.Moves.{packedNumber}
 
 -- a move of a border: both numbers below 2 ^ 31 in size, and not two zeros
@@ -28,11 +23,10 @@ module _ (by : RawPoint) (h : Moves by) where
   packed-back = point-back by (h .lat-small) (h .lon-small)
 
   pub packed-some : 0 < packedNumber by
-  packed-some = go (packedNumber by) packed-back
-    where
-      go : (n : ℕ) → pointOf n ≡ by → 0 < n
-      go (suc n) e = omega arith
-      go zero e = differ (sym (h .moves) ∙ ap isStill (sym e) ∙ still-zero)
+  packed-some = go (packedNumber by) packed-back where
+    go : (n : ℕ) → pointOf n ≡ by → 0 < n
+    go (suc n) e = omega arith
+    go zero e = differ (sym (h .moves) ∙ ap isStill (sym e) ∙ still-zero)
 
 pub packed-small : (by : RawPoint) → packedNumber by < 2 ^ 64
 unfolding packedNumber

@@ -1,17 +1,14 @@
 -- How long the bytes of moves and pieces are at most. Assumes nothing.
-use Prim.Native.Nat.{ℕ, _*_, _≤_}
-use native.Mathlib.{Nat.{le-trans}, Omega.{arith}}
-use mathlib.Core.List.{List, flatMap}
-use lib.{ListN.{length, length-append}, Seq.{slice}}
-use Rattle.numbers.{specs.{declared.point.RawPoint.{RawPoint}, Spelling.{signedForm}}, proofs.Spelling.{varint-few}}
+use Rattle.numbers.proofs.Prelude.{ℕ, _*_, _≤_, length, length-append, slice, List, flatMap, le-trans, arith}
+use Rattle.numbers.{proofs.Spelling.{varint-few}, specs.{Spelling.{signedForm}, declared.point.RawPoint.{RawPoint}}}
 use Rattle.writer.specs.Moves.{plainMoveBytes, packedMoveBytes, packedNumber}
 use Rattle.writer.proofs.Indexed.{each-few, slice-few}
 
-plain-one : (m : RawPoint) → length (plainMoveBytes m) ≤ 20
+pub plain-one : (m : RawPoint) → length (plainMoveBytes m) ≤ 20
 unfolding plainMoveBytes
 plain-one m = simp length-append (omega (arith, varint-few (signedForm (m .lat)), varint-few (signedForm (m .lon))))
 
-packed-one : (m : RawPoint) → length (packedMoveBytes m) ≤ 10
+pub packed-one : (m : RawPoint) → length (packedMoveBytes m) ≤ 10
 unfolding packedMoveBytes
 packed-one m = varint-few (packedNumber m)
 

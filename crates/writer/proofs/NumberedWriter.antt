@@ -1,50 +1,46 @@
 -- Which numbers a border can be refused with where it is written. Assumes nothing.
-use mathlib.Core.{Path.{_≡_, refl}, Bool.{_&&_}, List.{List, [], _∷_}}
-use Prim.Native.Nat.{ℕ, _^_}
-use lib.{Dec.{ltb, leb, eqb}, IntN.{ℤ}, ListN.{length, take, drop}}
-use Rattle.numbers.proofs.{Refusals.{Listed, either}, Replies.{NumberedReply, answers, refuses, and-then, demands, number-of}}
-use Rattle.numbers.specs.{Reply.{Reply, refused, refusal, plain}, declared.{refusal.Refusal.{Refusal}, point.RawPoint.{RawPoint}}}
-use Rattle.writer.specs.{Moves.{movesOf, isMove}, Pieces.{goodPieces}, Writer.{every, sized, near, checks, plainBorder, packedBorder, borderOf, Replied, fitted}}
-use Rattle.writer.specs.declared.write.Piece.{Piece}
+use Rattle.numbers.proofs.{Prelude.{ℕ, _^_, eqb, ltb, leb, ℤ, length, take, drop, _&&_, List, [], _∷_, _≡_, refl}, Refusals.{Listed, still-listed, either}, Replies.{NumberedReply, answers, refuses}}
+use Rattle.numbers.{proofs.Replies.{and-then, demands, number-of}, specs.{Reply.{Reply, refused, refusal, plain}, declared.{point.RawPoint.{RawPoint}, refusal.Refusal.{Refusal}}}}
+use Rattle.writer.specs.{Moves.{movesOf, isMove}, Pieces.{goodPieces}, Writer.{every, sized, near, checks, plainBorder, packedBorder, borderOf, Replied, fitted}, declared.write.Piece.{Piece}}
 
 -- the numbers that document 01 gives to the writer
 abbrev pub writerNumbers : List ℕ
 writerNumbers = 1 ∷ 5 ∷ 19 ∷ 20 ∷ 21 ∷ 22 ∷ 23 ∷ 24 ∷ []
 
--- a number that it is refused with is one of these
-abbrev Known : {A : Type 0} → Reply A → Type 0
-Known reply = NumberedReply (Listed writerNumbers) reply
+-- a border's own: 24 is the output's
+abbrev pub borderNumbers : List ℕ
+borderNumbers = 1 ∷ 5 ∷ 19 ∷ 20 ∷ 21 ∷ 22 ∷ 23 ∷ []
 
-checks-numbered : (version : ℕ) (lats lons : List ℤ) (earlier : List ℕ) → Known (checks version lats lons earlier)
+abbrev Own : {A : Type 0} → Reply A → Type 0
+Own reply = NumberedReply (Listed borderNumbers) reply
+
+pub checks-numbered : (version : ℕ) (lats lons : List ℤ) (earlier : List ℕ) → Own (checks version lats lons earlier)
 unfolding checks
 checks-numbered version lats lons earlier =
-    and-then (demands (leb (length earlier) (2 ^ 30)) (plain 1) refl)
-    (and-then (demands (ltb version 2) (refusal 5 0 version) refl)
-    (and-then (demands (sized lats lons) (plain 19) refl)
-    (and-then (demands (every near lats && every near lons) (plain 20) refl)
-    (and-then (demands (every isMove (drop 1 (movesOf lats lons))) (plain 21) refl)
-    (demands (every isMove (take 1 (movesOf lats lons))) (plain 22) refl)))))
+    and-then (demands (leb (length earlier) (2 ^ 30)) (plain 1) refl) (and-then (demands (ltb version 2) (refusal 5 0 version) refl)
+    (and-then (demands (sized lats lons) (plain 19) refl) (and-then (demands (every near lats && every near lons) (plain 20) refl)
+    (and-then (demands (every isMove (drop 1 (movesOf lats lons))) (plain 21) refl) (demands (every isMove (take 1 (movesOf lats lons))) (plain 22) refl)))))
 
-plain-numbered : (moves : List RawPoint) (pieces : List Piece) → Known (plainBorder moves pieces)
+plain-numbered : (moves : List RawPoint) (pieces : List Piece) → Own (plainBorder moves pieces)
 unfolding plainBorder
 plain-numbered moves pieces = and-then (demands (eqb (length pieces) 0) (plain 23) refl) answers
 
-packed-numbered : (moves : List RawPoint) (pieces : List Piece) (earlier : List ℕ) → Known (packedBorder moves pieces earlier)
+packed-numbered : (moves : List RawPoint) (pieces : List Piece) (earlier : List ℕ) → Own (packedBorder moves pieces earlier)
 unfolding packedBorder
 packed-numbered moves pieces earlier =
     and-then (demands (leb (length pieces) 16) (refusal 23 0 16) refl)
     (and-then (demands (eqb (goodPieces earlier moves 0 pieces) (length pieces)) (refusal 23 0 (goodPieces earlier moves 0 pieces)) refl) answers)
 
-border-numbered : (version : ℕ) (lats lons : List ℤ) (pieces : List Piece) (earlier : List ℕ) → Known (borderOf version lats lons pieces earlier)
+pub border-numbered : (version : ℕ) (lats lons : List ℤ) (pieces : List Piece) (earlier : List ℕ) → Own (borderOf version lats lons pieces earlier)
 unfolding borderOf
 border-numbered version lats lons pieces earlier =
     and-then (checks-numbered version lats lons earlier)
-    (either (λ (r : Reply (List ℕ)). Known r) (eqb version 0) (plain-numbered (movesOf lats lons) pieces) (packed-numbered (movesOf lats lons) pieces earlier))
+    (either (λ (r : Reply (List ℕ)). Own r) (eqb version 0) (plain-numbered (movesOf lats lons) pieces) (packed-numbered (movesOf lats lons) pieces earlier))
 
-fitted-numbered : (room : ℕ) {reply : Reply (List ℕ)} → Known reply → Known (fitted room reply .reply)
+fitted-numbered : (room : ℕ) {reply : Reply (List ℕ)} → Own reply → NumberedReply (Listed writerNumbers) (fitted room reply .reply)
 unfolding fitted
-fitted-numbered room (answers {a = bytes}) = either (λ (r : Replied). Known (r .reply)) (leb (length bytes) room) answers (refuses refl)
-fitted-numbered room (refuses h) = refuses h
+fitted-numbered room (answers {a = bytes}) = either (λ (r : Replied). NumberedReply (Listed writerNumbers) (r .reply)) (leb (length bytes) room) answers (refuses refl)
+fitted-numbered room (refuses {why} h) = refuses (still-listed borderNumbers (24 ∷ []) (why .number) h)
 
 -- a border that is not written is refused with one of these
 pub writer-refusals : (room version : ℕ) (lats lons : List ℤ) (pieces : List Piece) (earlier : List ℕ) (why : Refusal)

@@ -1,11 +1,9 @@
 -- What the walks over a lent list of piece records share. Assumes nothing.
-use Prim.Native.Nat.{ℕ, _*_, _<_, _^_}
-use native.Mathlib.Omega.{arith}
-use mathlib.Core.List.{List}
+use Rattle.numbers.proofs.Prelude.{ℕ, _*_, _^_, _<_, List, arith}
 use mir.Val.{Val}
 use denote.Slice.{Room}
+use Rattle.writer.specs.declared.{pieces.Check.{Check}, write.Piece.{Piece}}
 use denote.Struct.Laws as SL
-use Rattle.writer.specs.declared.{write.Piece.{Piece}, pieces.Check.{Check}}
 use Rattle.writer.proofs.write.Piece as P
 use Rattle.writer.proofs.write.Piece.Laws as P′
 use Rattle.writer.proofs.pieces.Check as K

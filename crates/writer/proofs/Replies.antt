@@ -1,9 +1,7 @@
 -- A promise permits one reply: what an answer says determines it. Assumes nothing.
-use mathlib.Core.{Path.{_≡_, refl, sym, ap, _∙_}, List.{List}}
-use Prim.Native.Nat.{ℕ}
-use Rattle.numbers.specs.Reply.{given}
+use Rattle.numbers.{proofs.Prelude.{ℕ, List, _≡_, refl, sym, ap, _∙_}, specs.Reply.{given}}
 use Rattle.writer.specs.{Writer.{Replied, replied}, declared.write.Written.{Written}}
-use Rattle.writer.specs.Writer as Writer
+use Rattle.writer.specs.Writer
 use Rattle.numbers.specs.Reply as R
 use Rattle.writer.specs.declared.write.Written.the-variants as W
 

@@ -1,14 +1,9 @@
 -- The reply and the buffer, for each way out of the writer. Assumes nothing.
-use Prim.Native.Nat.{ℕ, _-_, _^_, _<_, _≤_}
-use native.Mathlib.Omega.{arith}
-use mathlib.Core.{Path.{_≡_, refl, sym, ap, _∙_}, Bool.{Bool, true, false}, List.{List, [], _∷_, _++_, flatMap}}
-use lib.{Dec.{leb, eqb, ltb}, IntN.{ℤ}, ListN.{length, drop, take, length-replicate}}
-use borrow.Author.Tests.{leb-true, le-leb, lt-leb, eq-eqb, ne-eqb}
-use Rattle.numbers.{proofs.{Lists.{zeros-drop}, Replies.{demanded}}, specs.{Answer.{if_then_else_}, Lists.{zeros}, Reply.{Reply, given, refused, refusal, plain, _>>_}}}
-use Rattle.numbers.specs.{declared.{refusal.Refusal.{Refusal}, point.RawPoint.{RawPoint}}, Spelling.{varintOf}}
-use Rattle.writer.specs.{Moves.{plainMoveBytes, movesOf}, Pieces.{packedFrom}}
-use Rattle.writer.specs.{Writer.{sized, checks, plainBorder, packedBorder, borderOf, Replied, replied, fitted}, inner.Stored.{Stored, Checked}}
-use Rattle.writer.specs.declared.{write.{Piece.{Piece}, Written.the-variants.{Wrote, Refused}}, pieces.Check.{Check}}
+use Rattle.numbers.proofs.{Lists.{zeros-drop}, Prelude.{ℕ, _-_, _^_, _≤_, _<_, eq-eqb, ne-eqb, le-leb, leb-true, lt-leb, eqb, ltb, leb, ℤ, length, take, drop, length-replicate, Bool, true, false}}
+use Rattle.numbers.{proofs.{Prelude.{List, [], _∷_, _++_, flatMap, _≡_, refl, sym, ap, _∙_, arith}, Replies.{demanded}}, specs.{Answer.{if_then_else_}, Lists.{zeros}, Reply.{Reply, given, refused}}}
+use Rattle.numbers.specs.{Reply.{refusal, plain, _>>_}, Spelling.{varintOf}, declared.{point.RawPoint.{RawPoint}, refusal.Refusal.{Refusal}}}
+use Rattle.writer.specs.{Moves.{plainMoveBytes, movesOf}, Pieces.{packedFrom}, Writer.{sized, checks, plainBorder, packedBorder, borderOf, Replied, replied, fitted}}
+use Rattle.writer.specs.{declared.{pieces.Check.{Check}, write.{Piece.{Piece}, Written.the-variants.{Wrote, Refused}}}, inner.Stored.{Stored, Checked}}
 use Rattle.writer.proofs.{Faults.{Sizes, sizes}, Indexed.{border-length}, Stores.{stored-front, stored-length}}
 
 -- ---- what was stored over zeros, if it fits
@@ -20,23 +15,17 @@ module _ (n : ℕ) (answer : Reply (List ℕ)) where
   pub finished : (bytes before after : List ℕ) (next : ℕ) (r : Replied) → answer ≡ given bytes → before ≡ zeros n → Stored before 0 bytes after next
       → r ≡ (if leb next (length after) then replied (Wrote next) after else replied (Refused 24 0) (zeros (length after))) → r ≡ fitted n answer
   unfolding fitted
-  finished bytes before after next r is z s e =
-      let size : length before ≡ n = ap length z ∙ length-replicate {A = ℕ} n 0 in
-      let size′ : length after ≡ n = stored-length s ∙ size in
-      let end : next ≡ length bytes = omega (arith, s .place-after) in
-      e
-      ∙ ap (λ (k : ℕ). if leb k (length after) then replied (Wrote k) after else replied (Refused 24 0) (zeros (length after))) end
+  finished bytes before after next r is z s e = let size : length before ≡ n = ap length z ∙ length-replicate {A = ℕ} n 0 in
+      let size′ : length after ≡ n = stored-length s ∙ size in let end : next ≡ length bytes = omega (arith, s .place-after) in
+      e ∙ ap (λ (k : ℕ). if leb k (length after) then replied (Wrote k) after else replied (Refused 24 0) (zeros (length after))) end
       ∙ ap (λ (k : ℕ). if leb (length bytes) k then replied (Wrote (length bytes)) after else replied (Refused 24 0) (zeros k)) size′
-      ∙ by-test (leb (length bytes) n) refl size
-      ∙ ap (fitted n) (sym is)
-    where
-      by-test : (t : Bool) → leb (length bytes) n ≡ t → length before ≡ n → (if t then replied (Wrote (length bytes)) after else replied (Refused 24 0) (zeros n)) ≡ (if t then replied (Wrote (length bytes)) (bytes ++ zeros (n - length bytes)) else replied (Refused 24 0) (zeros n))
-      by-test true t size =
-          ap (replied (Wrote (length bytes)))
-          (stored-front before bytes after next s (omega (arith, leb-true (length bytes) n t))
-          ∙ ap (λ (xs : List ℕ). bytes ++ drop (length bytes) xs) z
-          ∙ ap (λ (xs : List ℕ). bytes ++ xs) (zeros-drop (length bytes) n))
-      by-test false t size = refl
+      ∙ by-test (leb (length bytes) n) refl size ∙ ap (fitted n) (sym is) where
+        by-test : (t : Bool) → leb (length bytes) n ≡ t → length before ≡ n → (if t then replied (Wrote (length bytes)) after else replied (Refused 24 0)
+            (zeros n)) ≡ (if t then replied (Wrote (length bytes)) (bytes ++ zeros (n - length bytes)) else replied (Refused 24 0) (zeros n))
+        by-test true t size =
+            ap (replied (Wrote (length bytes))) (stored-front before bytes after next s (omega (arith, leb-true (length bytes) n t))
+            ∙ ap (λ (xs : List ℕ). bytes ++ drop (length bytes) xs) z ∙ ap (λ (xs : List ℕ). bytes ++ xs) (zeros-drop (length bytes) n))
+        by-test false t size = refl
 
 -- ---- the border after its checks
 module _ (version : ℕ) (lats lons : List ℤ) (earlier : List ℕ) (ps : List Piece) where
@@ -53,10 +42,8 @@ module _ (version : ℕ) (lats lons : List ℤ) (earlier : List ℕ) (ps : List 
   module _ (good : given tt ≡ checks version lats lons earlier) where
     pub good-sizes : Sizes lats lons
     unfolding checks
-    good-sizes =
-        let h₁ = demanded (leb (length earlier) (2 ^ 30)) (plain 1) good in
-        let h₂ = demanded (ltb version 2) (refusal 5 0 version) (h₁ .1) in
-        sizes lats lons (demanded (sized lats lons) (plain 19) (h₂ .1) .0)
+    good-sizes = let h₁ = demanded (leb (length earlier) (2 ^ 30)) (plain 1) good in
+        sizes lats lons (demanded (sized lats lons) (plain 19) (demanded (ltb version 2) (refusal 5 0 version) (h₁ .1) .1) .0)
 
     onward : border ≡ (if eqb version 0 then plainBorder moves ps else packedBorder moves ps earlier)
     unfolding borderOf
@@ -70,8 +57,7 @@ module _ (version : ℕ) (lats lons : List ℤ) (earlier : List ℕ) (ps : List 
 
         pub plain-given : c .seen ≡ 0 → border ≡ given (varintOf (length lats) ++ (flatMap plainMoveBytes moves ++ (2 ∷ 2 ∷ [])))
         unfolding plainBorder
-        plain-given none =
-            let size : length moves ≡ length lats = omega (arith, border-length lats lons, good-sizes .same) in
+        plain-given none = let size : length moves ≡ length lats = omega (arith, border-length lats lons, good-sizes .same) in
             onward ∙ rw (eq-eqb version 0 v, eq-eqb (length ps) 0 (omega (arith, h .seen)), size)
 
       module _ (v : version ≡ 0 → ⊥) where

@@ -1,12 +1,9 @@
 -- Signed numbers of the code: the difference of two coordinates and its signed form. Assumes nothing.
-use Prim.Native.Nat.{ℕ, zero, suc}
-use native.Mathlib.Omega.{arith}
-use mathlib.Core.Path.{_≡_, sym, ap, _∙_}
-use lib.{Dec.{eqb}, IntN.{ℤ, pos, negsuc, negℤ, _+ℤ_, _-ℤ_, +ℤ-idr, +ℤ-comm, negℤ-+ℤ, negℤ-negℤ}}
-use mir.{Syntax.{w32}, Val.{SFits, toZ, ofZ}, Facts.{toZ-ofZ}}
-use borrow.Author.Tests.{ne-eqb}
-use Rattle.border.specs.Place.{isZero}
+use Rattle.numbers.proofs.Prelude.{ℕ, zero, suc, ne-eqb, eqb, ℤ, pos, negsuc, _+ℤ_, _-ℤ_, negℤ, _≡_, sym, ap, _∙_, w32, SFits, ofZ, toZ, arith}
 use Rattle.numbers.{proofs.Spelling.{form-positive, form-negative}, specs.Spelling.{signedForm}}
+use lib.IntN.{+ℤ-idr, +ℤ-comm, negℤ-+ℤ, negℤ-negℤ}
+use mir.Facts.{toZ-ofZ}
+use Rattle.border.specs.Place.{isZero}
 
 pub form-zero : (z : ℤ) → eqb (signedForm z) 0 ≡ isZero z
 form-zero (pos zero) = rw (form-positive zero)

@@ -1,14 +1,7 @@
 -- Bytes that go into a lent buffer one after another. Assumes nothing.
-use Prim.Native.Nat.{ℕ, suc, _+_, _-_, _<_, _≤_}
-use native.Mathlib.{Nat.{add-zero}, Omega.{arith}}
-use mathlib.Core.{Path.{_≡_, refl, sym, ap, _∙_, subst}, List.{List, [], _∷_, _++_, append-nil}}
-use lib.{ListN.{length, set, drop, length-append, length-replicate}, Seq.{sets, length-sets, sets-eq, drop-length}}
-use Rattle.numbers.{specs.{Spelling.{varintOf, Put}, Lists.{zeros}}, proofs.Spelling.{varint-byte}}
+use Rattle.numbers.proofs.{Lists.{sets-append}, Prelude.{ℕ, suc, _+_, _-_, _≤_, _<_, length, drop, set, length-append, length-replicate, sets, drop-length, length-sets, sets-eq, List, [], _∷_, _++_}}
+use Rattle.numbers.{proofs.{Prelude.{append-nil, _≡_, refl, sym, ap, subst, _∙_, arith}, Spelling.{varint-byte}}, specs.{Lists.{zeros}, Spelling.{varintOf, Put}}}
 use Rattle.writer.specs.inner.Stored.{Stored}
-
-pub sets-append : (xs ys before : List ℕ) (at : ℕ) → sets before at (xs ++ ys) ≡ sets (sets before at xs) (at + length xs) ys
-sets-append [] ys before at = ap (λ (n : ℕ). sets before n ys) (sym (add-zero at))
-sets-append (x ∷ xs) ys before at = sets-append xs ys (set before at x) (suc at) ∙ ap (λ (n : ℕ). sets (sets (set before at x) (suc at) xs) n ys) (omega arith)
 
 pub stored-length : {before bytes after : List ℕ} {at next : ℕ} → Stored before at bytes after next → length after ≡ length before
 stored-length {before} {bytes} {after} {at} s = ap length (s .stored) ∙ length-sets before at bytes
@@ -62,17 +55,13 @@ zeros-done n i h = let e : n - i ≡ 0 = omega arith in ap zeros e
 
 -- bytes stored over zeros
 pub stored-front : (before bytes after : List ℕ) (next : ℕ) → Stored before 0 bytes after next → length bytes ≤ length before → after ≡ bytes ++ drop (length bytes) before
-stored-front before bytes after next s h =
-    let e : 0 + length bytes ≡ length bytes = omega arith in
+stored-front before bytes after next s h = let e : 0 + length bytes ≡ length bytes = omega arith in
     s .stored ∙ sets-eq bytes before 0 (omega arith) ∙ ap (λ (k : ℕ). bytes ++ drop k before) e
 
 pub stored-zeros : (before after : List ℕ) (next : ℕ) → Stored before 0 (zeros (length before)) after next → after ≡ zeros (length before)
-stored-zeros before after next s =
-    let n : length (zeros (length before)) ≡ length before = length-replicate {A = ℕ} (length before) 0 in
-    stored-front before (zeros (length before)) after next s (omega (arith, n))
-    ∙ ap (λ (k : ℕ). zeros (length before) ++ drop k before) n
-    ∙ ap (λ (xs : List ℕ). zeros (length before) ++ xs) (drop-length before)
-    ∙ append-nil (zeros (length before))
+stored-zeros before after next s = let n : length (zeros (length before)) ≡ length before = length-replicate {A = ℕ} (length before) 0 in
+    stored-front before (zeros (length before)) after next s (omega (arith, n)) ∙ ap (λ (k : ℕ). zeros (length before) ++ drop k before) n
+    ∙ ap (λ (xs : List ℕ). zeros (length before) ++ xs) (drop-length before) ∙ append-nil (zeros (length before))
 
 -- ---- the marks of a piece
 marks : varintOf 0 ++ varintOf 1 ≡ 0 ∷ 1 ∷ []

@@ -1,5 +1,5 @@
 -- How much a border may have: document 01, "The writer".
-use Prim.Native.Nat.{ℕ}
+use Rattle.numbers.specs.Prelude.{ℕ}
 
 abbrev pub mostPoints : ℕ
 mostPoints = 65535

@@ -1,8 +1,5 @@
 -- How a border's moves are written: document 01, "Moves as in the reader, shortest varints, odd only for negatives".
-use Prim.Native.Nat.{ℕ}
-use mathlib.Core.{Bool.{Bool, not, _&&_}, List.{List, _∷_, _++_, zipWith}}
-use lib.{Dec.{eqb}, IntN.{ℤ, pos, negℤ, _-ℤ_}}
-use Rattle.numbers.specs.{Spelling.{varintOf, signedForm, interleaved}, declared.point.RawPoint.{RawPoint}}
+use Rattle.numbers.specs.{Prelude.{ℕ, eqb, ℤ, pos, _-ℤ_, negℤ, Bool, _&&_, not, List, _∷_, _++_, zipWith}, Spelling.{varintOf, signedForm, interleaved}, declared.point.RawPoint.{RawPoint}}
 use Rattle.border.specs.{Place.{pointAt, moveBy, isStill}, declared.place.Point.{Point}}
 
 -- a move in version 0, two numbers

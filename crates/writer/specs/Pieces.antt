@@ -1,9 +1,8 @@
 -- Pieces: runs of the earlier data that stand for moves of a version 1 border.
-use Prim.Native.Nat.{ℕ, zero, suc, _+_, _-_, _*_, _/_}
-use mathlib.Core.{Bool.{Bool, false, not, _&&_, _||_}, List.{List, [], _∷_, _++_, map, reverse, flatMap}}
-use lib.{Dec.{ltb, leb, eqb}, ListN.{length, take, drop, getD}, Seq.{slice}}
-use Rattle.numbers.specs.{Answer.{Answer, found, failed, refused, if_then_else_}, Varint.{Numeral, isLast, forwardAt}, Point.{pointOf}}
-use Rattle.numbers.specs.{declared.point.RawPoint.{RawPoint}, Spelling.{varintOf}}
+use Rattle.numbers.specs.Prelude.{ℕ, zero, suc, _+_, _-_, _*_, _/_, eqb, ltb, leb, length, take, drop, getD, Bool, false, _&&_, _||_, not, List, [], _∷_, _++_, map, flatMap}
+use Rattle.numbers.specs.{Answer.{Answer, found, failed, refused, if_then_else_}, Point.{pointOf}, Spelling.{varintOf}, Varint.{Numeral, isLast, forwardAt}, declared.point.RawPoint.{RawPoint}}
+use mathlib.Core.List.{reverse}
+use lib.Seq.{slice}
 use Rattle.writer.specs.{Moves.{packedMoveBytes, turnedBack, sameMove}, declared.write.Piece.{Piece}}
 
 -- direction 0 is forward, others backward
@@ -29,7 +28,8 @@ readAnd (refused n) good = false
 -- from a place on the run is whole varints of at most ten bytes, none 0, and just these moves
 unfoldable pub spells : List ℕ → ℕ → List RawPoint → Bool
 spells run place [] = eqb place (length run)
-spells run place (m ∷ ms) = readAnd (forwardAt run place) (λ number. leb (number .place) (length run) && (not (eqb (number .value) 0) && (sameMove (pointOf (number .value)) m && spells run (number .place) ms)))
+spells run place (m ∷ ms) =
+    readAnd (forwardAt run place) (λ number. leb (number .place) (length run) && (not (eqb (number .value) 0) && (sameMove (pointOf (number .value)) m && spells run (number .place) ms)))
 
 -- "the byte just before it, of that data, with the high bit clear"
 unfoldable pub clearBefore : List ℕ → ℕ → Bool

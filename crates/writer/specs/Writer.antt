@@ -1,9 +1,6 @@
 -- What the writer writes, and when it refuses: document 01, "The writer".
-use Prim.Native.Nat.{ℕ}
-use mathlib.Core.{Bool.{Bool, true, _&&_}, List.{List, [], _∷_, _++_, flatMap}}
-use lib.{Dec.{ltb, leb, eqb}, IntN.{ℤ, natAbs}, ListN.{length, take, drop}}
-use Rattle.numbers.specs.{Limits.{largestFile}, Answer.{if_then_else_}, Lists.{zeros, padded}, Reply.{Reply, given, refused, refusal, plain, demand, _>>_}, declared.point.RawPoint.{RawPoint}}
-use Rattle.numbers.specs.Spelling.{varintOf}
+use Rattle.numbers.specs.{Answer.{if_then_else_}, Limits.{largestFile}, Lists.{zeros, padded}, Prelude.{ℕ, eqb, ltb, leb, ℤ, natAbs, length, take, drop, Bool, true, _&&_, List, [], _∷_, _++_}}
+use Rattle.numbers.specs.{Prelude.{flatMap}, Reply.{Reply, given, refused, refusal, plain, demand, _>>_}, Spelling.{varintOf}, declared.point.RawPoint.{RawPoint}}
 use Rattle.writer.specs.{Limits.{mostPoints, mostPieces}, Moves.{plainMoveBytes, movesOf, isMove}, Pieces.{goodPieces, packedFrom}, declared.write.{Piece.{Piece}, Written.{Written}}}
 use Rattle.writer.specs.declared.write.Written.the-variants as W
 

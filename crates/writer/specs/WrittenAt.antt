@@ -1,8 +1,5 @@
 -- A border that the writer wrote, at a place of a file.
-use Prim.Native.Nat.{ℕ}
-use mathlib.Core.{Path.{_≡_}, List.{List}}
-use lib.IntN.{ℤ}
-use Rattle.numbers.specs.Reply.{given}
+use Rattle.numbers.specs.{Prelude.{ℕ, ℤ, List, _≡_}, Reply.{given}}
 use Rattle.writer.specs.{Writer.{borderOf}, declared.write.Piece.{Piece}}
 use Rattle.border.specs.Written.{Placed}
 

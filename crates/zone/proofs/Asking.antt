@@ -1,10 +1,7 @@
 -- The three answers of the program: too long, too short, and the lookup's. Assumes nothing.
-use Prim.Native.Nat.{ℕ, _-_, _≤_, _<_}
-use borrow.Author.Tests.{le-leb, lt-leb}
-use lib.ListN.{length, take, drop}
-use mathlib.Core.{Bool.{true}, List.{List}, Path.{_≡_, ap, _∙_}}
-use Rattle.header.proofs.Buffers.{tail-lent}
+use Rattle.numbers.proofs.Prelude.{ℕ, _-_, _≤_, _<_, le-leb, lt-leb, length, take, drop, true, List, _≡_, ap, _∙_}
 use Rattle.numbers.{proofs.Replies.{met, unmet}, specs.{Lists.{zeros}, Reply.{Reply, refused, plain}, declared.refusal.Refusal.{Refusal}}}
+use Rattle.header.proofs.Buffers.{tail-lent}
 use Rattle.zones.specs.{Lent.{replied, repliedOf}, Lookup.{zonesIn, lookedUp}, declared.lookup.Zones.{Zones}}
 use Rattle.table.specs.declared.location.Location.{Location}
 use Rattle.zone.specs.Answer.{locationOf, outcomeOf, answerOf}
@@ -34,6 +31,4 @@ module _ (input : List ℕ) (n room : ℕ) where
       → location ≡ locationOf input → length input ≤ 65536 → 8 ≤ length input → replied reply hs ts ≡ answerOf input n room
   unfolding outcomeOf answerOf lookedUp
   asked location reply hs ts e is fits whole =
-      e
-      ∙ ap (repliedOf n room)
-      ((λ i. zonesIn (tail-lent 8 input i) (is i) true n room) ∙ met (le-leb 8 (length input) whole) _ _ ∙ met (le-leb (length input) 65536 fits) _ _)
+      e ∙ ap (repliedOf n room) ((λ i. zonesIn (tail-lent 8 input i) (is i) true n room) ∙ met (le-leb 8 (length input) whole) _ _ ∙ met (le-leb (length input) 65536 fits) _ _)

@@ -1,7 +1,5 @@
 -- Digits as they are printed. Assumes nothing.
-use Prim.Native.Nat.{ℕ, _+_, _%_, _<_, _≤_}
-use borrow.Author.Tests.{lt-ltb, le-ltb}
-use mathlib.Core.{List.{List}, Path.{_≡_, refl, ap}}
+use Rattle.numbers.proofs.Prelude.{ℕ, _+_, _%_, _≤_, _<_, lt-ltb, le-ltb, List, _≡_, refl, ap}
 use Rattle.line.{proofs.Puts.{put-as}, specs.Put.{Put}}
 use Rattle.zone.specs.Lines.{hexDigit, hexByte}
 

@@ -1,9 +1,7 @@
 -- What the program asks of the library, as document 01 has it: latitude and longitude, then the file.
-use mathlib.Core.{Bool.{true}, List.{List}}
-use Prim.Native.Nat.{ℕ}
-use lib.{Dec.{leb}, Ieee.{binary32, ofBits}, ListN.{length, drop}}
+use Rattle.numbers.specs.{Prelude.{ℕ, leb, binary32, length, drop, true, List}, Reply.{Reply, plain, demand, _>>_}}
+use lib.Ieee.{ofBits}
 use Rattle.line.specs.Bytes.{wordAt}
-use Rattle.numbers.specs.Reply.{Reply, plain, demand, _>>_}
 use Rattle.zones.specs.{Lent.{Outcome, Replied, repliedOf}, Lookup.{zonesIn}, declared.lookup.Zones.{Zones}}
 use Rattle.table.specs.declared.location.Location.{Location}
 

@@ -1,9 +1,7 @@
 -- The lines that are printed: "lookup 1 1 3C070000", "match 0 0 1 16", "field 0 41", "refused 3".
-use Prim.Native.Nat.{ℕ, zero, suc, _+_, _*_, _/_, _%_, _≤_}
-use lib.{Dec.{ltb}, ListN.{length, getD, take, drop}}
-use mathlib.Core.{List.{List, [], _∷_, _++_}, Path.{_≡_}}
-use Rattle.line.specs.Put.{decimal}
+use Rattle.numbers.specs.Prelude.{ℕ, zero, suc, _+_, _*_, _/_, _%_, _≤_, ltb, length, take, drop, getD, List, [], _∷_, _++_, _≡_}
 use Rattle.numbers.specs.{Answer.{if_then_else_}, Reply.{Reply, given, refused}, declared.refusal.Refusal.{Refusal}}
+use Rattle.line.specs.Put.{decimal}
 use Rattle.table.specs.{Hits.{slots}, declared.hits.Hit.{Hit}}
 use Rattle.zones.specs.declared.lookup.Zones.{Zones}
 

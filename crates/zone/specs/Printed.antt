@@ -1,7 +1,5 @@
 -- What the program prints for each input.
-use Prim.Native.Nat.{ℕ}
-use lib.ListN.{getD, drop}
-use mathlib.Core.{List.{List}, Path.{_≡_}}
+use Rattle.numbers.specs.Prelude.{ℕ, drop, getD, List, _≡_}
 use Rattle.line.specs.Put.{Put}
 use Rattle.zone.specs.{Answer.{answerOf}, Lines.{linesOf}}
 

@@ -1,18 +1,14 @@
 -- The distance asked for or not (request Q-2): the search, and lookup over it. Assumes nothing.
-use Prim.Native.Nat.{ℕ, _/_}
-use lib.{Dec.{ltb, eqb}, ListN.{length}}
-use mathlib.Core.{Bool.{Bool, true, false}, List.{List, [], _∷_, _++_}, Logic.{_⊎_, inl, inr}, Path.{_≡_, refl, sym, ap, _∙_, subst}}
-use native.Mathlib.Omega.{arith}
+use Rattle.numbers.proofs.Prelude.{ℕ, _/_, eqb, ltb, length, Bool, true, false, List, [], _∷_, _++_, _⊎_, inl, inr, _≡_, refl, sym, ap, subst, _∙_, arith}
+use Rattle.numbers.specs.{Answer.{if_then_else_}, Reply.{Reply, given, refused, plain, _>>=_}}
 use Rattle.verdict.{proofs.Unasked.{Agrees, judged-asked-or-not}, specs.Verdict.{Judgement, reached}}
 use Rattle.border.specs.declared.place.Point.{Point}
-use Rattle.numbers.specs.{Answer.{if_then_else_}, Reply.{Reply, given, refused, plain, _>>=_}}
 use Rattle.header.{proofs.Unless.{shown, Unless, refuses, alike, unless-after, unless-demand, unless-then}, specs.{Header.{headOf, headStrictly}, declared.header.Head.{Head}}}
 use Rattle.zones.specs.{Fields.{fieldsOf}, Lent.{Outcome, Replied, replied, repliedOf}}
 use Rattle.zones.specs.{Lookup.{safezoneBits, zonesFrom, zonesWith, zonesIn, zonesListed, lookedWith, lookedUp, lookedStrictly, lookedListed}, declared.lookup.Zones.{Zones}}
-use Rattle.table.specs.{Find.{Matched, isPrecision, fixOf, matchedBy, matchedWith}, GivenRows.{rowsListed, searchedListed, matchedListed}, Hits.{width}, Merge.{merged}}
-use Rattle.table.specs.{Rest.{restMark}, Rows.{Rows, row, tableEnd, unreadable, rowsIn}, Unstopped.{seekAll}}
-use Rattle.table.specs.{Search.{Found, ended, kindOf, rowHit, farthest, afterTurn, judgedTurn, rowTurn, seek, judgeIn, searched}, Table.{isAbove, holds}}
-use Rattle.table.specs.declared.{hits.Hit.{Hit}, location.Location.{Location}, rows.Row.{Row}, search.Turn.the-variants.{On, Met}}
+use Rattle.table.specs.{Find.{Matched, isPrecision, fixOf, matchedBy, matchedWith}, GivenRows.{rowsListed, searchedListed, matchedListed}, Hits.{width}, Merge.{merged}, Rest.{restMark}}
+use Rattle.table.specs.{Rows.{Rows, row, tableEnd, unreadable, rowsIn}, Search.{Found, ended, kindOf, rowHit, farthest, afterTurn, judgedTurn, rowTurn, seek, judgeIn, searched}}
+use Rattle.table.specs.{Table.{isAbove, holds}, Unstopped.{seekAll}, declared.{hits.Hit.{Hit}, location.Location.{Location}, rows.Row.{Row}, search.Turn.the-variants.{On, Met}}}
 use Rattle.verdict.specs.Verdict as J
 use Rattle.table.specs.Rows as T
 
@@ -31,13 +27,13 @@ module _ (judge judge′ : ℕ → ℕ → Judgement) (agree : (polygon least le
 
   module _ (hits : List Hit) (go go′ : ℕ → List Hit → Reply Found) (same : (least least′ : ℕ) (hits : List Hit) → Same (go least hits) (go′ least′ hits)) where
     -- a border that is no hit, and one that is
-    reached-same : (missed : Bool) (hit : Hit) (least least′ : ℕ) → Same (afterTurn (if missed then On least else Met hit least) hits room go) (afterTurn (if missed then On least′ else Met hit least′) hits room go′)
+    reached-same : (missed : Bool) (hit : Hit) (least least′ : ℕ) → Same (afterTurn (if missed then On least else Met hit least) hits room go)
+        (afterTurn (if missed then On least′ else Met hit least′) hits room go′)
     reached-same true hit least least′ = same least least′ hits
-    reached-same false hit least least′ = slot (ltb (length hits) room)
-      where
-        slot : (test : Bool) → Same (if test then go least (hits ++ hit ∷ []) else refused (plain 17)) (if test then go′ least′ (hits ++ hit ∷ []) else refused (plain 17))
-        slot true = same least least′ (hits ++ hit ∷ [])
-        slot false = alike refl
+    reached-same false hit least least′ = slot (ltb (length hits) room) where
+      slot : (test : Bool) → Same (if test then go least (hits ++ hit ∷ []) else refused (plain 17)) (if test then go′ least′ (hits ++ hit ∷ []) else refused (plain 17))
+      slot true = same least least′ (hits ++ hit ∷ [])
+      slot false = alike refl
 
     judged-same : (r : Row) (j o : Judgement) (d : ℕ) → Agrees d j o → Same (afterTurn (judgedTurn r j) hits room go) (afterTurn (judgedTurn r o) hits room go′)
     unfolding judgedTurn
@@ -48,23 +44,21 @@ module _ (judge judge′ : ℕ → ℕ → Judgement) (agree : (polygon least le
 
     row-same : (r : Row) (least least′ : ℕ) → Same (afterTurn (rowTurn judge fix r least) hits room go) (afterTurn (rowTurn judge′ fix r least′) hits room go′)
     unfolding rowTurn
-    row-same r least least′ = by-box (holds (r .bounds) fix)
-      where
-        by-box : (held : Bool)
-            → Same (afterTurn (if held then judgedTurn r (judge (r .polygon) least) else On least) hits room go)
-            (afterTurn (if held then judgedTurn r (judge′ (r .polygon) least′) else On least′) hits room go′)
-        by-box true = judged-same r (judge (r .polygon) least) (judge′ (r .polygon) least′) least′ (agree (r .polygon) least least′)
-        by-box false = same least least′ hits
+    row-same r least least′ = by-box (holds (r .bounds) fix) where
+      by-box : (held : Bool) → Same (afterTurn (if held then judgedTurn r (judge (r .polygon) least) else On least) hits room go)
+          (afterTurn (if held then judgedTurn r (judge′ (r .polygon) least′) else On least′) hits room go′)
+      by-box true = judged-same r (judge (r .polygon) least) (judge′ (r .polygon) least′) least′ (agree (r .polygon) least least′)
+      by-box false = same least least′ hits
 
   -- a search with the distance is refused by 13, or finds what the one without it finds, but for the distance
   pub seek-unless : (end : ℕ) (rows : Rows) (least least′ : ℕ) (hits : List Hit) → Same (seek judge fix end room rows least hits) (seek judge′ fix end room rows least′ hits)
   unfolding seek
-  seek-unless end (row r rows) least least′ hits = by-above (isAbove (r .bounds) fix) (row-same hits (seek judge fix end room rows) (seek judge′ fix end room rows) (seek-unless end rows) r least least′)
-    where
-      by-above : (above : Bool) {on on′ : Reply Found} → Same on on′
-          → Same (if above then ended hits (restMark end fix (row r rows)) least else on) (if above then ended hits (restMark end fix (row r rows)) least′ else on′)
-      by-above true h = alike refl
-      by-above false h = h
+  seek-unless end (row r rows) least least′ hits =
+      by-above (isAbove (r .bounds) fix) (row-same hits (seek judge fix end room rows) (seek judge′ fix end room rows) (seek-unless end rows) r least least′) where
+        by-above : (above : Bool) {on on′ : Reply Found} → Same on on′
+            → Same (if above then ended hits (restMark end fix (row r rows)) least else on) (if above then ended hits (restMark end fix (row r rows)) least′ else on′)
+        by-above true h = alike refl
+        by-above false h = h
   seek-unless end tableEnd least least′ hits = alike refl
   seek-unless end unreadable least least′ hits = alike refl
   seek-unless end (T.refused n) least least′ hits = alike refl
@@ -123,32 +117,31 @@ module _ (file : List ℕ) (head : Head) (location : Location) where
         text = text;
       })
 
-  zones-unless : (room : ℕ) {asked not : Reply Matched} → Unless 13 unmeasuredMatched asked not → Unless 13 unmeasuredOutcome (zonesFrom file head true room asked) (zonesFrom file head false room not)
+  zones-unless : (room : ℕ) {asked not : Reply Matched} → Unless 13 unmeasuredMatched asked not → Unless 13 unmeasuredOutcome (zonesFrom file head true room asked)
+      (zonesFrom file head false room not)
   zones-unless room {asked} {not} same =
-      unless-then asked not same
-      λ a b same. subst (λ (found : Matched). Unless 13 unmeasuredOutcome (finished room true a (a .least)) (finished room false found (b .least))) same
+      unless-then asked not same λ a b same. subst (λ (found : Matched). Unless 13 unmeasuredOutcome (finished room true a (a .least)) (finished room false found (b .least))) same
       (unless-after (fieldsOf file head room (a .matches) []) (λ text. alike refl))
 
   -- without the distance there are no safezone bits to leave out
   zones-unmeasured : (room : ℕ) (matched : Reply Matched) → shown unmeasuredOutcome (zonesFrom file head false room matched) ≡ zonesFrom file head false room matched
   unfolding safezoneBits
-  zones-unmeasured room = through
-    where
-      written : (found : Matched) (text : Reply (List ℕ)) → shown unmeasuredOutcome (text >>= λ t. given (record {
-        answer = record { matches = length (found .matches); mark = found .mark; safezone = 0; used = length t };
-        matches = found .matches;
-        text = t;
-      })) ≡ (text >>= λ t. given (record {
-        answer = record { matches = length (found .matches); mark = found .mark; safezone = 0; used = length t };
-        matches = found .matches;
-        text = t;
-      }))
-      written found (given t) = refl
-      written found (refused why) = refl
+  zones-unmeasured room = through where
+    written : (found : Matched) (text : Reply (List ℕ)) → shown unmeasuredOutcome (text >>= λ t. given (record {
+      answer = record { matches = length (found .matches); mark = found .mark; safezone = 0; used = length t };
+      matches = found .matches;
+      text = t;
+    })) ≡ (text >>= λ t. given (record {
+      answer = record { matches = length (found .matches); mark = found .mark; safezone = 0; used = length t };
+      matches = found .matches;
+      text = t;
+    }))
+    written found (given t) = refl
+    written found (refused why) = refl
 
-      through : (r : Reply Matched) → shown unmeasuredOutcome (r >>= λ found. finished room false found (found .least)) ≡ (r >>= λ found. finished room false found (found .least))
-      through (given found) = written found (fieldsOf file head room (found .matches) [])
-      through (refused why) = refl
+    through : (r : Reply Matched) → shown unmeasuredOutcome (r >>= λ found. finished room false found (found .least)) ≡ (r >>= λ found. finished room false found (found .least))
+    through (given found) = written found (fieldsOf file head room (found .matches) [])
+    through (refused why) = refl
 
 -- ---- lookup
 -- a reply with its lent buffers, without the safezone bits
@@ -164,14 +157,17 @@ replied-unmeasured n room (refused why) = refl
 abbrev pub AskedOrNot : ℕ → ℕ → Replied Zones → Replied Zones → Type 0
 AskedOrNot n room asked not = (asked ≡ repliedOf n room (refused (plain 13))) ⊎ (unmeasuredReply asked ≡ not)
 
-replies-so : (n room : ℕ) (asked not : Reply (Outcome Zones)) → Unless 13 unmeasuredOutcome asked not → shown unmeasuredOutcome not ≡ not → AskedOrNot n room (repliedOf n room asked) (repliedOf n room not)
+replies-so : (n room : ℕ) (asked not : Reply (Outcome Zones)) → Unless 13 unmeasuredOutcome asked not → shown unmeasuredOutcome not ≡ not
+    → AskedOrNot n room (repliedOf n room asked) (repliedOf n room not)
 replies-so n room asked not (refuses e) same = inl (ap (repliedOf n room) e)
 replies-so n room asked not (alike e) same = inr (replied-unmeasured n room asked ∙ ap (repliedOf n room) (e ∙ same))
 
 -- in a file whose header was read,
 pub asked-or-not-with : (file : List ℕ) (head : Head) (location : Location) (n room : ℕ) → AskedOrNot n room (lookedWith file head location true n room) (lookedWith file head location false n room)
 unfolding lookedWith zonesWith
-asked-or-not-with file head location n room = replies-so n room _ _ (zones-unless file head location room (matched-unless file head location (n / width))) (zones-unmeasured file head location room (matchedWith file head location false (n / width)))
+asked-or-not-with file head location n room =
+    replies-so n room _ _ (zones-unless file head location room (matched-unless file head location (n / width))) (zones-unmeasured file head location room
+    (matchedWith file head location false (n / width)))
 
 -- among rows that are given as words, as an index has them,
 pub asked-or-not-listed : (file : List ℕ) (head : Head) (location : Location) (records numbers : List ℕ) (n room : ℕ)
@@ -194,8 +190,7 @@ module _ (file : List ℕ) (location : Location) (n room : ℕ) where
   -- and in one that is opened first
   pub asked-or-not-up : AskedOrNot n room (lookedUp file location true n room) (lookedUp file location false n room)
   unfolding lookedUp zonesIn
-  asked-or-not-up =
-      replies-so n room _ _ (unless-after (headOf file) with-unless) (opened (headOf file))
+  asked-or-not-up = replies-so n room _ _ (unless-after (headOf file) with-unless) (opened (headOf file))
 
   -- strictly too
   pub asked-or-not-strictly : AskedOrNot n room (lookedStrictly file location true n room) (lookedStrictly file location false n room)
@@ -206,18 +201,16 @@ module _ (file : List ℕ) (location : Location) (n room : ℕ) where
   pub without-safezone : {zones : Zones} → lookedUp file location true n room .reply ≡ given zones
       → lookedUp file location false n room ≡ replied (given (unmeasured zones)) (lookedUp file location true n room .hits) (lookedUp file location true n room .text)
   unfolding repliedOf
-  without-safezone {zones} answered = go asked-or-not-up
-    where
-      go : AskedOrNot n room (lookedUp file location true n room) (lookedUp file location false n room)
-          → lookedUp file location false n room ≡ replied (given (unmeasured zones)) (lookedUp file location true n room .hits) (lookedUp file location true n room .text)
-      go (inl e) = let z : _≡_ {A = Reply Zones} (given zones) (refused (plain 13)) = sym answered ∙ ap (λ (r : Replied Zones). r .reply) e in let no : _≡_ {A = ℕ} 0 1 = cc in absurd (omega arith)
-      go (inr e) = sym e ∙ ap (λ (r : Reply Zones). replied (shown unmeasured r) (lookedUp file location true n room .hits) (lookedUp file location true n room .text)) answered
+  without-safezone {zones} answered = go asked-or-not-up where
+    go : AskedOrNot n room (lookedUp file location true n room) (lookedUp file location false n room)
+        → lookedUp file location false n room ≡ replied (given (unmeasured zones)) (lookedUp file location true n room .hits) (lookedUp file location true n room .text)
+    go (inl e) = let z : _≡_ {A = Reply Zones} (given zones) (refused (plain 13)) = sym answered ∙ ap (λ (r : Replied Zones). r .reply) e in let no : _≡_ {A = ℕ} 0 1 = cc in absurd (omega arith)
+    go (inr e) = sym e ∙ ap (λ (r : Reply Zones). replied (shown unmeasured r) (lookedUp file location true n room .hits) (lookedUp file location true n room .text)) answered
 
   -- the other way round only 13 may differ: where asking with the distance is not refused by 13, it says what asking without it says
   pub only-thirteen : (lookedUp file location true n room .reply ≡ refused (plain 13) → ⊥) → unmeasuredReply (lookedUp file location true n room) ≡ lookedUp file location false n room
   unfolding repliedOf
-  only-thirteen not-so = go asked-or-not-up
-    where
-      go : AskedOrNot n room (lookedUp file location true n room) (lookedUp file location false n room) → unmeasuredReply (lookedUp file location true n room) ≡ lookedUp file location false n room
-      go (inl e) = absurd (not-so (ap (λ (r : Replied Zones). r .reply) e))
-      go (inr e) = e
+  only-thirteen not-so = go asked-or-not-up where
+    go : AskedOrNot n room (lookedUp file location true n room) (lookedUp file location false n room) → unmeasuredReply (lookedUp file location true n room) ≡ lookedUp file location false n room
+    go (inl e) = absurd (not-so (ap (λ (r : Replied Zones). r .reply) e))
+    go (inr e) = e

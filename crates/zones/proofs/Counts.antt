@@ -1,8 +1,5 @@
 -- What an answered lookup counts, whatever was searched: its matches and its text. Assumes nothing.
-use mathlib.Core.{Path.{_≡_, sym, ap, _∙_}, Bool.{Bool}, List.{List, []}}
-use Prim.Native.Nat.{ℕ}
-use lib.ListN.{length}
-use Rattle.numbers.{proofs.Replies.{given-from, given-one}, specs.Reply.{Reply, given}}
+use Rattle.numbers.{proofs.{Prelude.{ℕ, length, Bool, List, [], _≡_, sym, ap, _∙_}, Replies.{given-from, given-one}}, specs.Reply.{Reply, given}}
 use Rattle.zones.specs.{Fields.{fieldsOf}, Lent.{Outcome}, Lookup.{zonesFrom}, declared.lookup.Zones.{Zones}}
 use Rattle.table.specs.Find.{Matched}
 use Rattle.header.specs.declared.header.Head.{Head}
@@ -15,11 +12,8 @@ pub record Counted (matched : Reply Matched) (o : Outcome Zones) : Type 0 where
   pub used : o .answer .used ≡ length (o .text)
 
 pub counts : (file : List ℕ) (head : Head) (asked : Bool) (room : ℕ) (matched : Reply Matched) {o : Outcome Zones} → given o ≡ zonesFrom file head asked room matched → Counted matched o
-counts file head asked room matched e =
-    let found = given-from matched _ e in
-    let text = given-from (fieldsOf file head room (found .it .matches) []) _ (found .onto) in
-    let same = given-one (text .onto) in
-    record {
+counts file head asked room matched e = let found = given-from matched _ e in
+    let text = given-from (fieldsOf file head room (found .it .matches) []) _ (found .onto) in let same = given-one (text .onto) in record {
       found = found .it;
       is = found .is;
       same = ap (λ (x : Outcome Zones). x .matches) same;

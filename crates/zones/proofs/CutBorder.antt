@@ -1,17 +1,14 @@
 -- A border (request Q-6): judged strictly it is refused 31 exactly where the judge of the plain one meets a number that the file's end cuts. Assumes nothing.
-use Prim.Native.Nat.{ℕ, zero, suc, _%_, _^_}
-use lib.{Dec.{eqb}, IntN.{pos}}
-use mathlib.Core.{Bool.{Bool, true, false, _||_}, List.{List}}
+use Rattle.numbers.{proofs.Prelude.{ℕ, zero, suc, eqb, pos, Bool, true, false, _||_, List}, specs.{Answer.{Answer, found}, Varint.{readingOf}}}
 use Rattle.verdict.specs.{Step.{Step}, Verdict.{Judgement, Last, none, after, passing, thenOn, judge, judgedAt}, declared.step.Tally.{Tally}}
+use Rattle.border.specs.{Encoding.{encodedBy}, Reader.{Turn, gives, again, ends, onward, plainPair, plainTurn, reference, marker, packedTurn, turnOf}}
+use Rattle.border.specs.{Trace.{Given, reaches, ended, roundAgain, turns, nextWithin, nextPoint, traceThen, traceWithin, traceOf, borderAt}, declared.{place.Point.{Point}, reader.Reader.{Reader}}}
+use Rattle.border.specs.declared.reader.{Run.{Run, the-variants.{Idle, Forward, Backward}}, Version.{Version, the-variants.{Plain, Packed}}}
+use Rattle.zones.proofs.Cuts.{Cuts, cut, same, then-cuts, last-cuts, either-cuts, reading-cuts}
+use Rattle.zones.specs.Cut.{whereFound, cutIn, EndsCut, plainCut, markerCut, packedCut, turnCut, againCut, nextCut, stepCut, pointCut, judgeCut}
 use Rattle.verdict.specs.Step as S
 use Rattle.verdict.specs.Verdict as J
-use Rattle.border.specs.{Encoding.{encodedBy}, Reader.{Turn, gives, again, ends, onward, plainPair, plainTurn, reference, marker, packedTurn, turnOf}}
-use Rattle.border.specs.Trace.{Given, reaches, ended, roundAgain, turns, nextWithin, nextPoint, traceThen, traceWithin, traceOf, borderAt}
-use Rattle.border.specs.declared.{place.Point.{Point}, reader.{Reader.{Reader}, Run.{Run, the-variants.{Idle, Forward, Backward}}, Version.{Version, the-variants.{Plain, Packed}}}}
-use Rattle.numbers.specs.{Answer.{Answer, found, if_then_else_}, Varint.{readingOf}}
 use Rattle.numbers.specs.Answer as A
-use Rattle.zones.proofs.Cuts.{Cuts, cut, same, then-cuts, last-cuts, either-cuts, reading-cuts}
-use Rattle.zones.specs.Cut.{whereFound, cutAt, cutIn, EndsCut, plainCut, markerCut, packedCut, turnCut, againCut, nextCut, stepCut, pointCut, judgeCut}
 
 -- ---- one turn
 module _ (f : List ℕ) where
@@ -25,8 +22,7 @@ module _ (f : List ℕ) where
   plain-cuts : (s : Reader) → Cuts E (plainCut f s) (plainTurn (readingOf true f) s) (plainTurn (readingOf false f) s)
   unfolding plainTurn plainCut
   plain-cuts s =
-      either-cuts (s .begun) (pair-cuts s)
-      (then-cuts (reading-cuts f (s .place)) (λ count. either-cuts (eqb (count .value) 0) same (pair-cuts (onward s (count .place) (count .value) Idle))))
+      either-cuts (s .begun) (pair-cuts s) (then-cuts (reading-cuts f (s .place)) (λ count. either-cuts (eqb (count .value) 0) same (pair-cuts (onward s (count .place) (count .value) Idle))))
 
   reference-cuts : (base : ℕ) (s : Reader) → Cuts E (cutIn 2 f (s .place)) (reference (readingOf true f) base s) (reference (readingOf false f) base s)
   unfolding reference cutIn
@@ -35,8 +31,7 @@ module _ (f : List ℕ) where
   marker-cuts : (base : ℕ) (s : Reader) → Cuts E (markerCut f (s .place)) (marker (readingOf true f) base s) (marker (readingOf false f) base s)
   unfolding marker markerCut
   marker-cuts base s =
-      then-cuts (reading-cuts f (s .place))
-      (λ mark. either-cuts (eqb (mark .value) 0) same (either-cuts (eqb (mark .value) 1) (reference-cuts base (onward s (mark .place) (s .moves) Idle)) same))
+      then-cuts (reading-cuts f (s .place)) (λ mark. either-cuts (eqb (mark .value) 0) same (either-cuts (eqb (mark .value) 1) (reference-cuts base (onward s (mark .place) (s .moves) Idle)) same))
 
   packed-cuts : (run : Run) (base : ℕ) (s : Reader) → Cuts E (packedCut f run (s .place)) (packedTurn run (readingOf true f) f base s) (packedTurn run (readingOf false f) f base s)
   unfolding packedTurn packedCut
@@ -81,31 +76,25 @@ module _ (f : List ℕ) (version : Version) (base : ℕ) (fix : Point) (asked : 
   steps least (S.meets verdict) h = judged
   steps least (S.refused n) h = judged
 
-  judge-cuts : (more : ℕ) (last : Last) (tally : Tally) (s : Reader)
-      → CutJudgement (EndsCut f) (judgeCut f more version base fix asked last tally s) (judge fix asked last tally (traceWithin more f (encodedBy true version base) s))
-      (judge fix asked last tally (traceWithin more f (encodedBy false version base) s))
+  judge-cuts : (more : ℕ) (last : Last) (tally : Tally) (s : Reader) → CutJudgement (EndsCut f) (judgeCut f more version base fix asked last tally s)
+      (judge fix asked last tally (traceWithin more f (encodedBy true version base) s)) (judge fix asked last tally (traceWithin more f (encodedBy false version base) s))
   unfolding traceWithin traceThen judge judgeCut
   judge-cuts zero last tally s = judged
-  judge-cuts (suc more) last tally s = go (next-cuts f version base s) (judge-cuts more)
-    where
-      go : {b : Bool} {strict plain : Answer Given} → Cuts (EndsCut f) b strict plain
-          → ((last : Last) (tally : Tally) (s : Reader) → CutJudgement (EndsCut f) (judgeCut f more version base fix asked last tally s)
-          (judge fix asked last tally (traceWithin more f (encodedBy true version base) s))
-          (judge fix asked last tally (traceWithin more f (encodedBy false version base) s)))
-          → CutJudgement (EndsCut f)
-          (b || whereFound plain (pointCut f λ next. stepCut f (passing fix asked last (next .point) tally) λ later. judgeCut f more version base fix asked (after (next .point)) later next))
-          (judge fix asked last tally (traceThen strict (traceWithin more f (encodedBy true version base))))
-          (judge fix asked last tally (traceThen plain (traceWithin more f (encodedBy false version base))))
-      go (cut e) rest = cut-short e
-      go (same {answer = found (reaches next)}) rest = steps (tally .least) (passing fix asked last (next .point) tally) (λ later. rest (after (next .point)) later next)
-      go (same {answer = found ended}) rest = judged
-      go (same {answer = A.failed}) rest = judged
-      go (same {answer = A.refused n}) rest = judged
+  judge-cuts (suc more) last tally s = go (next-cuts f version base s) (judge-cuts more) where
+    go : {b : Bool} {strict plain : Answer Given} → Cuts (EndsCut f) b strict plain → ((last : Last) (tally : Tally) (s : Reader) → CutJudgement (EndsCut f)
+        (judgeCut f more version base fix asked last tally s) (judge fix asked last tally (traceWithin more f (encodedBy true version base) s))
+        (judge fix asked last tally (traceWithin more f (encodedBy false version base) s))) → CutJudgement (EndsCut f)
+        (b || whereFound plain (pointCut f λ next. stepCut f (passing fix asked last (next .point) tally) λ later. judgeCut f more version base fix asked (after (next .point)) later next))
+        (judge fix asked last tally (traceThen strict (traceWithin more f (encodedBy true version base))))
+        (judge fix asked last tally (traceThen plain (traceWithin more f (encodedBy false version base))))
+    go (cut e) rest = cut-short e
+    go (same {answer = found (reaches next)}) rest = steps (tally .least) (passing fix asked last (next .point) tally) (λ later. rest (after (next .point)) later next)
+    go (same {answer = found ended}) rest = judged
+    go (same {answer = A.failed}) rest = judged
+    go (same {answer = A.refused n}) rest = judged
 
   -- a border's judgement is refused 31 exactly where the judge of the plain one meets a number that is cut
-  pub judged-cuts : (place least : ℕ)
-      → CutJudgement (EndsCut f) (judgeCut f (turns f) version base fix asked none (record { winding = pos 0; least = least }) (borderAt place))
-      (judgedAt f (encodedBy true version base) place (fix .lat) (fix .lon) asked least)
-      (judgedAt f (encodedBy false version base) place (fix .lat) (fix .lon) asked least)
+  pub judged-cuts : (place least : ℕ) → CutJudgement (EndsCut f) (judgeCut f (turns f) version base fix asked none (record { winding = pos 0; least = least })
+      (borderAt place)) (judgedAt f (encodedBy true version base) place (fix .lat) (fix .lon) asked least) (judgedAt f (encodedBy false version base) place (fix .lat) (fix .lon) asked least)
   unfolding judgedAt traceOf
   judged-cuts place least = judge-cuts (turns f) none (record { winding = pos 0; least = least }) (borderAt place)

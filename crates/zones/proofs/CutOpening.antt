@@ -1,13 +1,9 @@
 -- Opening (request Q-6): the strict one is refused 31 exactly where the plain one meets a number that the file's end cuts. Assumes nothing.
-use Prim.Native.Nat.{ℕ, zero, suc, _+_, _%_, _^_}
-use lib.{Dec.{ltb, leb}, ListN.{length}}
-use mathlib.Core.{Bool.{Bool, true, false, _||_}, List.{List}, Path.{_≡_, refl, sym, ap, subst, _∙_}}
-use native.Mathlib.Omega.{arith}
-use Rattle.header.proofs.{StrictHead.{unstrict}, Unless.{shown}}
-use Rattle.header.specs.Header.{preambleOf, blameOf, textsFrom, textsOf, sizeAt, sectionsAt, Contents, contentsBy, headBy, headOf, headStrictly}
-use Rattle.header.specs.{Opening.{fittingOf, repliedOf, openedBy, openedOf, openedStrictly}, Text.{remoteAt, stringAt, orBlamed, textAt}, declared.text.{Blame.{Blame}, Text.{Text}}}
-use Rattle.header.specs.declared.header.{Head.{Head}, Sections.{Sections}}
-use Rattle.numbers.specs.{Answer.{Answer, if_then_else_}, Reply.{Reply, given, refused, plain, demand, _orElse_, _>>=_, _>>_}, Varint.{Numeral}, declared.refusal.Refusal.{Refusal}}
+use Rattle.numbers.proofs.Prelude.{ℕ, zero, suc, _+_, _%_, _^_, ltb, leb, length, Bool, true, false, _||_, List, _≡_, refl, sym, ap, subst, _∙_, arith}
+use Rattle.numbers.specs.{Answer.{Answer, if_then_else_}, Reply.{Reply, given, refused, plain, demand, _orElse_, _>>=_, _>>_}, declared.refusal.Refusal.{Refusal}}
+use Rattle.header.{proofs.{StrictHead.{unstrict}, Unless.{shown}}, specs.Header.{preambleOf, blameOf, textsFrom, textsOf, sizeAt, sectionsAt, Contents, contentsBy, headBy, headOf, headStrictly}}
+use Rattle.header.specs.{Opening.{fittingOf, repliedOf, openedBy, openedOf, openedStrictly}, Text.{remoteAt, stringAt, orBlamed, textAt}, declared.{header.Sections.{Sections}, text.Blame.{Blame}}}
+use Rattle.header.specs.declared.text.Text.{Text}
 use Rattle.zones.proofs.Cuts.{Cuts, cut, same, then-cuts, last-cuts, either-cuts, reading-cuts}
 use Rattle.zones.specs.Cut.{whereGiven, cutAt, EndsCut, stringCut, textsCut, sectionsCut, openingCut}
 
@@ -93,10 +89,9 @@ module _ (file : List ℕ) where
   sections-cuts : (place : ℕ) → CutSame (EndsCut file) (sectionsCut file place) (sectionsAt true file place) (sectionsAt false file place)
   unfolding sectionsAt sectionsCut
   sections-cuts place =
-      then-same (sizeAt true file place 8) (sizeAt false file place 8) (size-cuts place 8)
-      (λ first. then-same (sizeAt true file (first .place) 9) (sizeAt false file (first .place) 9) (size-cuts (first .place) 9)
-      (λ second. demand-cut (ltb (first .value % 2 ^ 32 + second .value % 2 ^ 32) (2 ^ 32)) (plain 13)
-      (last-same (sizeAt true file (second .place) 10) (sizeAt false file (second .place) 10) _ (size-cuts (second .place) 10))))
+      then-same (sizeAt true file place 8) (sizeAt false file place 8) (size-cuts place 8) (λ first. then-same (sizeAt true file (first .place) 9)
+      (sizeAt false file (first .place) 9) (size-cuts (first .place) 9) (λ second. demand-cut (ltb (first .value % 2 ^ 32 + second .value % 2 ^ 32) (2 ^ 32))
+      (plain 13) (last-same (sizeAt true file (second .place) 10) (sizeAt false file (second .place) 10) _ (size-cuts (second .place) 10))))
 
   -- all that the contents say but how they were read
   abbrev bare : Contents → Contents
@@ -105,10 +100,9 @@ module _ (file : List ℕ) where
   contents-cuts : CutReply (EndsCut file) bare (openingCut file) (contentsBy true file) (contentsBy false file)
   unfolding contentsBy openingCut
   contents-cuts =
-      after-same (preambleOf file)
-      (λ preamble. then-same (textsOf true file (preamble .count)) (textsOf false file (preamble .count)) (texts-cuts (preamble .count) (preamble .count + 1) 0 7)
-      (λ texts. then-last (sectionsAt true file (texts .place)) (sectionsAt false file (texts .place)) _ _ (sections-cuts (texts .place))
-      (λ a a′ e. ap (λ (s : Sections). given (record { head = record { preamble = preamble; sections = s; strict = false }; bytes = texts .bytes })) e)))
+      after-same (preambleOf file) (λ preamble. then-same (textsOf true file (preamble .count)) (textsOf false file (preamble .count))
+      (texts-cuts (preamble .count) (preamble .count + 1) 0 7) (λ texts. then-last (sectionsAt true file (texts .place)) (sectionsAt false file (texts .place))
+      _ _ (sections-cuts (texts .place)) (λ a a′ e. ap (λ (s : Sections). given (record { head = record { preamble = preamble; sections = s; strict = false }; bytes = texts .bytes })) e)))
 
   pub head-cuts : CutReply (EndsCut file) (unstrict file) (openingCut file) (headStrictly file) (headOf file)
   unfolding headBy
@@ -122,9 +116,8 @@ module _ (file : List ℕ) where
   fitting-cuts : (room : ℕ) → CutReply (EndsCut file) bare (openingCut file) (fittingOf true file room) (fittingOf false file room)
   unfolding fittingOf
   fitting-cuts room =
-      then-last (contentsBy true file) (contentsBy false file) _ _ contents-cuts
-      (λ a b e. subst (λ (bytes : List ℕ). shown bare (demand (leb (length (a .bytes)) room) (plain 18) >> given a) ≡ shown bare (demand (leb (length bytes) room) (plain 18) >> given b))
-      (ap (λ (c : Contents). c .bytes) e) (by-test (leb (length (a .bytes)) room) a b (ap given e)))
+      then-last (contentsBy true file) (contentsBy false file) _ _ contents-cuts (λ a b e. subst (λ (bytes : List ℕ). shown bare (demand (leb (length (a .bytes)) room)
+      (plain 18) >> given a) ≡ shown bare (demand (leb (length bytes) room) (plain 18) >> given b)) (ap (λ (c : Contents). c .bytes) e) (by-test (leb (length (a .bytes)) room) a b (ap given e)))
 
   replied-bare : (room : ℕ) (r : Reply Contents) → repliedOf room r ≡ repliedOf room (shown bare r)
   replied-bare room (given contents) = refl
@@ -133,11 +126,10 @@ module _ (file : List ℕ) where
   -- The strict opening is refused 31, its text zero, exactly where the plain one meets a number that the file's end cuts before it is refused or ends; else it is the plain one, reply and text.
   pub strict-open-cut : (room : ℕ) → openedStrictly file room ≡ (if openingCut file then repliedOf room (refused (plain 31)) else openedOf file room)
   unfolding openedBy
-  strict-open-cut room = go (fitting-cuts room)
-    where
-      go : {b : Bool} {r s : Reply Contents} → CutReply (EndsCut file) bare b r s → repliedOf room r ≡ (if b then repliedOf room (refused (plain 31)) else repliedOf room s)
-      go (cut-off e) = refl
-      go {r = r} {s = s} (alike e) = replied-bare room r ∙ ap (repliedOf room) e ∙ sym (replied-bare room s)
+  strict-open-cut room = go (fitting-cuts room) where
+    go : {b : Bool} {r s : Reply Contents} → CutReply (EndsCut file) bare b r s → repliedOf room r ≡ (if b then repliedOf room (refused (plain 31)) else repliedOf room s)
+    go (cut-off e) = refl
+    go {r = r} {s = s} (alike e) = replied-bare room r ∙ ap (repliedOf room) e ∙ sym (replied-bare room s)
 
   -- and then the file's last byte is 128 or more
   pub opening-cut-ends : openingCut file ≡ true → EndsCut file

@@ -1,10 +1,7 @@
 -- A header that was read once serves every lookup in its file: the forms that take it answer as those that open the file. Assumes nothing.
-use mathlib.Core.{Path.{_≡_, ap, _∙_}, Bool.{Bool, false}, List.{List}}
-use Prim.Native.Nat.{ℕ}
+use Rattle.numbers.{proofs.{Prelude.{ℕ, Bool, false, List, _≡_, ap, _∙_}, Replies.{carried, onward}}, specs.{Lists.{zeros}, Reply.{Reply, given, refused}, declared.refusal.Refusal.{Refusal}}}
 use Rattle.header.specs.{Header.{headBy, headOf}, declared.header.Head.{Head}}
-use Rattle.zones.specs.{Lent.{Outcome, replied, repliedOf}, Lookup.{zonesWith, zonesIn, lookedWith, lookedBy, lookedUp}}
-use Rattle.zones.specs.Simple.{describedWith, describedIn, simplyLookedWith, simplyLooked}
-use Rattle.numbers.{specs.{Lists.{zeros}, Reply.{Reply, given, refused}, declared.refusal.Refusal.{Refusal}}, proofs.Replies.{carried, onward}}
+use Rattle.zones.specs.{Lent.{Outcome, replied, repliedOf}, Lookup.{zonesWith, zonesIn, lookedWith, lookedBy, lookedUp}, Simple.{describedWith, describedIn, simplyLookedWith, simplyLooked}}
 use Rattle.table.specs.declared.location.Location.{Location}
 
 pub refused-zero : {A : Type 0} (n room : ℕ) {whole : Reply (Outcome A)} {why : Refusal} {hs ts : List ℕ} → refused why ≡ whole → hs ≡ zeros n → ts ≡ zeros room

@@ -1,9 +1,6 @@
 -- A text at the front of a buffer that is zero beyond it. Assumes nothing.
-use mathlib.Core.{Path.{_≡_, sym, ap, _∙_}, List.{List, _++_, append-assoc}}
-use Prim.Native.Nat.{ℕ, _+_, _-_, _≤_}
-use native.Mathlib.Omega.{arith}
-use lib.{ListN.{length, take, drop, length-append, length-replicate}, Seq.{take-at, drop-at}}
-use Rattle.numbers.{specs.Lists.{zeros, padded, over}, proofs.Lists.{zeros-drop}}
+use Rattle.numbers.proofs.Prelude.{ℕ, _+_, _-_, _≤_, length, take, drop, length-append, length-replicate, take-at, drop-at, List, _++_, append-assoc, _≡_, sym, ap, _∙_, arith}
+use Rattle.numbers.{proofs.Lists.{zeros-drop}, specs.Lists.{zeros, padded, over}}
 use Rattle.zones.specs.Fields.{Wrote}
 use Rattle.header.proofs.Buffers.{tail-lent, lent-length, tail-back}
 
@@ -30,11 +27,10 @@ module _ {room : ℕ} {out text : List ℕ} {at : ℕ} (g : Held room out text a
   remains = tail-lent at text ∙ ap (drop at) (g .kept) ∙ drop-at out (zeros (room - length out)) at (g .sized) ∙ ap (λ (n : ℕ). zeros (room - n)) (g .sized)
 
   -- and what the buffer holds once s was written over the front of it
-  pub written : (s last : List ℕ) {n : ℕ} → length s ≡ n → n ≤ room - length out → last ≡ over s lent → Held room (out ++ s) (take at text ++ (last ++ drop (length text - at) (drop at text))) (at + n)
-  written s last {n} l h e =
-      let size : length (out ++ s) ≡ at + n = length-append out s ∙ omega (arith, g .sized, l) in
-      let left : room - at - length s ≡ room - length (out ++ s) = omega (arith, size, l) in
-      record {
+  pub written : (s last : List ℕ) {n : ℕ} → length s ≡ n → n ≤ room - length out → last ≡ over s lent
+      → Held room (out ++ s) (take at text ++ (last ++ drop (length text - at) (drop at text))) (at + n)
+  written s last {n} l h e = let size : length (out ++ s) ≡ at + n = length-append out s ∙ omega (arith, g .sized, l) in
+      let left : room - at - length s ≡ room - length (out ++ s) = omega (arith, size, l) in record {
         sized = size;
         fits = omega (arith, g .sized, g .fits);
         kept =

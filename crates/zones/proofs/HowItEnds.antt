@@ -1,16 +1,12 @@
 -- An answered lookup comes from a search that went through every row up to where it ended, and its mark says why it ended there. Assumes nothing.
-use mathlib.Core.{Path.{_≡_, refl, sym, ap, subst, _∙_}, Bool.{Bool, false}, List.{List, []}}
-use Prim.Native.Nat.{ℕ, _/_}
-use native.Mathlib.Omega.{arith}
-use lib.ListN.{length}
+use Rattle.numbers.proofs.Prelude.{ℕ, _/_, length, Bool, false, List, [], _≡_, refl, sym, ap, subst, _∙_, arith}
+use Rattle.numbers.{proofs.{Refusals.{Listed}, Replies.{given-from, given-one}}, specs.{Lists.{padded}, Reply.{Reply, given, _>>=_}}}
 use Rattle.header.specs.{Header.{headOf}, declared.header.Head.{Head}}
-use Rattle.numbers.{proofs.{Refusals.{Listed}, Replies.{given-from}}, specs.{Lists.{padded}, Reply.{Reply, given, _>>=_}}}
-use Rattle.numbers.specs.Reply as R
-use Rattle.table.proofs.SearchEnds.{endMarks, met-check, behind-marks, matched-ends}
-use Rattle.table.specs.{Ending.{Behind, Answered}, Find.{Matched, matchedWith}, Hits.{width, words}, declared.{hits.Hit.{Hit}, location.Location.{Location}}}
+use Rattle.table.{proofs.SearchEnds.{endMarks, met-check, behind-marks, matched-ends}, specs.{Ending.{Behind, Answered}, Find.{Matched, matchedWith}, Hits.{width, words}, declared.hits.Hit.{Hit}}}
+use Rattle.table.specs.declared.location.Location.{Location}
 use Rattle.zones.specs.{Fields.{fieldsOf}, Lent.{Outcome, repliedOf}, Lookup.{zonesFrom, zonesWith, zonesIn, lookedUp}}
 use Rattle.zones.specs.{Simple.{checked, wordedOf, describedFrom, describedWith, describedIn, simplyLooked}, declared.{lookup.Zones.{Zones}, simple.Described.{Described}}}
-use Rattle.numbers.proofs.Replies.{given-one}
+use Rattle.numbers.specs.Reply as R
 
 -- what a reply with its lent words was made of
 pub record Outcame {A : Type 0} (n room : ℕ) (reply : Reply (Outcome A)) (answer : A) : Type 0 where
@@ -36,12 +32,9 @@ module _ {A : Type 0} (marked counted : A → ℕ) (file : List ℕ) (location :
   whole = headOf file >>= λ head. (matchedWith file head location asked (n / width) >>= next head)
 
   answer-ends : (answer : A) → repliedOf n room whole .reply ≡ given answer → Answered file location asked n (counted answer) (marked answer) (repliedOf n room whole .hits)
-  answer-ends answer e =
-      let o = outcame n room whole answer e in
-      let h = given-from (headOf file) _ (o .is) in
+  answer-ends answer e = let o = outcame n room whole answer e in let h = given-from (headOf file) _ (o .is) in
       let m = given-from (matchedWith file (h .it) location asked (n / width)) (next (h .it)) (h .onto) in
-      let t = tells (h .it) (m .it) (o .outcome) (m .onto) in
-      record {
+      let t = tells (h .it) (m .it) (o .outcome) (m .onto) in record {
         list = m .it .matches;
         behind = subst (Behind file location asked (m .it .matches)) (sym (ap marked (o .said) ∙ t .mark)) (matched-ends file (h .it) location asked (n / width) (m .it) (h .is) (m .is));
         counted = ap counted (o .said) ∙ t .count;
@@ -51,15 +44,13 @@ module _ {A : Type 0} (marked counted : A → ℕ) (file : List ℕ) (location :
 -- what both lookups make of the matches
 pub lookup-tells : (file : List ℕ) (room : ℕ) (asked : Bool) (head : Head) (m : Matched) (o : Outcome Zones) → given o ≡ zonesFrom file head asked room (given m)
     → Tells (λ (z : Zones). z .mark) (λ (z : Zones). z .matches) m o
-lookup-tells file room asked head m o e =
-    let is = given-one (given-from (fieldsOf file head room (m .matches) []) _ e .onto) in
+lookup-tells file room asked head m o e = let is = given-one (given-from (fieldsOf file head room (m .matches) []) _ e .onto) in
     record { mark = ap (λ (x : Outcome Zones). x .answer .mark) is; count = ap (λ (x : Outcome Zones). x .answer .matches) is; matches = ap (λ (x : Outcome Zones). x .matches) is }
 
 pub simple-tells : (file : List ℕ) (room : ℕ) (head : Head) (m : Matched) (o : Outcome Described) → given o ≡ describedFrom file head room (given m)
     → Tells (λ (d : Described). d .mark) (λ (d : Described). d .matches) m o
 simple-tells file room head m o e =
-    let is = given-one (given-from (wordedOf file head room (m .matches)) _ (met-check (checked file head (m .matches)) _ e) .onto) in
-    record {
+    let is = given-one (given-from (wordedOf file head room (m .matches)) _ (met-check (checked file head (m .matches)) _ e) .onto) in record {
       mark = ap (λ (x : Outcome Described). x .answer .mark) is;
       count = ap (λ (x : Outcome Described). x .answer .matches) is;
       matches = ap (λ (x : Outcome Described). x .matches) is;

@@ -1,14 +1,10 @@
 -- Every match of a lookup has kind 1, 3 or 4: what is excluded is no match. Assumes nothing.
-use mathlib.Core.{Path.{_≡_, refl, sym, ap, subst, _∙_}, Bool.{Bool, true, false}, List.{List, [], _∷_}}
-use Prim.Native.Nat.{ℕ, zero, suc, _<_}
-use native.Mathlib.Omega.{arith}
-use lib.{Dec.{eqb}, ListN.{length, getD}}
+use Rattle.numbers.proofs.Prelude.{ℕ, zero, suc, _<_, eqb, length, getD, Bool, true, false, List, [], _∷_, _≡_, refl, sym, ap, subst, _∙_, arith}
 use Rattle.numbers.{proofs.Refusals.{Listed}, specs.{Answer.{if_then_else_}, Reply.{given}}}
 use Rattle.verdict.specs.{Verdict.{Judgement}, declared.step.Verdict.{Verdict, the-variants.{NotInZone, InZone, InExcludedZone, OnBorderVertex, OnBorderSegment}}}
 use Rattle.border.specs.declared.place.Point.{Point}
-use Rattle.table.specs.{Ending.{hitsOf, Through, here, outside, judged, Answered}, Hits.{noHit, hitAt}}
-use Rattle.table.specs.{Merge.{Summary, summed, later, single, summary, differs, groupKind, mergedAfter, merged}, Rows.{Rows}}
-use Rattle.table.{specs.declared.{hits.Hit.{Hit}, location.Location.{Location}, rows.Row.{Row}}, proofs.{Merged.{Each, end, next, both, either, merged-each}, Words.{word-at}}}
+use Rattle.table.{proofs.{Merged.{Each, end, next, both, either, merged-each}, Words.{word-at}}, specs.{Ending.{hitsOf, Through, here, outside, judged, Answered}, Hits.{noHit, hitAt}}}
+use Rattle.table.specs.{Merge.{Summary, summed, later, single, summary, differs, groupKind, mergedAfter, merged}, Rows.{Rows}, declared.{hits.Hit.{Hit}, location.Location.{Location}, rows.Row.{Row}}}
 use Rattle.zones.specs.{Lookup.{lookedUp}, Simple.{simplyLooked}, declared.{lookup.Zones.{Zones}, simple.Described.{Described}}}
 use Rattle.zones.proofs.HowItEnds.{lookup-ends, simple-lookup-ends}
 
@@ -61,22 +57,20 @@ summary-border : (id : ℕ) {hits : List Hit} → Each Hits hits → Bordering (
 unfolding summary
 summary-border id end = none
 summary-border id (next {hit} {hits} h hs) =
-    either (λ (s : Summary). Bordering (s .border)) (eqb (hit .metadata) id)
-    (λ e. later-border (single (hit .kind) .border) (summary id hits .border) (single-border h) (summary-border id hs))
-    (λ e. summary-border id hs)
+    either (λ (s : Summary). Bordering (s .border)) (eqb (hit .metadata) id) (λ e. later-border (single (hit .kind) .border) (summary id hits .border)
+    (single-border h) (summary-border id hs)) (λ e. summary-border id hs)
 
 -- a group's kind is a match's, or 0
 kind-of-group : (s : Summary) → Bordering (s .border) → eqb (groupKind s) 0 ≡ false → Listed matchKinds (groupKind s)
-kind-of-group s h = by-border (s .border) h
-  where
-    by-balance : (test : Bool) → eqb (if test then 1 else 0) 0 ≡ false → Listed matchKinds (if test then 1 else 0)
-    by-balance true e = refl
-    by-balance false e = let z : _≡_ {A = ℕ} 0 1 = cc in absurd (omega arith)
+kind-of-group s h = by-border (s .border) h where
+  by-balance : (test : Bool) → eqb (if test then 1 else 0) 0 ≡ false → Listed matchKinds (if test then 1 else 0)
+  by-balance true e = refl
+  by-balance false e = let z : _≡_ {A = ℕ} 0 1 = cc in absurd (omega arith)
 
-    by-border : (border : ℕ) → Bordering border → eqb (groupKind (summed (s .balance) border)) 0 ≡ false → Listed matchKinds (groupKind (summed (s .balance) border))
-    by-border _ none e = by-balance (differs (s .balance)) e
-    by-border _ on-vertex e = refl
-    by-border _ on-segment e = refl
+  by-border : (border : ℕ) → Bordering border → eqb (groupKind (summed (s .balance) border)) 0 ≡ false → Listed matchKinds (groupKind (summed (s .balance) border))
+  by-border _ none e = by-balance (differs (s .balance)) e
+  by-border _ on-vertex e = refl
+  by-border _ on-segment e = refl
 
 merged-kinds : {hits : List Hit} → Each Hits hits → Each Matches (mergedAfter [] hits)
 merged-kinds = merged-each (λ hit hits h hs f. kind-of-group (summary (hit .metadata) (hit ∷ hits)) (summary-border (hit .metadata) (next h hs)) f) []
@@ -87,10 +81,9 @@ each-at [] end i h = absurd (omega arith)
 each-at (hit ∷ hits) (next p ps) zero h = p
 each-at (hit ∷ hits) (next p ps) (suc i) h = each-at hits ps i (omega arith)
 
-pub answered-each : {P : Hit → Type 0} {file : List ℕ} {location : Location} {asked : Bool} {n matches mark : ℕ} {hits : List ℕ} (a : Answered file location asked n matches mark hits) → Each P (a .list)
-    → (i : ℕ) → i < matches → P (hitAt hits i)
-answered-each {P = P} {hits = hits} a each i h =
-    let inside : i < length (a .list) = omega (arith, a .counted) in
+pub answered-each : {P : Hit → Type 0} {file : List ℕ} {location : Location} {asked : Bool} {n matches mark : ℕ} {hits : List ℕ} (a : Answered file location asked n matches mark hits)
+    → Each P (a .list) → (i : ℕ) → i < matches → P (hitAt hits i)
+answered-each {P = P} {hits = hits} a each i h = let inside : i < length (a .list) = omega (arith, a .counted) in
     let is : hitAt hits i ≡ getD (a .list) i noHit = ap (λ (ws : List ℕ). hitAt ws i) (a .kept) ∙ word-at (a .list) _ i inside in
     subst P (sym is) (each-at (a .list) each i inside)
 

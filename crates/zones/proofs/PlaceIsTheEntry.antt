@@ -1,21 +1,15 @@
 -- The fourth word of a match leads to its entry: the place of the table's row with the match's number and metadata id, whose box, read there, holds the location. Assumes nothing.
-use mathlib.Core.{Path.{_≡_, refl, sym, ap, subst, _∙_}, Bool.{Bool, true, false}, List.{List, [], _∷_}}
-use Prim.Native.Nat.{ℕ, _%_, _^_, _≤_, _<_}
-use native.Mathlib.Omega.{arith}
-use borrow.Author.Tests.{leb-true}
-use lib.{Dec.{eqb, leb}, ListN.{length}}
+use Rattle.numbers.proofs.{Answers.{All}, Laws.{Read, forward-read}, Prelude.{ℕ, _%_, _^_, _≤_, _<_, leb-true, eqb, leb, length, Bool, true, false, List, [], _∷_, _≡_, refl, sym, ap, subst, _∙_}}
+use Rattle.numbers.{proofs.{Prelude.{arith}, Replies.{given-from, demanded}}, specs.{Answer.{Answer, found, _>>=_}, Reply.{given, plain}, Varint.{Numeral, forwardAt, readingOf}}}
 use Rattle.verdict.specs.Verdict.{Judgement}
 use Rattle.border.specs.declared.place.Point.{Point}
-use Rattle.numbers.proofs.{Laws.{Read, forward-read}, Answers.{All}, Replies.{given-from, demanded}}
-use Rattle.numbers.specs.{Answer.{Answer, found, _>>=_}, Reply.{given, plain}, Varint.{Numeral, forwardAt, readingOf}}
-use Rattle.numbers.specs.Answer as A
 use Rattle.zones.proofs.{HowItEnds.{lookup-ends, simple-lookup-ends}, MatchKinds.{answered-each}}
-use Rattle.table.proofs.{Beside.{entry-plain}, Merged.{Each, end, next, both, either, merged-each}, TableRows.{rows-so}}
-use Rattle.table.specs.{Ending.{Through, here, outside, judged, Answered}, Find.{fixOf}, Hits.{hitOf, hitAt}, Merge.{summary, seen, mergedAfter, merged}}
-use Rattle.table.specs.{Rows.{Rows, row, tableEnd, unreadable, rowOf, rowBy, rowsIn}, Search.{kindOf}, Table.{entryBy, holds}}
+use Rattle.table.{proofs.{Beside.{entry-plain}, Merged.{Each, end, next, both, either, merged-each}, TableRows.{rows-so}}, specs.{Ending.{Through, here, outside, judged, Answered}, Find.{fixOf}}}
+use Rattle.table.specs.{Hits.{hitOf, hitAt}, Merge.{summary, seen, mergedAfter, merged}, Rows.{Rows, row, tableEnd, unreadable, rowOf, rowBy, rowsIn}, Search.{kindOf}, Table.{entryBy, holds}}
 use Rattle.table.specs.declared.{hits.Hit.{Hit}, location.Location.{Location}, rows.{Cursor.{Cursor}, Row.{Row}}, table.{Bounds.{Bounds}, Entry.{Entry}}}
 use Rattle.header.specs.{Header.{preambleOf, contentsBy, headBy, headOf}, declared.header.Head.{Head}}
 use Rattle.zones.specs.{Lookup.{lookedUp}, Places.{Listed, later, EntryOf}, Simple.{simplyLooked}, declared.{lookup.Zones.{Zones}, simple.Described.{Described}}}
+use Rattle.numbers.specs.Answer as A
 use Rattle.zones.specs.Places as P
 use Rattle.table.specs.Rows as T
 
@@ -39,41 +33,36 @@ record ReadAt (file : List ℕ) (r : Row) : Type 0 where
 module _ (file : List ℕ) where
   row-read : (strict : Bool) (at : Cursor) (r : Row) → found r ≡ rowBy (readingOf strict file) at → ReadAt file r
   unfolding rowBy
-  row-read strict at r e = go (entryBy (readingOf strict file) (at .place)) refl e
-    where
-      go : (answer : Answer Entry) → entryBy (readingOf strict file) (at .place) ≡ answer → found r ≡ (answer >>= λ entry. found (rowOf at entry)) → ReadAt file r
-      go (found entry) a e = let is : r ≡ rowOf at entry = cc in subst (ReadAt file) (sym is) (record { entry = entry; reads = entry-plain file strict (at .place) a; box = refl })
-      go A.failed a e = let z : _≡_ {A = ℕ} 0 1 = cc in absurd (omega arith)
-      go (A.refused n) a e = let z : _≡_ {A = ℕ} 0 1 = cc in absurd (omega arith)
+  row-read strict at r e = go (entryBy (readingOf strict file) (at .place)) refl e where
+    go : (answer : Answer Entry) → entryBy (readingOf strict file) (at .place) ≡ answer → found r ≡ (answer >>= λ entry. found (rowOf at entry)) → ReadAt file r
+    go (found entry) a e = let is : r ≡ rowOf at entry = cc in subst (ReadAt file) (sym is) (record { entry = entry; reads = entry-plain file strict (at .place) a; box = refl })
+    go A.failed a e = let z : _≡_ {A = ℕ} 0 1 = cc in absurd (omega arith)
+    go (A.refused n) a e = let z : _≡_ {A = ℕ} 0 1 = cc in absurd (omega arith)
 
   abbrev EachRead : Rows → Type 0
   EachRead rows = (r : Row) → Listed r rows → ReadAt file r
 
   rows-read : (head : Head) → EachRead (rowsIn file head)
   unfolding rowsIn Begins
-  rows-read head = rows-so (readingOf (head .strict) file) EachRead (λ r l. absurd (begins l)) (λ r l. absurd (begins l)) goes (λ at n e r l. absurd (begins l)) _ _
-    where
-      goes : (at : Cursor) (s : Row) (rest : Rows) → found s ≡ rowBy (readingOf (head .strict) file) at → EachRead rest → EachRead (row s rest)
-      goes at s rest e k _ P.here = row-read (head .strict) at s e
-      goes at s rest e k r (later l) = k r l
+  rows-read head = rows-so (readingOf (head .strict) file) EachRead (λ r l. absurd (begins l)) (λ r l. absurd (begins l)) goes (λ at n e r l. absurd (begins l)) _ _ where
+    goes : (at : Cursor) (s : Row) (rest : Rows) → found s ≡ rowBy (readingOf (head .strict) file) at → EachRead rest → EachRead (row s rest)
+    goes at s rest e k _ P.here = row-read (head .strict) at s e
+    goes at s rest e k r (later l) = k r l
 
   -- inside the file, which has at most 2 ^ 30 bytes
   inside-file : (place : ℕ) (entry : Entry) → entryBy (forwardAt file) place ≡ found entry → place < length file
   unfolding entryBy
-  inside-file place entry e = go (forwardAt file place) _ (forward-read file place) e
-    where
-      go : (answer : Answer Numeral) (on : Numeral → Answer Entry) → All (λ (number : Numeral). Read file place (number .value) (number .place)) answer → (answer >>= on) ≡ found entry
-          → place < length file
-      go (found number) on read e = read .inside
-      go A.failed on read e = let z : _≡_ {A = ℕ} 0 1 = cc in absurd (omega arith)
-      go (A.refused n) on read e = let z : _≡_ {A = ℕ} 0 1 = cc in absurd (omega arith)
+  inside-file place entry e = go (forwardAt file place) _ (forward-read file place) e where
+    go : (answer : Answer Numeral) (on : Numeral → Answer Entry) → All (λ (number : Numeral). Read file place (number .value) (number .place)) answer → (answer >>= on) ≡ found entry
+        → place < length file
+    go (found number) on read e = read .inside
+    go A.failed on read e = let z : _≡_ {A = ℕ} 0 1 = cc in absurd (omega arith)
+    go (A.refused n) on read e = let z : _≡_ {A = ℕ} 0 1 = cc in absurd (omega arith)
 
   small-file : (head : Head) → headOf file ≡ given head → length file ≤ 2 ^ 30
   unfolding headBy contentsBy preambleOf
-  small-file head e =
-      let contents = given-from (contentsBy false file) _ (sym e) in
-      let preamble = given-from (preambleOf file) _ (contents .is) in
-      leb-true (length file) (2 ^ 30) (demanded (leb (length file) (2 ^ 30)) (plain 1) (preamble .is) .0)
+  small-file head e = let contents = given-from (contentsBy false file) _ (sym e) in
+      leb-true (length file) (2 ^ 30) (demanded (leb (length file) (2 ^ 30)) (plain 1) (given-from (preambleOf file) _ (contents .is) .is) .0)
 
 -- ---- the hits of a search, each from a row that holds the location
 record From (fix : Point) (rows : Rows) (hit : Hit) : Type 0 where
@@ -89,24 +78,21 @@ through-from : {judge : ℕ → ℕ → Judgement} {fix : Point} {rows left : Ro
 through-from all here within = end
 through-from all (outside a h t) within = through-from all t (λ r l. within r (later l))
 through-from {fix = fix} all (judged {r = r} {verdict = verdict} a h j t) within =
-    both
-    (either (Each (From fix all)) (eqb (kindOf verdict) 0) (λ e. end)
-    (λ e. next (record { table-row = r; listed = within r P.here; numbered = refl; same-id = refl; placed = refl; held = h }) end))
-    (through-from all t (λ r l. within r (later l)))
+    both (either (Each (From fix all)) (eqb (kindOf verdict) 0) (λ e. end) (λ e. next (record { table-row = r; listed = within r P.here; numbered = refl; same-id = refl; placed = refl; held = h })
+    end)) (through-from all t (λ r l. within r (later l)))
 
 -- a match has all but the kind from a hit
 merged-from : (fix : Point) (all : Rows) {hits : List Hit} → Each (From fix all) hits → Each (From fix all) (mergedAfter [] hits)
 merged-from fix all =
-    merged-each {P = From fix all} {Q = From fix all} (λ hit hits h hs f. record { table-row = h .table-row; listed = h .listed; numbered = h .numbered; same-id = h .same-id; placed = h .placed; held = h .held }) []
+    merged-each {P = From fix all} {Q = From fix all} (λ hit hits h hs f.
+    record { table-row = h .table-row; listed = h .listed; numbered = h .numbered; same-id = h .same-id; placed = h .placed; held = h .held }) []
 
 -- ---- in the lent words
-entry-of : (file : List ℕ) (location : Location) (head : Head) → headOf file ≡ given head → (match : Hit) → From (fixOf location (head .preamble .precision)) (rowsIn file head) match → EntryOf file location match
-entry-of file location head opened match f =
-    let read = rows-read file head (f .table-row) (f .listed) in
-    let small = small-file file head opened in
+entry-of : (file : List ℕ) (location : Location) (head : Head) → headOf file ≡ given head → (match : Hit) → From (fixOf location (head .preamble .precision))
+    (rowsIn file head) match → EntryOf file location match
+entry-of file location head opened match f = let read = rows-read file head (f .table-row) (f .listed) in let small = small-file file head opened in
     let inside = inside-file file (f .table-row .place) (read .entry) (read .reads) in
-    let place : f .table-row .place ≡ match .place = omega (arith, f .placed) in
-    record {
+    let place : f .table-row .place ≡ match .place = omega (arith, f .placed) in record {
       head = head;
       opened = opened;
       table-row = f .table-row;
@@ -123,9 +109,7 @@ entry-of file location head opened match f =
 answered-entry : {file : List ℕ} {location : Location} {asked : Bool} {n matches mark : ℕ} {hits : List ℕ} → Answered file location asked n matches mark hits
     → (i : ℕ) → i < matches → EntryOf file location (hitAt hits i)
 unfolding merged
-answered-entry {file} {location} {hits = hits} a i h =
-    let b = a .behind in
-    let fix = fixOf location (b .head .preamble .precision) in
+answered-entry {file} {location} {hits = hits} a i h = let b = a .behind in let fix = fixOf location (b .head .preamble .precision) in
     let all = rowsIn file (b .head) in
     let each : Each (From fix all) (a .list) = subst (Each (From fix all)) (sym (b .merges)) (merged-from fix all (through-from all (b .ending .through) (λ r l. l))) in
     entry-of file location (b .head) (b .opened) (hitAt hits i) (answered-each {P = From fix all} a each i h)

@@ -1,23 +1,20 @@
 -- Nothing but the fourth word of a hit goes by a row's place: for the same room in hits document 01's three-word lookups reply and leave what these do, with the place
 -- left out. Assumes nothing.
-use Prim.Native.Nat.{ℕ, zero, suc, _-_, _*_, _/_}
-use lib.{Dec.{ltb, eqb}, ListN.{length, length-map}}
-use mathlib.Core.{Bool.{Bool, true, false}, List.{List, [], _∷_, _++_, map}, Option.{Option}, Path.{_≡_, refl, ap, _∙_}}
-use native.Mathlib.Omega.{arith}
+use Rattle.numbers.proofs.Prelude.{ℕ, zero, suc, _-_, _*_, _/_, eqb, ltb, length, length-map, Bool, true, false, List, [], _∷_, _++_, map, _≡_, refl, ap, _∙_, arith}
+use Rattle.numbers.{proofs.Replies.{after}, specs.{Answer.{if_then_else_}, Lists.{zeros, padded}, Reply.{Reply, given, plain, demand, _>>=_, _>>_}}}
+use mathlib.Core.Option.{Option}
 use Rattle.verdict.specs.Verdict.{Judgement, reached}
 use Rattle.border.specs.declared.place.Point.{Point}
-use Rattle.verdict.specs.Verdict as J
-use Rattle.numbers.specs.{Answer.{if_then_else_}, Lists.{zeros, padded}, Reply.{Reply, given, plain, demand, _>>=_, _>>_}}
-use Rattle.numbers.specs.Reply as R
 use Rattle.header.{proofs.Unless.{shown}, specs.{Header.{headOf}, declared.header.Head.{Head}}}
-use Rattle.table.{proofs.Words.{words-length}, specs.{Find.{fixOf, isPrecision, Matched, matchedWith}, Hits.{width, hitOf, words}}}
-use Rattle.table.specs.{Merge.{Summary, _⊕_, single, summary, groupKind, seen, matchOf, mergedAfter, merged}, Rest.{restMark}, Rows.{Rows, row, tableEnd, unreadable, rowsIn}}
-use Rattle.table.specs.{Search.{kindOf, rowHit, judgedTurn, rowTurn, Found, ended, afterTurn, seek, judgeIn, farthest, searched}, Table.{isAbove, holds}}
-use Rattle.table.specs.declared.{hits.Hit.{Hit}, location.Location.{Location}, rows.Row.{Row}, search.Turn.the-variants.{On, Met}}
+use Rattle.table.{proofs.Words.{words-length}, specs.{Find.{fixOf, isPrecision, Matched, matchedWith}, Hits.{width, hitOf, words}, Merge.{Summary, _⊕_, single, summary, groupKind, seen, matchOf}}}
+use Rattle.table.specs.{Merge.{mergedAfter, merged}, Rest.{restMark}, Rows.{Rows, row, tableEnd, unreadable, rowsIn}, Search.{kindOf, rowHit, judgedTurn, rowTurn, Found, ended, afterTurn, seek}}
+use Rattle.table.specs.{Search.{judgeIn, farthest, searched}, Table.{isAbove, holds}, declared.{hits.Hit.{Hit}, location.Location.{Location}, rows.Row.{Row}, search.Turn.the-variants.{On, Met}}}
 use Rattle.zones.specs.{Fields.{fieldsFrom, fieldsOf, fieldsPlace}, Lent.{Outcome, replied, repliedOf}, Lookup.{safezoneBits, zonesFrom, zonesWith, zonesIn, lookedUp}}
 use Rattle.zones.specs.Places.{placelessRow, placeless, threeWords, matchedPlaceless, repliedInThree, lookedUpInThree, simplyLookedInThree, leaveOut, withoutPlaces}
-use Rattle.zones.specs.Simple.{pickedOf, checked, descriptionOf, bytesIn, lengthIn, wordedOf, describedFrom, describedWith, describedIn, simplyLooked}
-use Rattle.zones.specs.declared.{lookup.Zones.{Zones}, simple.{Described.{Described}, Picked.{Picked}}}
+use Rattle.zones.specs.{Simple.{pickedOf, checked, descriptionOf, bytesIn, lengthIn, wordedOf, describedFrom, describedWith, describedIn, simplyLooked}, declared.lookup.Zones.{Zones}}
+use Rattle.zones.specs.declared.simple.{Described.{Described}, Picked.{Picked}}
+use Rattle.verdict.specs.Verdict as J
+use Rattle.numbers.specs.Reply as R
 use Rattle.table.specs.Rows as T
 
 -- a hit without its place
@@ -66,22 +63,20 @@ module _ (judge : ℕ → ℕ → Judgement) (fix : Point) (end room : ℕ) wher
 
     by-row : (least : ℕ) → afterTurn (rowTurn judge fix (placelessRow r) least) (bare hits) room without ≡ shown bareFound (afterTurn (rowTurn judge fix r least) hits room go)
     unfolding rowTurn
-    by-row least = go-on (holds (r .bounds) fix)
-      where
-        go-on : (held : Bool) → afterTurn (if held then judgedTurn (placelessRow r) (judge (r .polygon) least) else On least) (bare hits) room without
-            ≡ shown bareFound (afterTurn (if held then judgedTurn r (judge (r .polygon) least) else On least) hits room go)
-        go-on true = by-judgement (judge (r .polygon) least)
-        go-on false = alike least hits
+    by-row least = go-on (holds (r .bounds) fix) where
+      go-on : (held : Bool) → afterTurn (if held then judgedTurn (placelessRow r) (judge (r .polygon) least) else On least) (bare hits) room without
+          ≡ shown bareFound (afterTurn (if held then judgedTurn r (judge (r .polygon) least) else On least) hits room go)
+      go-on true = by-judgement (judge (r .polygon) least)
+      go-on false = alike least hits
 
   seek-bare : (rows : Rows) → Alike (seek judge fix end room (placeless rows)) (seek judge fix end room rows)
   unfolding seek placeless
   seek-bare (row r rows) least hits =
-      by-above (isAbove (r .bounds) fix) _ _ (by-row (seek judge fix end room (placeless rows)) (seek judge fix end room rows) (seek-bare rows) r hits least)
-    where
-      by-above : (above : Bool) (on on′ : Reply Found) → on ≡ shown bareFound on′
-          → (if above then ended (bare hits) (restMark end fix (placeless (row r rows))) least else on) ≡ shown bareFound (if above then ended hits (restMark end fix (row r rows)) least else on′)
-      by-above true on on′ e = ap (λ (mark : ℕ). ended (bare hits) mark least) (rest-bare end fix (row r rows))
-      by-above false on on′ e = e
+      by-above (isAbove (r .bounds) fix) _ _ (by-row (seek judge fix end room (placeless rows)) (seek judge fix end room rows) (seek-bare rows) r hits least) where
+        by-above : (above : Bool) (on on′ : Reply Found) → on ≡ shown bareFound on′
+            → (if above then ended (bare hits) (restMark end fix (placeless (row r rows))) least else on) ≡ shown bareFound (if above then ended hits (restMark end fix (row r rows)) least else on′)
+        by-above true on on′ e = ap (λ (mark : ℕ). ended (bare hits) mark least) (rest-bare end fix (row r rows))
+        by-above false on on′ e = e
   seek-bare tableEnd least hits = refl
   seek-bare unreadable least hits = refl
   seek-bare (T.refused n) least hits = refl
@@ -98,23 +93,23 @@ summary-bare id [] = refl
 summary-bare id (hit ∷ hits) = ap (λ (s : Summary). if eqb (hit .metadata) id then single (hit .kind) ⊕ s else s) (summary-bare id hits)
 
 match-bare : (hit : Hit) (kind : ℕ) → matchOf (bareHit hit) kind ≡ bare (matchOf hit kind)
-match-bare hit kind = go (eqb kind 0)
-  where
-    go : (t : Bool) → (if t then [] else (bareHit (hitOf (hit .polygon) (hit .metadata) kind (hit .place)) ∷ [])) ≡ bare (if t then [] else (hitOf (hit .polygon) (hit .metadata) kind (hit .place) ∷ []))
-    go true = refl
-    go false = refl
+match-bare hit kind = go (eqb kind 0) where
+  go : (t : Bool) → (if t then [] else (bareHit (hitOf (hit .polygon) (hit .metadata) kind (hit .place)) ∷ [])) ≡ bare (if t then [] else (hitOf (hit .polygon)
+      (hit .metadata) kind (hit .place) ∷ []))
+  go true = refl
+  go false = refl
 
 pub merged-bare : (before hits : List Hit) → mergedAfter (bare before) (bare hits) ≡ bare (mergedAfter before hits)
 unfolding mergedAfter
 merged-bare before [] = refl
 merged-bare before (hit ∷ hits) =
-    (λ i. (if seen-bare (hit .metadata) before i then [] else matchOf (bareHit hit) (groupKind (summary-bare (hit .metadata) (hit ∷ hits) i))) ++ mergedAfter (bare-append before (hit ∷ []) i) (bare hits))
-    ∙ (λ i. first (seen (hit .metadata) before) i ++ merged-bare (before ++ hit ∷ []) hits i)
-    ∙ bare-append (if seen (hit .metadata) before then [] else matchOf hit (groupKind (summary (hit .metadata) (hit ∷ hits)))) (mergedAfter (before ++ hit ∷ []) hits)
-  where
-    first : (t : Bool) → (if t then [] else matchOf (bareHit hit) (groupKind (summary (hit .metadata) (hit ∷ hits)))) ≡ bare (if t then [] else matchOf hit (groupKind (summary (hit .metadata) (hit ∷ hits))))
-    first true = refl
-    first false = match-bare hit (groupKind (summary (hit .metadata) (hit ∷ hits)))
+    (λ i. (if seen-bare (hit .metadata) before i then [] else matchOf (bareHit hit) (groupKind (summary-bare (hit .metadata) (hit ∷ hits) i))) ++ mergedAfter
+    (bare-append before (hit ∷ []) i) (bare hits)) ∙ (λ i. first (seen (hit .metadata) before) i ++ merged-bare (before ++ hit ∷ []) hits i) ∙ bare-append
+    (if seen (hit .metadata) before then [] else matchOf hit (groupKind (summary (hit .metadata) (hit ∷ hits)))) (mergedAfter (before ++ hit ∷ []) hits) where
+      first : (t : Bool) → (if t then [] else matchOf (bareHit hit) (groupKind (summary (hit .metadata) (hit ∷ hits)))) ≡ bare (if t then [] else matchOf hit
+          (groupKind (summary (hit .metadata) (hit ∷ hits))))
+      first true = refl
+      first false = match-bare hit (groupKind (summary (hit .metadata) (hit ∷ hits)))
 
 -- ---- in a file whose header was read
 abbrev bareMatched : Matched → Matched
@@ -122,11 +117,6 @@ bareMatched found = record { matches = bare (found .matches); mark = found .mark
 
 abbrev bareOutcome : {A : Type 0} → Outcome A → Outcome A
 bareOutcome o = record { answer = o .answer; matches = bare (o .matches); text = o .text }
-
--- both go on from one reply
-after : {A B : Type 0} (reply : Reply A) {next next′ : A → Reply B} → ((a : A) → next a ≡ next′ a) → (reply >>= next) ≡ (reply >>= next′)
-after (given a) e = e a
-after (R.refused why) e = refl
 
 module _ (file : List ℕ) (head : Head) where
   -- what a search's answer is merged to
@@ -140,15 +130,12 @@ module _ (file : List ℕ) (head : Head) where
 
   matched-bare : (location : Location) (asked : Bool) (room : ℕ) → matchedPlaceless file head location asked room ≡ shown bareMatched (matchedWith file head location asked room)
   unfolding matchedPlaceless matchedWith searched
-  matched-bare location asked room =
-      let fix = fixOf location (head .preamble .precision) in
-      demanded (isPrecision (head .preamble .precision)) _ _
-      (ap (λ (reply : Reply Found). reply >>= merging) (seek-bare (judgeIn file head fix asked) fix (head .sections .metadata) room (rowsIn file head) farthest [])
-      ∙ merging-bare (searched file head fix asked room))
-    where
-      demanded : (t : Bool) (matched placed : Reply Matched) → matched ≡ shown bareMatched placed → (demand t (plain 16) >> matched) ≡ shown bareMatched (demand t (plain 16) >> placed)
-      demanded true matched placed e = e
-      demanded false matched placed e = refl
+  matched-bare location asked room = let fix = fixOf location (head .preamble .precision) in
+      demanded (isPrecision (head .preamble .precision)) _ _ (ap (λ (reply : Reply Found). reply >>= merging) (seek-bare (judgeIn file head fix asked) fix
+      (head .sections .metadata) room (rowsIn file head) farthest []) ∙ merging-bare (searched file head fix asked room)) where
+        demanded : (t : Bool) (matched placed : Reply Matched) → matched ≡ shown bareMatched placed → (demand t (plain 16) >> matched) ≡ shown bareMatched (demand t (plain 16) >> placed)
+        demanded true matched placed e = e
+        demanded false matched placed e = refl
 
   -- fields and descriptions go by metadata ids alone
   fields-bare : (room : ℕ) (matches : List Hit) (text : List ℕ) → fieldsOf file head room (bare matches) text ≡ fieldsOf file head room matches text
@@ -169,34 +156,32 @@ module _ (file : List ℕ) (head : Head) where
   zones-bare : (asked : Bool) (room : ℕ) (matched : Reply Matched) → zonesFrom file head asked room (shown bareMatched matched) ≡ shown bareOutcome (zonesFrom file head asked room matched)
   zones-bare asked room (given found) =
       (λ i. fields-bare room (found .matches) [] i >>= λ text. given (outcome (length-map (found .matches) bareHit i) (bare (found .matches)) text))
-      ∙ looked-at (fieldsOf file head room (found .matches) [])
-    where
-      outcome : ℕ → List Hit → List ℕ → Outcome Zones
-      outcome count matches text = record {
-        answer = record { matches = count; mark = found .mark; safezone = safezoneBits asked (found .least) (head .preamble .precision); used = length text };
-        matches = matches;
-        text = text;
-      }
+      ∙ looked-at (fieldsOf file head room (found .matches) []) where
+        outcome : ℕ → List Hit → List ℕ → Outcome Zones
+        outcome count matches text = record {
+          answer = record { matches = count; mark = found .mark; safezone = safezoneBits asked (found .least) (head .preamble .precision); used = length text };
+          matches = matches;
+          text = text;
+        }
 
-      looked-at : (reply : Reply (List ℕ)) → (reply >>= λ text. given (outcome (length (found .matches)) (bare (found .matches)) text))
-          ≡ shown bareOutcome (reply >>= λ text. given (outcome (length (found .matches)) (found .matches) text))
-      looked-at (given text) = refl
-      looked-at (R.refused why) = refl
+        looked-at : (reply : Reply (List ℕ)) → (reply >>= λ text. given (outcome (length (found .matches)) (bare (found .matches)) text))
+            ≡ shown bareOutcome (reply >>= λ text. given (outcome (length (found .matches)) (found .matches) text))
+        looked-at (given text) = refl
+        looked-at (R.refused why) = refl
   zones-bare asked room (R.refused why) = refl
 
   described-bare : (room : ℕ) (matched : Reply Matched) → describedFrom file head room (shown bareMatched matched) ≡ shown bareOutcome (describedFrom file head room matched)
   described-bare room (given found) =
       (λ i. checked-bare (found .matches) i >> (worded-bare room (found .matches) i >>= λ description. given (outcome (length-map (found .matches) bareHit i) (bare (found .matches)) description)))
-      ∙ looked-at (checked file head (found .matches)) (wordedOf file head room (found .matches))
-    where
-      outcome : ℕ → List Hit → Option (List ℕ) → Outcome Described
-      outcome count matches description = record { answer = record { matches = count; mark = found .mark; description = lengthIn description }; matches = matches; text = bytesIn description }
+      ∙ looked-at (checked file head (found .matches)) (wordedOf file head room (found .matches)) where
+        outcome : ℕ → List Hit → Option (List ℕ) → Outcome Described
+        outcome count matches description = record { answer = record { matches = count; mark = found .mark; description = lengthIn description }; matches = matches; text = bytesIn description }
 
-      looked-at : (check : Reply (Unit {0})) (reply : Reply (Option (List ℕ))) → (check >> (reply >>= λ description. given (outcome (length (found .matches)) (bare (found .matches)) description)))
-          ≡ shown bareOutcome (check >> (reply >>= λ description. given (outcome (length (found .matches)) (found .matches) description)))
-      looked-at (given u) (given description) = refl
-      looked-at (given u) (R.refused why) = refl
-      looked-at (R.refused why) reply = refl
+        looked-at : (check : Reply (Unit {0})) (reply : Reply (Option (List ℕ))) → (check >> (reply >>= λ description. given (outcome (length (found .matches)) (bare (found .matches)) description)))
+            ≡ shown bareOutcome (check >> (reply >>= λ description. given (outcome (length (found .matches)) (found .matches) description)))
+        looked-at (given u) (given description) = refl
+        looked-at (given u) (R.refused why) = refl
+        looked-at (R.refused why) reply = refl
   described-bare room (R.refused why) = refl
 
 -- ---- the lent words
@@ -213,9 +198,7 @@ three-length (hit ∷ hits) = omega (arith, three-length hits)
 zeros-left-out : (k : ℕ) → zeros (3 * k) ≡ leaveOut (zeros (width * k))
 unfolding leaveOut
 zeros-left-out zero = refl
-zeros-left-out (suc k) =
-    let e : width * suc k ≡ suc (suc (suc (suc (width * k)))) = omega arith in
-    let f : 3 * suc k ≡ suc (suc (suc (3 * k))) = omega arith in
+zeros-left-out (suc k) = let e : width * suc k ≡ suc (suc (suc (suc (width * k)))) = omega arith in let f : 3 * suc k ≡ suc (suc (suc (3 * k))) = omega arith in
     rw (e, f) (ap (λ (ws : List ℕ). 0 ∷ 0 ∷ 0 ∷ ws) (zeros-left-out k))
 
 words-left-out : (hits : List Hit) (k : ℕ) → threeWords hits ++ zeros (3 * k) ≡ leaveOut (words hits ++ zeros (width * k))
@@ -224,10 +207,8 @@ words-left-out [] k = zeros-left-out k
 words-left-out (hit ∷ hits) k = ap (λ (ws : List ℕ). hit .polygon ∷ hit .metadata ∷ hit .kind ∷ ws) (words-left-out hits k)
 
 padded-left-out : (hits : List Hit) (k : ℕ) → padded (3 * k) (threeWords hits) ≡ leaveOut (padded (width * k) (words hits))
-padded-left-out hits k =
-    let e : 3 * k - length (threeWords hits) ≡ 3 * (k - length hits) = omega (arith, three-length hits) in
-    let f : width * k - length (words hits) ≡ width * (k - length hits) = omega (arith, words-length hits) in
-    rw (e, f) (words-left-out hits (k - length hits))
+padded-left-out hits k = let e : 3 * k - length (threeWords hits) ≡ 3 * (k - length hits) = omega (arith, three-length hits) in
+    let f : width * k - length (words hits) ≡ width * (k - length hits) = omega (arith, words-length hits) in rw (e, f) (words-left-out hits (k - length hits))
 
 replied-left-out : {A : Type 0} (k room : ℕ) (reply : Reply (Outcome A)) → repliedInThree (3 * k) room (shown bareOutcome reply) ≡ withoutPlaces (repliedOf (width * k) room reply)
 unfolding repliedInThree repliedOf
@@ -237,19 +218,19 @@ replied-left-out k room (R.refused why) = λ i. replied (R.refused why) (zeros-l
 -- ---- lookups
 module _ {A : Type 0} (file : List ℕ) (location : Location) (asked : Bool) (room : ℕ) (next : Head → Reply Matched → Reply (Outcome A))
     (next-bare : (head : Head) (matched : Reply Matched) → next head (shown bareMatched matched) ≡ shown bareOutcome (next head matched)) where
-  opened-bare : (k : ℕ) (reply : Reply Head) → (reply >>= λ head. next head (matchedPlaceless file head location asked k)) ≡ shown bareOutcome (reply >>= λ head. next head (matchedWith file head location asked k))
+  opened-bare : (k : ℕ) (reply : Reply Head) → (reply >>= λ head. next head (matchedPlaceless file head location asked k)) ≡ shown bareOutcome
+      (reply >>= λ head. next head (matchedWith file head location asked k))
   opened-bare k (given head) = ap (next head) (matched-bare file head location asked k) ∙ next-bare head (matchedWith file head location asked k)
   opened-bare k (R.refused why) = refl
 
   left-out : (k : ℕ) → repliedInThree (3 * k) room (headOf file >>= λ head. next head (matchedPlaceless file head location asked (3 * k / 3)))
       ≡ withoutPlaces (repliedOf (width * k) room (headOf file >>= λ head. next head (matchedWith file head location asked (width * k / width))))
-  left-out k =
-      let e : 3 * k / 3 ≡ k = omega arith in
-      let f : width * k / width ≡ k = omega arith in
+  left-out k = let e : 3 * k / 3 ≡ k = omega arith in let f : width * k / width ≡ k = omega arith in
       rw (e, f) (ap (repliedInThree (3 * k) room) (opened-bare k (headOf file)) ∙ replied-left-out k room (headOf file >>= λ head. next head (matchedWith file head location asked k)))
 
 -- For the same room in hits, document 01's three-word lookup replies and leaves in both lent buffers what this one does, with the place left out,
-pub place-left-out : (file : List ℕ) (location : Location) (asked : Bool) (k room : ℕ) → lookedUpInThree file location asked (3 * k) room ≡ withoutPlaces (lookedUp file location asked (width * k) room)
+pub place-left-out : (file : List ℕ) (location : Location) (asked : Bool) (k room : ℕ) → lookedUpInThree file location asked (3 * k) room ≡ withoutPlaces
+    (lookedUp file location asked (width * k) room)
 unfolding lookedUpInThree lookedUp zonesIn zonesWith
 place-left-out file location asked k room = left-out file location asked room (λ head. zonesFrom file head asked room) (λ head. zones-bare file head asked room) k
 

@@ -1,12 +1,9 @@
 -- A refusal of an entry point leaves every lent word and byte zero. Assumes nothing.
-use mathlib.Core.{Path.{_≡_, refl}, Bool.{Bool, true, false}, List.{List}}
-use Prim.Native.Nat.{ℕ}
-use native.Mathlib.Omega.{arith}
+use Rattle.numbers.{proofs.Prelude.{ℕ, Bool, true, false, List, _≡_, refl, arith}, specs.{Lists.{zeros}, Reply.{Reply, given, refused}, declared.refusal.Refusal.{Refusal}}}
 use Rattle.header.specs.{Header.{Contents, headStrictly}, Opening.{fittingOf, openedBy, openedOf, openedStrictly}}
 use Rattle.zones.specs.{Lent.{Outcome, repliedOf}, Lookup.{zonesBy, zonesIn, lookedUp, lookedStrictly}, Simple.{describedIn, simplyLooked}}
-use Rattle.numbers.specs.{Lists.{zeros}, Reply.{Reply, given, refused}, declared.refusal.Refusal.{Refusal}}
-use Rattle.header.specs.Opening as O
 use Rattle.table.specs.declared.location.Location.{Location}
+use Rattle.header.specs.Opening as O
 
 pub both-zero : {A : Type 0} (n room : ℕ) (reply : Reply (Outcome A)) (why : Refusal) → repliedOf n room reply .reply ≡ refused why
     → (repliedOf n room reply .hits ≡ zeros n) × (repliedOf n room reply .text ≡ zeros room)

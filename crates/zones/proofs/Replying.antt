@@ -1,18 +1,13 @@
 -- An entry point's reply with the buffers: zero first, filled, and zero again where it is a refusal; and what it says of the reply alone. Assumes nothing.
-use mathlib.Core.{Path.{_≡_, subst, ap, _∙_}, List.{List}}
-use Prim.Native.Nat.{ℕ}
-use native.Mathlib.Omega.{arith}
-use Rattle.numbers.specs.{Lists.{zeros}, Reply.{Reply, given, refused}, declared.refusal.Refusal.{Refusal}}
-use Rattle.table.{specs.inner.Agreeing.{Agrees}, proofs.Agreeing.{gave, refused-so}}
+use Rattle.numbers.{proofs.Prelude.{ℕ, List, _≡_, ap, subst, _∙_, arith}, specs.{Lists.{zeros}, Reply.{Reply, given, refused}, declared.refusal.Refusal.{Refusal}}}
+use Rattle.table.{proofs.Agreeing.{gave, refused-so}, specs.inner.Agreeing.{Agrees}}
 use Rattle.zones.specs.Lent.{Outcome, Replied, replied, repliedOf, Filled}
 
 -- filled in buffers that were zeroed, in the lengths that were lent
 module _ {A : Type 0} (whole : ℕ → ℕ → Reply (Outcome A)) (reply : Reply A) (hs ts : List ℕ) {n n′ room room′ : ℕ} (h : n′ ≡ n) (t : room′ ≡ room)
     (agrees : Agrees (Filled n′ room′ hs ts) (whole n′ room′) reply) where
   settled : Agrees (Filled n room hs ts) (whole n room) reply
-  settled =
-      subst (λ (k : ℕ). Agrees (Filled n k hs ts) (whole n k) reply) t
-      (subst (λ (k : ℕ). Agrees (Filled k room′ hs ts) (whole k room′) reply) h agrees)
+  settled = subst (λ (k : ℕ). Agrees (Filled n k hs ts) (whole n k) reply) t (subst (λ (k : ℕ). Agrees (Filled k room′ hs ts) (whole k room′) reply) h agrees)
 
   pub given-reply : {answer : A} → reply ≡ given answer → replied (given answer) hs ts ≡ repliedOf n room (whole n room)
   given-reply e = let g = gave (Filled n room hs ts) (whole n room) settled e in g .fits ∙ ap (repliedOf n room) (g .is)

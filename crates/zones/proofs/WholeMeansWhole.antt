@@ -1,11 +1,8 @@
 -- Mark 1 means that the whole reply is that of a search which never stops early. Mark 4 means that a row behind the stop holds the location. Assumes nothing.
-use Prim.Native.Nat.{ℕ, _/_}
-use mathlib.Core.{Bool.{Bool, false}, List.{List}, Path.{_≡_, sym, ap, subst, _∙_}}
+use Rattle.numbers.{proofs.{Prelude.{ℕ, _/_, Bool, false, List, _≡_, sym, ap, subst, _∙_}, Replies.{given-from, onward}}, specs.Reply.{Reply, given, _>>=_}}
 use Rattle.header.specs.{Header.{headOf}, declared.header.Head.{Head}}
-use Rattle.numbers.{proofs.Replies.{given-from, onward}, specs.Reply.{Reply, given, _>>=_}}
-use Rattle.table.proofs.Unstopped.{matched-whole, passed-over}
-use Rattle.table.specs.{Ending.{Through, Behind}, Find.{fixOf, Matched, matchedWith}, Hits.{width}, Rows.{Rows, rowsIn}, Search.{judgeIn, farthest}, Unstopped.{matchedAll}}
-use Rattle.table.specs.declared.{hits.Hit.{Hit}, location.Location.{Location}}
+use Rattle.table.{proofs.Unstopped.{matched-whole, passed-over}, specs.{Ending.{Through, Behind}, Find.{fixOf, Matched, matchedWith}, Hits.{width}, Rows.{Rows, rowsIn}, Search.{judgeIn, farthest}}}
+use Rattle.table.specs.{Unstopped.{matchedAll}, declared.{hits.Hit.{Hit}, location.Location.{Location}}}
 use Rattle.zones.proofs.HowItEnds.{outcame, Tells, lookup-tells, simple-tells, lookup-ends, simple-lookup-ends}
 use Rattle.zones.specs.{Lent.{Outcome, repliedOf}, Lookup.{zonesWith, zonesIn, lookedUp}, Simple.{describedWith, describedIn, simplyLooked}}
 use Rattle.zones.specs.{Unstopped.{lookedThroughAll, simplyLookedThroughAll, StoppedShort}, declared.{lookup.Zones.{Zones}, simple.Described.{Described}}}
@@ -23,16 +20,11 @@ module _ {A : Type 0} (marked counted : A → ℕ) (file : List ℕ) (location :
 
   answer-whole : (answer : A) → repliedOf n room (headOf file >>= found-by stopping) .reply ≡ given answer → marked answer ≡ 1
       → repliedOf n room (headOf file >>= found-by stopping) ≡ repliedOf n room (headOf file >>= found-by going-on)
-  answer-whole answer e one =
-      let o = outcame n room (headOf file >>= found-by stopping) answer e in
-      let h = given-from (headOf file) (found-by stopping) (o .is) in
-      let m = given-from (stopping (h .it)) (next (h .it)) (h .onto) in
-      let t = tells (h .it) (m .it) (o .outcome) (m .onto) in
-      let mark : m .it .mark ≡ 1 = sym (ap marked (o .said) ∙ t .mark) ∙ one in
-      ap (repliedOf n room)
-      (sym (onward (h .is) (found-by stopping))
-      ∙ ap (λ (x : Reply Matched). x >>= next (h .it)) (matched-whole file (h .it) location asked (n / width) (m .it) (m .is) mark)
-      ∙ onward (h .is) (found-by going-on))
+  answer-whole answer e one = let o = outcame n room (headOf file >>= found-by stopping) answer e in
+      let h = given-from (headOf file) (found-by stopping) (o .is) in let m = given-from (stopping (h .it)) (next (h .it)) (h .onto) in
+      let t = tells (h .it) (m .it) (o .outcome) (m .onto) in let mark : m .it .mark ≡ 1 = sym (ap marked (o .said) ∙ t .mark) ∙ one in
+      ap (repliedOf n room) (sym (onward (h .is) (found-by stopping)) ∙ ap (λ (x : Reply Matched). x >>= next (h .it)) (matched-whole file (h .it) location
+      asked (n / width) (m .it) (m .is) mark) ∙ onward (h .is) (found-by going-on))
 
 -- A lookup that answers with mark 1 replies, and leaves in both lent buffers, what one does whose search never stops early,
 pub whole-means-whole : (file : List ℕ) (location : Location) (asked : Bool) (n room : ℕ) (zones : Zones) → lookedUp file location asked n room .reply ≡ given zones → zones .mark ≡ 1
@@ -48,10 +40,8 @@ simple-whole-means-whole file location n room = answer-whole (λ (d : Described)
 
 -- ---- mark 4
 short : {file : List ℕ} {location : Location} {asked : Bool} {matches : List Hit} {mark : ℕ} → Behind file location asked matches mark → mark ≡ 4 → StoppedShort file location asked
-short {file} {location} {asked} b four =
-    let fix = fixOf location (b .head .preamble .precision) in
-    let p = passed-over (b .ending .ends) (sym (b .marked) ∙ four) in
-    record {
+short {file} {location} {asked} b four = let fix = fixOf location (b .head .preamble .precision) in
+    let p = passed-over (b .ending .ends) (sym (b .marked) ∙ four) in record {
       head = b .head;
       opened = b .opened;
       hits = b .found .hits;

@@ -1,22 +1,17 @@
 -- Files that end inside a number, and one that does not, so that the theorems on strict reading speak of something. Assumes nothing.
-use mathlib.Core.{Path.{_≡_, refl}, Bool.{Bool, true, false}, List.{List, [], _∷_}}
-use Prim.Native.Nat.{ℕ}
-use lib.{Dec.{lit<}, IntN.{negsuc}, Ieee.{fin, ofInt, add, sub, mul, div, toSigned}}
-use Rattle.numbers.specs.{Varint.{readingOf, forwardAt, valueOf, sizeOf, tooLong}, Point.{signedOf, evenBits, pointOf}, Float.{fixedPoint, oneShifted}, Answer.{checked}}
-use Rattle.numbers.specs.Reply.{refused, plain}
+use Rattle.numbers.proofs.Prelude.{ℕ, lit<, fin, ofInt, toSigned, add, sub, mul, div, negsuc, Bool, true, false, List, [], _∷_, _≡_, refl}
+use Rattle.numbers.specs.{Answer.{checked}, Float.{fixedPoint, oneShifted}, Point.{signedOf, evenBits, pointOf}, Reply.{refused, plain}, Varint.{readingOf, forwardAt, valueOf, sizeOf, tooLong}}
 use Rattle.border.specs.{Place.{movedBy}, Reader.{advanced, marker, packedTurn, turnOf}, Trace.{roundAgain, nextWithin, nextPoint, traceThen, traceWithin, traceOf}}
-use Rattle.verdict.specs.Edge.{samePoint, between, inBox, quadrantOf, slopeOf, edgeOf, straight, closestOn}
-use Rattle.verdict.specs.{Winding.{turned, quarterBy, halfTurn, turnAt, crossingOf, acrossBy, clearOf, woundBy}, Distance.{measured}}
-use Rattle.verdict.specs.Verdict.{along, passing, closedAt, thenOn, judge, judgedAt}
-use Rattle.verdict.specs.Step as S
-use Rattle.header.specs.{Field.{fieldAt}, Header.{preambleOf, textsFrom, sectionsFrom, sectionsAt, contentsBy, headBy}, Opening.{openedStrictly}}
-use Rattle.header.specs.{Text.{within, remoteAt, stringAt, bytesOf, textAt}, Utf8.{characters, startedBy, begunBy, followed, goesOn, isUtf8}}
-use Rattle.table.specs.{Find.{fixOf, matchedWith}, Hits.{words}, Merge.{summary, seen, mergedAfter, merged}}
-use Rattle.table.specs.{Rows.{rowsThen, rowBy, rowsWithin, rowsFrom, rowsIn}, Search.{judgedTurn, rowTurn, seek, searched}, Table.{stepsBy, entryBy}}
-use Rattle.table.specs.declared.location.Location.{Location}
+use Rattle.verdict.specs.{Distance.{measured}, Edge.{samePoint, between, inBox, quadrantOf, slopeOf, edgeOf, straight, closestOn}, Verdict.{along, passing, closedAt, thenOn, judge, judgedAt}}
+use Rattle.verdict.specs.Winding.{turned, quarterBy, halfTurn, turnAt, crossingOf, acrossBy, clearOf, woundBy}
+use Rattle.header.specs.{Field.{fieldAt}, Header.{preambleOf, textsFrom, sectionsFrom, sectionsAt, contentsBy, headBy}, Opening.{openedStrictly}, Text.{within, remoteAt, stringAt, bytesOf, textAt}}
+use Rattle.header.specs.Utf8.{characters, startedBy, begunBy, followed, goesOn, isUtf8}
+use Rattle.table.specs.{Find.{fixOf, matchedWith}, Hits.{words}, Merge.{summary, seen, mergedAfter, merged}, Rows.{rowsThen, rowBy, rowsWithin, rowsFrom, rowsIn}}
+use Rattle.table.specs.{Search.{judgedTurn, rowTurn, seek, searched}, Table.{stepsBy, entryBy}, declared.location.Location.{Location}}
 use Rattle.zones.proofs.StrictExactly.{strict-open-exactly, strict-lookup-exactly, whole-lookup}
-use Rattle.zones.specs.{Fields.{fieldsFrom, fieldsOf}, Lookup.{zonesWith, lookedUp, lookedStrictly}}
 use Rattle.zones.specs.Cut.{cutAt, cutIn, stringCut, textsCut, sectionsCut, openingCut, markerCut, packedCut, turnCut, nextCut, judgeCut, seekCut, zonesCut, lookupCut}
+use Rattle.zones.specs.{Fields.{fieldsFrom, fieldsOf}, Lookup.{zonesWith, lookedUp, lookedStrictly}}
+use Rattle.verdict.specs.Step as S
 
 -- its one name is remote, and the second length, the file's last byte, is cut: read plainly it is 0, and the name empty
 abbrev cut : List ℕ
@@ -44,7 +39,12 @@ cutBorder =
     ∷ 0x14 ∷ 0x00 ∷ 0x00 ∷ 0x01 ∷ 0xC1 ∷ 0x30 ∷ 0x80 ∷ 0x02 ∷ 0x80 ∷ 0x04 ∷ 0x81 ∷ 0x02 ∷ 0x00 ∷ 0x80 ∷ []
 
 pub border-met : lookupCut cutBorder inTheZone false 4 4 ≡ true
-unfolding readingOf forwardAt valueOf sizeOf tooLong signedOf evenBits pointOf fixedPoint oneShifted checked movedBy advanced marker packedTurn turnOf roundAgain nextWithin nextPoint traceThen traceWithin traceOf along passing closedAt thenOn judge judgedAt fieldAt fieldsFrom fieldsOf fixOf matchedWith preambleOf textsFrom sectionsFrom sectionsAt contentsBy headBy words zonesWith summary seen mergedAfter merged rowsThen rowBy rowsWithin rowsFrom rowsIn judgedTurn rowTurn seek searched stepsBy entryBy within remoteAt stringAt bytesOf textAt characters startedBy begunBy followed goesOn isUtf8 samePoint between inBox quadrantOf slopeOf edgeOf straight closestOn turned quarterBy halfTurn turnAt crossingOf acrossBy clearOf woundBy measured S.checked ofInt add sub mul div toSigned cutAt cutIn stringCut textsCut sectionsCut openingCut markerCut packedCut turnCut nextCut judgeCut seekCut zonesCut lookupCut
+unfolding readingOf forwardAt valueOf sizeOf tooLong signedOf evenBits pointOf fixedPoint oneShifted checked movedBy advanced marker packedTurn turnOf
+    roundAgain nextWithin nextPoint traceThen traceWithin traceOf along passing closedAt thenOn judge judgedAt fieldAt fieldsFrom fieldsOf fixOf matchedWith
+    preambleOf textsFrom sectionsFrom sectionsAt contentsBy headBy words zonesWith summary seen mergedAfter merged rowsThen rowBy rowsWithin rowsFrom rowsIn
+    judgedTurn rowTurn seek searched stepsBy entryBy within remoteAt stringAt bytesOf textAt characters startedBy begunBy followed goesOn isUtf8 samePoint
+    between inBox quadrantOf slopeOf edgeOf straight closestOn turned quarterBy halfTurn turnAt crossingOf acrossBy clearOf woundBy measured S.checked ofInt add
+    sub mul div toSigned cutAt cutIn stringCut textsCut sectionsCut openingCut markerCut packedCut turnCut nextCut judgeCut seekCut zonesCut lookupCut
 border-met = refl
 
 pub border-refused : lookedStrictly cutBorder inTheZone false 4 4 .reply ≡ refused (plain 31)

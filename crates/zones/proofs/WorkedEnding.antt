@@ -1,24 +1,18 @@
 -- Cases that meet the theorems on endings, asked at (5, 5) on their grid, by computation: document 01's printed file, a table out of order, one in order, and one entry twice. Assumes nothing.
-use mathlib.Core.{Path.{_≡_, refl, ap, subst}, Bool.{false}, List.{List, [], _∷_}}
-use Prim.Native.Nat.{ℕ}
-use native.Mathlib.Omega.{arith}
-use lib.{IntN.{pos, negsuc}, Ieee.{fin, ofInt, add, sub, mul, div, toSigned}}
-use Rattle.numbers.specs.{Varint.{readingOf, forwardAt, valueOf, sizeOf, tooLong}, Point.{signedOf, evenBits, pointOf}, Float.{fixedPoint, oneShifted}, Answer.{checked}}
-use Rattle.numbers.specs.Reply.{Reply, given, refused}
+use Rattle.numbers.{proofs.Prelude.{ℕ, fin, ofInt, toSigned, add, sub, mul, div, pos, negsuc, false, List, [], _∷_, _≡_, refl, ap, subst, arith}, specs.Answer.{checked}}
+use Rattle.numbers.specs.{Float.{fixedPoint, oneShifted}, Point.{signedOf, evenBits, pointOf}, Reply.{Reply, given, refused}, Varint.{readingOf, forwardAt, valueOf, sizeOf, tooLong}}
 use Rattle.border.specs.{Place.{movedBy}, Reader.{advanced, marker, packedTurn, turnOf}, Trace.{roundAgain, nextWithin, nextPoint, traceThen, traceWithin, traceOf}}
-use Rattle.verdict.specs.Edge.{samePoint, between, inBox, quadrantOf, slopeOf, edgeOf, straight, closestOn}
-use Rattle.verdict.specs.{Winding.{turned, quarterBy, halfTurn, turnAt, crossingOf, acrossBy, clearOf, woundBy}, Distance.{measured}}
-use Rattle.verdict.specs.Verdict.{along, passing, closedAt, thenOn, judge, judgedAt}
-use Rattle.verdict.specs.Step as S
-use Rattle.header.specs.{Field.{fieldAt}, Header.{preambleOf, textsFrom, sectionsFrom, sectionsAt, contentsBy, headBy, headOf}, declared.header.Head.{Head}}
-use Rattle.header.specs.{Text.{within, remoteAt, stringAt, bytesOf, textAt}, Utf8.{characters, startedBy, begunBy, followed, goesOn, isUtf8}}
-use Rattle.zones.specs.{Fields.{fieldsFrom, fieldsOf}, Lent.{Replied, replied, repliedOf}, Lookup.{safezoneBits, zonesWith, zonesIn, lookedUp}}
-use Rattle.zones.specs.{declared.lookup.Zones.{Zones}, Places.{EntryOf, Listed}, Unstopped.{lookedThroughAll, StoppedShort}}
-use Rattle.zones.specs.Places as P
-use Rattle.table.specs.{Find.{fixOf, matchedWith}, Hits.{words, hitOf, hitAt}, Ending.{Answered}, Merge.{summary, seen, mergedAfter, merged}}
-use Rattle.table.specs.{Rows.{row, tableEnd, rowsThen, rowBy, rowsWithin, rowsFrom, rowsIn}, Search.{judgedTurn, rowTurn, seek, searched}, Table.{stepsBy, entryBy}}
-use Rattle.table.specs.{declared.{location.Location.{Location}, rows.Row.{Row}}, Rest.{restMark}}
+use Rattle.verdict.specs.{Distance.{measured}, Edge.{samePoint, between, inBox, quadrantOf, slopeOf, edgeOf, straight, closestOn}, Verdict.{along, passing, closedAt, thenOn, judge, judgedAt}}
+use Rattle.verdict.specs.Winding.{turned, quarterBy, halfTurn, turnAt, crossingOf, acrossBy, clearOf, woundBy}
+use Rattle.header.specs.{Field.{fieldAt}, Header.{preambleOf, textsFrom, sectionsFrom, sectionsAt, contentsBy, headBy, headOf}, Text.{within, remoteAt, stringAt, bytesOf, textAt}}
+use Rattle.header.specs.{Utf8.{characters, startedBy, begunBy, followed, goesOn, isUtf8}, declared.header.Head.{Head}}
+use Rattle.zones.specs.{Fields.{fieldsFrom, fieldsOf}, Lent.{Replied, replied, repliedOf}, Lookup.{safezoneBits, zonesWith, zonesIn, lookedUp}, Places.{EntryOf, Listed}}
+use Rattle.zones.specs.{Unstopped.{lookedThroughAll, StoppedShort}, declared.lookup.Zones.{Zones}}
+use Rattle.table.specs.{Ending.{Answered}, Find.{fixOf, matchedWith}, Hits.{words, hitOf, hitAt}, Merge.{summary, seen, mergedAfter, merged}, Rest.{restMark}, Rows.{row, tableEnd, rowsThen, rowBy}}
+use Rattle.table.specs.{Rows.{rowsWithin, rowsFrom, rowsIn}, Search.{judgedTurn, rowTurn, seek, searched}, Table.{stepsBy, entryBy}, declared.{location.Location.{Location}, rows.Row.{Row}}}
 use Rattle.zones.proofs.{HowItEnds.{lookup-ends}, PlaceIsTheEntry.{Begins, begins, place-is-the-entry}, WholeMeansWhole.{whole-means-whole, mark-four}}
+use Rattle.verdict.specs.Step as S
+use Rattle.zones.specs.Places as P
 
 abbrev pub printed : List ℕ
 printed =
@@ -28,9 +22,13 @@ printed =
 abbrev pub inTheZone : Location
 inTheZone = record { lat = fin false 225 (negsuc 13); lon = fin false 225 (negsuc 12) }
 
-pub answered : lookedUp printed inTheZone false 4 4
-    ≡ replied (given (record { matches = 1; mark = 1; safezone = 0; used = 4 })) (0 ∷ 0 ∷ 1 ∷ 16 ∷ []) (0 ∷ 0 ∷ 1 ∷ 0x41 ∷ [])
-unfolding readingOf forwardAt valueOf sizeOf tooLong signedOf evenBits pointOf fixedPoint oneShifted checked movedBy advanced marker packedTurn turnOf roundAgain nextWithin nextPoint traceThen traceWithin traceOf along passing closedAt thenOn judge judgedAt fieldAt fieldsFrom fieldsOf fixOf matchedWith preambleOf textsFrom sectionsFrom sectionsAt contentsBy headBy words repliedOf safezoneBits zonesWith zonesIn lookedUp summary seen mergedAfter merged rowsThen rowBy rowsWithin rowsFrom rowsIn judgedTurn rowTurn seek searched stepsBy entryBy within remoteAt stringAt bytesOf textAt characters startedBy begunBy followed goesOn isUtf8 samePoint between inBox quadrantOf slopeOf edgeOf straight closestOn turned quarterBy halfTurn turnAt crossingOf acrossBy clearOf woundBy measured S.checked ofInt add sub mul div toSigned
+pub answered : lookedUp printed inTheZone false 4 4 ≡ replied (given (record { matches = 1; mark = 1; safezone = 0; used = 4 })) (0 ∷ 0 ∷ 1 ∷ 16 ∷ []) (0 ∷ 0 ∷ 1 ∷ 0x41 ∷ [])
+unfolding readingOf forwardAt valueOf sizeOf tooLong signedOf evenBits pointOf fixedPoint oneShifted checked movedBy advanced marker packedTurn turnOf
+    roundAgain nextWithin nextPoint traceThen traceWithin traceOf along passing closedAt thenOn judge judgedAt fieldAt fieldsFrom fieldsOf fixOf matchedWith
+    preambleOf textsFrom sectionsFrom sectionsAt contentsBy headBy words repliedOf safezoneBits zonesWith zonesIn lookedUp summary seen mergedAfter merged
+    rowsThen rowBy rowsWithin rowsFrom rowsIn judgedTurn rowTurn seek searched stepsBy entryBy within remoteAt stringAt bytesOf textAt characters startedBy
+    begunBy followed goesOn isUtf8 samePoint between inBox quadrantOf slopeOf edgeOf straight closestOn turned quarterBy halfTurn turnAt crossingOf acrossBy
+    clearOf woundBy measured S.checked ofInt add sub mul div toSigned
 answered = refl
 
 -- so the search behind it went through the file's one row, and ended at the table's end
@@ -54,9 +52,13 @@ outOfOrder =
     ∷ 0x14 ∷ 0x00 ∷ 0x00 ∷ 0x28 ∷ 0x28 ∷ 0x28 ∷ 0x28 ∷ 0x00 ∷ 0x00 ∷ 0x04 ∷ 0x04 ∷ 0x14 ∷ 0x14 ∷ 0x00 ∷ 0x09 ∷ 0x01 ∷ 0xC1 ∷ 0x30 ∷ 0x80 ∷ 0x02
     ∷ 0x80 ∷ 0x04 ∷ 0x81 ∷ 0x02 ∷ 0x00 ∷ 0x00 ∷ 0x30 ∷ 0x80 ∷ 0x04 ∷ 0x80 ∷ 0x02 ∷ 0x82 ∷ 0x04 ∷ 0x00 ∷ 0x00 ∷ []
 
-pub stopped-early : lookedUp outOfOrder inTheZone false 4 4
-    ≡ replied (given (record { matches = 1; mark = 4; safezone = 0; used = 4 })) (0 ∷ 0 ∷ 1 ∷ 16 ∷ []) (0 ∷ 0 ∷ 1 ∷ 0x41 ∷ [])
-unfolding readingOf restMark forwardAt valueOf sizeOf tooLong signedOf evenBits pointOf fixedPoint oneShifted checked movedBy advanced marker packedTurn turnOf roundAgain nextWithin nextPoint traceThen traceWithin traceOf along passing closedAt thenOn judge judgedAt fieldAt fieldsFrom fieldsOf fixOf matchedWith preambleOf textsFrom sectionsFrom sectionsAt contentsBy headBy words repliedOf safezoneBits zonesWith zonesIn lookedUp summary seen mergedAfter merged rowsThen rowBy rowsWithin rowsFrom rowsIn judgedTurn rowTurn seek searched stepsBy entryBy within remoteAt stringAt bytesOf textAt characters startedBy begunBy followed goesOn isUtf8 samePoint between inBox quadrantOf slopeOf edgeOf straight closestOn turned quarterBy halfTurn turnAt crossingOf acrossBy clearOf woundBy measured S.checked ofInt add sub mul div toSigned
+pub stopped-early : lookedUp outOfOrder inTheZone false 4 4 ≡ replied (given (record { matches = 1; mark = 4; safezone = 0; used = 4 })) (0 ∷ 0 ∷ 1 ∷ 16 ∷ []) (0 ∷ 0 ∷ 1 ∷ 0x41 ∷ [])
+unfolding readingOf restMark forwardAt valueOf sizeOf tooLong signedOf evenBits pointOf fixedPoint oneShifted checked movedBy advanced marker packedTurn turnOf
+    roundAgain nextWithin nextPoint traceThen traceWithin traceOf along passing closedAt thenOn judge judgedAt fieldAt fieldsFrom fieldsOf fixOf matchedWith
+    preambleOf textsFrom sectionsFrom sectionsAt contentsBy headBy words repliedOf safezoneBits zonesWith zonesIn lookedUp summary seen mergedAfter merged
+    rowsThen rowBy rowsWithin rowsFrom rowsIn judgedTurn rowTurn seek searched stepsBy entryBy within remoteAt stringAt bytesOf textAt characters startedBy
+    begunBy followed goesOn isUtf8 samePoint between inBox quadrantOf slopeOf edgeOf straight closestOn turned quarterBy halfTurn turnAt crossingOf acrossBy
+    clearOf woundBy measured S.checked ofInt add sub mul div toSigned
 stopped-early = refl
 
 -- so the search stopped short
@@ -70,9 +72,13 @@ inOrder =
     ∷ 0x14 ∷ 0x00 ∷ 0x00 ∷ 0x28 ∷ 0x28 ∷ 0x28 ∷ 0x28 ∷ 0x00 ∷ 0x00 ∷ 0x01 ∷ 0xC1 ∷ 0x30 ∷ 0x80 ∷ 0x02 ∷ 0x80 ∷ 0x04 ∷ 0x81 ∷ 0x02 ∷ 0x00 ∷ 0x00 ∷ []
 
 -- with mark 1, since the rest is clean
-pub stopped-clean : lookedUp inOrder inTheZone false 4 4
-    ≡ replied (given (record { matches = 1; mark = 1; safezone = 0; used = 4 })) (0 ∷ 0 ∷ 1 ∷ 16 ∷ []) (0 ∷ 0 ∷ 1 ∷ 0x41 ∷ [])
-unfolding readingOf restMark forwardAt valueOf sizeOf tooLong signedOf evenBits pointOf fixedPoint oneShifted checked movedBy advanced marker packedTurn turnOf roundAgain nextWithin nextPoint traceThen traceWithin traceOf along passing closedAt thenOn judge judgedAt fieldAt fieldsFrom fieldsOf fixOf matchedWith preambleOf textsFrom sectionsFrom sectionsAt contentsBy headBy words repliedOf safezoneBits zonesWith zonesIn lookedUp summary seen mergedAfter merged rowsThen rowBy rowsWithin rowsFrom rowsIn judgedTurn rowTurn seek searched stepsBy entryBy within remoteAt stringAt bytesOf textAt characters startedBy begunBy followed goesOn isUtf8 samePoint between inBox quadrantOf slopeOf edgeOf straight closestOn turned quarterBy halfTurn turnAt crossingOf acrossBy clearOf woundBy measured S.checked ofInt add sub mul div toSigned
+pub stopped-clean : lookedUp inOrder inTheZone false 4 4 ≡ replied (given (record { matches = 1; mark = 1; safezone = 0; used = 4 })) (0 ∷ 0 ∷ 1 ∷ 16 ∷ []) (0 ∷ 0 ∷ 1 ∷ 0x41 ∷ [])
+unfolding readingOf restMark forwardAt valueOf sizeOf tooLong signedOf evenBits pointOf fixedPoint oneShifted checked movedBy advanced marker packedTurn turnOf
+    roundAgain nextWithin nextPoint traceThen traceWithin traceOf along passing closedAt thenOn judge judgedAt fieldAt fieldsFrom fieldsOf fixOf matchedWith
+    preambleOf textsFrom sectionsFrom sectionsAt contentsBy headBy words repliedOf safezoneBits zonesWith zonesIn lookedUp summary seen mergedAfter merged
+    rowsThen rowBy rowsWithin rowsFrom rowsIn judgedTurn rowTurn seek searched stepsBy entryBy within remoteAt stringAt bytesOf textAt characters startedBy
+    begunBy followed goesOn isUtf8 samePoint between inBox quadrantOf slopeOf edgeOf straight closestOn turned quarterBy halfTurn turnAt crossingOf acrossBy
+    clearOf woundBy measured S.checked ofInt add sub mul div toSigned
 stopped-clean = refl
 
 -- and nothing was missed
@@ -85,9 +91,13 @@ alikeTwice =
     0x50 ∷ 0x4C ∷ 0x42 ∷ 0x43 ∷ 0x01 ∷ 0x10 ∷ 0x01 ∷ 0x04 ∷ 0xCE ∷ 0xE1 ∷ 0xED ∷ 0xE5 ∷ 0x00 ∷ 0x0C ∷ 0x02 ∷ 0x09 ∷ 0x04 ∷ 0x04 ∷ 0x14
     ∷ 0x14 ∷ 0x00 ∷ 0x00 ∷ 0x04 ∷ 0x04 ∷ 0x14 ∷ 0x14 ∷ 0x00 ∷ 0x00 ∷ 0x01 ∷ 0xC1 ∷ 0x30 ∷ 0x80 ∷ 0x02 ∷ 0x80 ∷ 0x04 ∷ 0x81 ∷ 0x02 ∷ 0x00 ∷ 0x00 ∷ []
 
-pub first-of-two : lookedUp alikeTwice inTheZone false 8 4
-    ≡ replied (given (record { matches = 1; mark = 1; safezone = 0; used = 4 })) (0 ∷ 0 ∷ 1 ∷ 16 ∷ 0 ∷ 0 ∷ 0 ∷ 0 ∷ []) (0 ∷ 0 ∷ 1 ∷ 0x41 ∷ [])
-unfolding readingOf restMark forwardAt valueOf sizeOf tooLong signedOf evenBits pointOf fixedPoint oneShifted checked movedBy advanced marker packedTurn turnOf roundAgain nextWithin nextPoint traceThen traceWithin traceOf along passing closedAt thenOn judge judgedAt fieldAt fieldsFrom fieldsOf fixOf matchedWith preambleOf textsFrom sectionsFrom sectionsAt contentsBy headBy words repliedOf safezoneBits zonesWith zonesIn lookedUp summary seen mergedAfter merged rowsThen rowBy rowsWithin rowsFrom rowsIn judgedTurn rowTurn seek searched stepsBy entryBy within remoteAt stringAt bytesOf textAt characters startedBy begunBy followed goesOn isUtf8 samePoint between inBox quadrantOf slopeOf edgeOf straight closestOn turned quarterBy halfTurn turnAt crossingOf acrossBy clearOf woundBy measured S.checked ofInt add sub mul div toSigned
+pub first-of-two : lookedUp alikeTwice inTheZone false 8 4 ≡ replied (given (record { matches = 1; mark = 1; safezone = 0; used = 4 })) (0 ∷ 0 ∷ 1 ∷ 16 ∷ 0 ∷ 0 ∷ 0 ∷ 0 ∷ []) (0 ∷ 0 ∷ 1 ∷ 0x41 ∷ [])
+unfolding readingOf restMark forwardAt valueOf sizeOf tooLong signedOf evenBits pointOf fixedPoint oneShifted checked movedBy advanced marker packedTurn turnOf
+    roundAgain nextWithin nextPoint traceThen traceWithin traceOf along passing closedAt thenOn judge judgedAt fieldAt fieldsFrom fieldsOf fixOf matchedWith
+    preambleOf textsFrom sectionsFrom sectionsAt contentsBy headBy words repliedOf safezoneBits zonesWith zonesIn lookedUp summary seen mergedAfter merged
+    rowsThen rowBy rowsWithin rowsFrom rowsIn judgedTurn rowTurn seek searched stepsBy entryBy within remoteAt stringAt bytesOf textAt characters startedBy
+    begunBy followed goesOn isUtf8 samePoint between inBox quadrantOf slopeOf edgeOf straight closestOn turned quarterBy halfTurn turnAt crossingOf acrossBy
+    clearOf woundBy measured S.checked ofInt add sub mul div toSigned
 first-of-two = refl
 
 pub first-of-two-entry : EntryOf alikeTwice inTheZone (hitOf 0 0 1 16)
@@ -118,11 +128,11 @@ FirstAtSixteen (given head) = (r : Row) → Listed r (rowsIn alikeTwice head) �
 FirstAtSixteen (refused why) = ⊥
 
 first-at-sixteen : FirstAtSixteen (headOf alikeTwice)
-unfolding FirstAtSixteen readingOf forwardAt valueOf sizeOf tooLong signedOf preambleOf fieldAt textsFrom sectionsFrom sectionsAt contentsBy headBy within remoteAt stringAt bytesOf textAt characters startedBy begunBy followed goesOn isUtf8 rowsThen rowBy rowsWithin rowsFrom rowsIn stepsBy entryBy
+unfolding FirstAtSixteen readingOf forwardAt valueOf sizeOf tooLong signedOf preambleOf fieldAt textsFrom sectionsFrom sectionsAt contentsBy headBy within
+    remoteAt stringAt bytesOf textAt characters startedBy begunBy followed goesOn isUtf8 rowsThen rowBy rowsWithin rowsFrom rowsIn stepsBy entryBy
 first-at-sixteen = numbered-first (alikeRow 16 0 22) (alikeRow 22 1 28) refl
 
 pub second-not-permitted : EntryOf alikeTwice inTheZone (hitOf 0 0 1 22) → ⊥
 unfolding FirstAtSixteen
-second-not-permitted e =
-    let at : e .table-row .place ≡ 16 = subst FirstAtSixteen (e .opened) first-at-sixteen (e .table-row) (e .listed) (e .numbered) in
+second-not-permitted e = let at : e .table-row .place ≡ 16 = subst FirstAtSixteen (e .opened) first-at-sixteen (e .table-row) (e .listed) (e .numbered) in
     omega (arith, e .placed, at)

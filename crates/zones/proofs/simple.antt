@@ -1,5 +1,5 @@
-mod Names
-mod Joining
+pub mod Names
+pub mod Joining
 mod Picking
 mod Naming
 mod Describing

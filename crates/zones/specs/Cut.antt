@@ -1,20 +1,18 @@
 -- Request Q-6: which numbers the plain walk meets that the file's end cuts. Each definition follows the plain walk, up to where it is refused or ends.
-use mathlib.Core.{Bool.{Bool, true, false, _&&_, _||_}, List.{List, [], _∷_, _++_}}
-use Prim.Native.Nat.{ℕ, zero, suc, _+_, _-_, _/_, _%_, _^_, _≤_}
-use lib.{Dec.{ltb, eqb}, IntN.{pos}, ListN.{length, getD}}
-use Rattle.verdict.specs.{Step.{Step}, Verdict.{Last, none, after, passing}, declared.step.Tally.{Tally}}
-use Rattle.verdict.specs.Step as S
-use Rattle.border.specs.{Encoding.{versionOf, encodedBy}, Reader.{Turn, gives, again, ends, turnOf}, Trace.{Given, reaches, ended, turns, nextPoint, borderAt}}
-use Rattle.border.specs.declared.{place.Point.{Point}, reader.{Reader.{Reader}, Run.{Run, the-variants.{Idle, Forward, Backward}}, Version.{Version, the-variants.{Plain, Packed}}}}
-use Rattle.header.specs.{Field.{fieldAt}, Header.{preambleOf, blameOf, textsOf, sizeAt, headOf}, Text.{textAt}, declared.header.Head.{Head}}
+use Rattle.numbers.specs.Prelude.{ℕ, zero, suc, _+_, _-_, _/_, _%_, _^_, _≤_, eqb, ltb, pos, length, getD, Bool, true, false, _||_, List, [], _∷_, _++_}
 use Rattle.numbers.specs.{Answer.{Answer, found, failed, refused, if_then_else_}, Reply.{Reply, given}, Varint.{Numeral, isComplete, readingOf}}
+use Rattle.verdict.specs.{Step.{Step}, Verdict.{Last, none, after, passing}, declared.step.Tally.{Tally}}
+use Rattle.border.specs.{Encoding.{versionOf, encodedBy}, Reader.{Turn, gives, again, ends, turnOf}, Trace.{Given, reaches, ended, turns, nextPoint, borderAt}, declared.place.Point.{Point}}
+use Rattle.border.specs.declared.reader.{Reader.{Reader}, Run.{Run, the-variants.{Idle, Forward, Backward}}, Version.{Version, the-variants.{Plain, Packed}}}
+use Rattle.header.specs.{Field.{fieldAt}, Header.{preambleOf, blameOf, textsOf, sizeAt, headOf}, Text.{textAt}, declared.header.Head.{Head}}
+use Rattle.table.specs.{Find.{isPrecision, fixOf, matchedWith}, Hits.{width}, Rows.{startAt, rowBy}, Search.{farthest, rowTurn, judgeIn}, Table.{isAbove, holds}, declared.hits.Hit.{Hit}}
+use Rattle.table.specs.declared.{location.Location.{Location}, rows.Cursor.{Cursor}}
+use Rattle.zones.specs.Fields.{fieldsPlace, fieldsFrom}
+use Rattle.verdict.specs.Step as S
 use Rattle.numbers.specs.Reply as R
-use Rattle.table.specs.{Find.{isPrecision, fixOf, matchedWith}, Hits.{width}, Rows.{startAt, rowBy}, Search.{farthest, rowTurn, judgeIn}, Table.{isAbove, holds}}
 use Rattle.table.specs.Rows as T
-use Rattle.table.specs.declared.{hits.Hit.{Hit}, location.Location.{Location}, rows.{Cursor.{Cursor}, Row.{Row}}}
 use Rattle.table.specs.declared.search.Turn as K
 use Rattle.table.specs.declared.search.Turn.the-variants as N
-use Rattle.zones.specs.Fields.{fieldsPlace, fieldsFrom}
 
 -- ---- a number
 -- what a walk meets behind a step: only where the step found something

@@ -1,8 +1,5 @@
 -- The fields of the matches, as document 01 has them: in file order, each into what remains of the lent text.
-use mathlib.Core.{Path.{_≡_}, List.{List, [], _∷_, _++_}}
-use Prim.Native.Nat.{ℕ, zero, suc, _+_, _-_, _%_, _^_}
-use lib.ListN.{length}
-use Rattle.numbers.specs.{Lists.{padded}, Reply.{Reply, given, refused, _>>=_}}
+use Rattle.numbers.specs.{Lists.{padded}, Prelude.{ℕ, zero, suc, _+_, _-_, _%_, _^_, length, List, [], _∷_, _++_, _≡_}, Reply.{Reply, given, refused, _>>=_}}
 use Rattle.header.specs.{Field.{fieldAt}, declared.header.Head.{Head}}
 use Rattle.table.specs.declared.hits.Hit.{Hit}
 use Rattle.zones.specs.declared.fields.Fields.{Fields}

@@ -1,7 +1,5 @@
 -- What an entry point answers, and what goes into the buffers that it was lent.
-use mathlib.Core.{Path.{_≡_}, List.{List}}
-use Prim.Native.Nat.{ℕ}
-use Rattle.numbers.specs.{Lists.{zeros, padded}, Reply.{Reply, given, refused}}
+use Rattle.numbers.specs.{Lists.{zeros, padded}, Prelude.{ℕ, List, _≡_}, Reply.{Reply, given, refused}}
 use Rattle.table.specs.{Hits.{words}, declared.hits.Hit.{Hit}}
 
 -- the answer, and what is put into the lent list and the lent text

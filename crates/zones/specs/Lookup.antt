@@ -1,11 +1,10 @@
 -- Lookup, as document 01 has it.
-use mathlib.Core.{Bool.{Bool, true}, List.{List, []}, Path.{_≡_}}
-use Prim.Native.Nat.{ℕ, _/_}
-use lib.{IntN.{pos}, Ieee.{binary32, toBits}, ListN.{length}}
+use Rattle.numbers.specs.Prelude.{ℕ, _/_, binary32, pos, length, Bool, true, List, [], _≡_}
 use Rattle.numbers.specs.{Answer.{if_then_else_}, Float.{toF32, oneShifted, _⊠_, _⊘_, Root.{root}}, Lists.{padded}, Reply.{Reply, given, refused, _>>=_}}
+use lib.Ieee.{toBits}
 use Rattle.header.specs.{Header.{headBy, headOf}, declared.header.Head.{Head}}
-use Rattle.table.specs.{Hits.{width}, Find.{ninety, Matched, matchedWith}, GivenRows.{matchedListed}, declared.{find.Matches.{Matches}, location.Location.{Location}}}
-use Rattle.zones.specs.{Fields.{fieldsOf}, Lent.{Outcome, Replied, repliedOf}, declared.lookup.{Zones.{Zones}, Looked.{Looked}}}
+use Rattle.table.specs.{Find.{ninety, Matched, matchedWith}, GivenRows.{matchedListed}, Hits.{width}, declared.{find.Matches.{Matches}, location.Location.{Location}}}
+use Rattle.zones.specs.{Fields.{fieldsOf}, Lent.{Outcome, Replied, repliedOf}, declared.lookup.{Looked.{Looked}, Zones.{Zones}}}
 use Rattle.zones.specs.declared.lookup.Looked.the-variants as L
 
 -- the root of the least squared distance as f32, times 90, over 2 ^ (precision - 1), which is -2 ^ 31 at precision 32; 0 if not asked

@@ -1,8 +1,6 @@
 -- Lookup among rows that are given as words with marks along their borders: document 04.
-use Prim.Native.Nat.{ℕ, _/_}
-use mathlib.Core.{Bool.{Bool}, List.{List}}
+use Rattle.numbers.specs.{Prelude.{ℕ, _/_, Bool, List}, Reply.{Reply}}
 use Rattle.header.specs.declared.header.Head.{Head}
-use Rattle.numbers.specs.Reply.{Reply}
 use Rattle.table.specs.{Hits.{width}, MarkedRows.{matchedMarked}, declared.location.Location.{Location}}
 use Rattle.zones.specs.{Lent.{Outcome, Replied, repliedOf}, Lookup.{zonesFrom}, declared.lookup.Zones.{Zones}}
 

@@ -1,9 +1,7 @@
 -- Where a match came from (request Q-13): the entry at its place, and document 01's lookups, which know no places and have three words a hit.
-use mathlib.Core.{Path.{_≡_}, Bool.{Bool, true, false}, List.{List, [], _∷_}}
-use Prim.Native.Nat.{ℕ, _/_}
-use Rattle.numbers.specs.{Answer.{found}, Lists.{zeros, padded}, Reply.{Reply, given, refused, _>>=_}, Varint.{forwardAt}}
-use Rattle.table.specs.{Find.{fixOf, Matched, matchedBy}, Rows.{Rows, row, tableEnd, unreadable, rowsIn}, Search.{searchedRows}, Table.{entryBy, holds}}
-use Rattle.table.specs.declared.{hits.Hit.{Hit}, location.Location.{Location}, rows.Row.{Row}, table.Entry.{Entry}}
+use Rattle.numbers.specs.{Answer.{found}, Lists.{zeros, padded}, Prelude.{ℕ, _/_, Bool, true, false, List, [], _∷_, _≡_}, Reply.{Reply, given, refused, _>>=_}, Varint.{forwardAt}}
+use Rattle.table.specs.{Find.{fixOf, Matched, matchedBy}, Rows.{Rows, row, tableEnd, unreadable, rowsIn}, Search.{searchedRows}, Table.{entryBy, holds}, declared.hits.Hit.{Hit}}
+use Rattle.table.specs.declared.{location.Location.{Location}, rows.Row.{Row}, table.Entry.{Entry}}
 use Rattle.header.specs.{Header.{headOf}, declared.header.Head.{Head}}
 use Rattle.zones.specs.{Lent.{Outcome, Replied, replied}, Lookup.{zonesFrom}, Simple.{describedFrom}, declared.{lookup.Zones.{Zones}, simple.Described.{Described}}}
 use Rattle.table.specs.Rows as T

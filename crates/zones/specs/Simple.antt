@@ -1,13 +1,10 @@
 -- Simple lookup, as document 01 has it: the fields of every match are checked, and the first match is described.
-use mathlib.Core.{Path.{_≡_}, Bool.{Bool, true, false, _&&_}, List.{List, [], _∷_, _++_}, Option.{Option, none, some}}
-use Prim.Native.Nat.{ℕ, zero, suc, _+_, _/_, _≤_}
-use lib.{Dec.{leb, eqb}, ListN.{length}}
+use Rattle.numbers.specs.Prelude.{ℕ, zero, suc, _+_, _/_, _≤_, eqb, leb, length, Bool, true, false, _&&_, List, [], _∷_, _++_, Option, some, none, _≡_}
 use Rattle.numbers.specs.{Answer.{if_then_else_}, Lists.{padded}, Reply.{Reply, given, refused, plain, demand, _>>=_, _>>_}}
-use Rattle.header.specs.{Text.{textAt, bytesOf}, Header.{blameOf, headOf}, declared.{header.Head.{Head}, text.Text.{Text}}}
-use Rattle.table.specs.{Hits.{width}, Find.{Matched, matchedWith}, declared.{find.Matches.{Matches}, hits.Hit.{Hit}, location.Location.{Location}}}
-use Rattle.zones.specs.{Fields.{fieldsPlace}, Lent.{Outcome, Replied, repliedOf}}
-use Rattle.zones.specs.declared.simple.{Value.{Value}, Picked.{Picked}, Picks.{Picks}, Checked.{Checked}, Description.{Description}, Wording.{Wording}}
-use Rattle.zones.specs.declared.simple.{Described.{Described}, Simple.{Simple}, Parts.{Parts}, Named.{Named}}
+use Rattle.header.specs.{Header.{blameOf, headOf}, Text.{textAt, bytesOf}, declared.{header.Head.{Head}, text.Text.{Text}}}
+use Rattle.table.specs.{Find.{Matched, matchedWith}, Hits.{width}, declared.{find.Matches.{Matches}, hits.Hit.{Hit}, location.Location.{Location}}}
+use Rattle.zones.specs.{Fields.{fieldsPlace}, Lent.{Outcome, Replied, repliedOf}, declared.simple.{Checked.{Checked}, Described.{Described}, Description.{Description}, Named.{Named}}}
+use Rattle.zones.specs.declared.simple.{Parts.{Parts}, Picked.{Picked}, Picks.{Picks}, Simple.{Simple}, Value.{Value}, Wording.{Wording}}
 use Rattle.zones.specs.declared.simple.Value.the-variants as X
 use Rattle.zones.specs.declared.simple.Picks.the-variants as P
 use Rattle.zones.specs.declared.simple.Named.the-variants as N

@@ -1,8 +1,6 @@
 -- The lookups whose search never stops early: what mark 1 is held against.
-use mathlib.Core.{Bool.{Bool, true, false}, List.{List}, Path.{_≡_}}
-use Prim.Native.Nat.{ℕ, _/_}
+use Rattle.numbers.specs.{Prelude.{ℕ, _/_, Bool, true, false, List, _≡_}, Reply.{given, _>>=_}}
 use Rattle.header.specs.{Header.{headOf}, declared.header.Head.{Head}}
-use Rattle.numbers.specs.Reply.{given, _>>=_}
 use Rattle.table.specs.{Ending.{Through}, Find.{fixOf}, Hits.{width}, Rows.{Rows, row, rowsIn}, Search.{judgeIn, farthest}, Table.{isAbove}, Unstopped.{matchedAll, SomeHolds}}
 use Rattle.table.specs.declared.{hits.Hit.{Hit}, location.Location.{Location}, rows.Row.{Row}}
 use Rattle.zones.specs.{Lent.{Replied, repliedOf}, Lookup.{zonesFrom}, Simple.{describedFrom}, declared.{lookup.Zones.{Zones}, simple.Described.{Described}}}

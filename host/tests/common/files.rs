@@ -1,7 +1,6 @@
 //! Small PLB files.
 
-use super::encode::{signed, string, varint};
-use uskelzar::write_border;
+use super::encode::{number_of, signed, string, varint};
 
 /// Document 01's example: one square zone `A`, type C, version 1, precision 16; and its fix.
 pub const SQUARE: [u8; 33] = [
@@ -69,6 +68,18 @@ pub struct Sections {
     pub data: Vec<u8>,
 }
 
+/// A border as docs/FORMAT.md has it, written here, so that a printer's tests need no writer: a number of steps and 02 02 behind them, or each move in one number and two zeros.
+pub fn border(version: u8, points: &[(i32, i32)]) -> Vec<u8> {
+    let before = [(0, 0)].iter().chain(points);
+    let moves = points.iter().zip(before).map(|(to, from)| (i64::from(to.0) - i64::from(from.0), i64::from(to.1) - i64::from(from.1)));
+    if version == 0 {
+        let steps = moves.flat_map(|(lat, lon)| [signed(lat), signed(lon)].concat());
+        return varint(points.len() as u64).into_iter().chain(steps).chain([2, 2]).collect();
+    }
+    let bits = |value: i64| (0..32).map(|bit| (number_of(value) >> bit & 1) << (2 * bit)).sum::<u64>();
+    moves.flat_map(|(lat, lon)| varint(bits(lat) | bits(lon) << 1)).chain([0, 0]).collect()
+}
+
 /// The borders in the order given: lower latitudes must not fall.
 pub fn sections(version: u8, zones: &[Zone]) -> Sections {
     let mut all = Sections {
@@ -84,7 +95,7 @@ pub fn sections(version: u8, zones: &[Zone]) -> Sections {
             all.table
                 .extend(entry(points, metadata - last_metadata, data - last_data));
             all.data
-                .extend(write_border(version, points, &[], &all.data).unwrap());
+                .extend(border(version, points));
             (last_metadata, last_data) = (metadata, data);
         }
         all.metadata.extend(strings(zone.fields));

@@ -1,6 +1,7 @@
 //! What several tests use.
 #![allow(dead_code)] // each test uses some of it
 
+#[cfg(feature = "office")]
 pub mod desk;
 pub mod encode;
 pub mod fence;
@@ -10,7 +11,9 @@ pub mod tzif;
 
 use fence::{Edge, Fence};
 use uskelzar::raw::{self, Reply, HIT_WORDS};
-use uskelzar::{Atlas, Map, Refusal};
+use uskelzar::Refusal;
+#[cfg(feature = "office")]
+use uskelzar::{Atlas, Map};
 
 pub const WORLD: &str = concat!(env!("CARGO_MANIFEST_DIR"), "/../examples/world-9.plb");
 
@@ -170,12 +173,14 @@ impl Buffers {
 }
 
 /// The atlas of the last file that was asked for.
+#[cfg(feature = "office")]
 #[derive(Default)]
 pub struct AtlasOf {
     file: Vec<u8>,
     words: Vec<u32>,
 }
 
+#[cfg(feature = "office")]
 impl AtlasOf {
     /// No word where the file has none.
     pub fn of(&mut self, file: &[u8]) -> Vec<u32> {

@@ -1,31 +1,25 @@
 -- An add, from what its steps say. Assumes nothing.
-use Prim.Native.Nat.{ℕ, _+_, _-_, _*_, _^_, _≤_, _<_, min}
-use borrow.Author.Tests.{leb-true, not-false, not-true, lt-leb}
-use lib.{Dec.{ltb, leb, eqb}, IntN.{ℤ}, ListN.{length, take, drop, length-append, length-take}, Seq.{length-take-le, take-at, drop-at}}
-use mathlib.Core.{Bool.{Bool, true, false, not, _&&_}, List.{List, [], _++_}, Path.{_≡_, refl, sym, ap, subst, _∙_}}
-use native.Mathlib.Omega.{arith}
+use Rattle.numbers.proofs.Prelude.{ℕ, _+_, _≤_, min, not-false, not-true, eqb, ltb, ℤ, length, take, Bool, true, false, _&&_, not, List, [], _++_, _≡_, refl, sym, ap, subst, _∙_, arith}
+use Rattle.numbers.specs.{Reply.{Reply, given, refused, plain, demand, _>>_}, declared.refusal.Refusal.{Refusal}}
 use Rattle.builder.specs.{Borders.{withBorder}, File.{areTexts, upTo}, Yards.{sumOf}, declared.borders.Border.{Border}}
-use Rattle.builder.specs.declared.borders.Border.the-variants as B
-use Rattle.add.specs.{Growing.{Joins.{Renoted}, Notes.{Notes, NotedBy}}, declared.growing.grow.Added.{Added}}
-use Rattle.draft.proofs.held.{Fronts.{front-take}, Standing.{held-names, held-yards, held-bytes, holds-standing}}
-use Rattle.draft.specs.Held.{Builder.{Builder, Offered, yardOf, joined, summed, fitting, add}, Space.{Space, longEnough, standing}, State.{Lists, Holds, Answers}, Totals.{dataOf}}
-use Rattle.draft.specs.declared.held.{room.Rooms.{Rooms}, state.{Held.{Held}, Changed.{Changed}}}
-use Rattle.draft.specs.declared.held.state.Changed.the-variants as C
-use Rattle.add.specs.inner.Joining.Joins.{Joining, Joins}
-use Rattle.numbers.specs.{Lists.{zeros}, Reply.{Reply, given, refused, plain, demand, _>>_}, declared.refusal.Refusal.{Refusal}}
-use Rattle.add.specs.Offered.Offers.{offeredAs, offerGood, borderBehind, dataWith, Offers}
+use Rattle.add.specs.{Adding.Adds.{Adds, spaceFor, notesEnough}, Growing.{Joins.{Renoted}, Notes.{Notes}}, Offered.Offers.{offeredAs, offerGood, borderBehind, dataWith, Offers}}
+use Rattle.add.specs.{declared.{adding.room.NoteRooms.{NoteRooms}, growing.grow.Added.{Added}}, inner.Joining.Joins.{Joins}}
+use Rattle.draft.{proofs.held.{Fronts.{front-take}, Standing.{held-names, held-yards, held-bytes, holds-standing}}, specs.Held.Builder.{Builder, Offered, yardOf, joined, summed, fitting, add}}
+use Rattle.draft.specs.{Held.{Space.{Space, longEnough, standing}, State.{Lists, Holds, Answers}, Totals.{dataOf}}, declared.held.{room.Rooms.{Rooms}, state.{Changed.{Changed}, Held.{Held}}}}
 use Rattle.writer.specs.Writer.{checks}
-use Rattle.add.specs.{Adding.Adds.{Adds, spaceFor, notesEnough}, declared.adding.room.NoteRooms.{NoteRooms}}
+use Rattle.builder.specs.declared.borders.Border.the-variants as B
+use Rattle.draft.specs.declared.held.state.Changed.the-variants as C
 
 -- ---- the steps of an add
-grouped : {A : Type 0} (c : Reply (Unit {0})) (x y : Bool) (rest : Reply A) → (c >> (demand x (plain 25) >> (demand y (plain 26) >> rest))) ≡ ((c >> (demand x (plain 25) >> demand y (plain 26))) >> rest)
+grouped : {A : Type 0} (c : Reply (Unit {0})) (x y : Bool) (rest : Reply A) →
+    (c >> (demand x (plain 25) >> (demand y (plain 26) >> rest))) ≡ ((c >> (demand x (plain 25) >> demand y (plain 26))) >> rest)
 grouped (given u) true true rest = refl
 grouped (given u) true false rest = refl
 grouped (given u) false y rest = refl
 grouped (refused why) x y rest = refl
 
-add-steps : (b : Builder) (o : Offered) (space : Space)
-    → add b o space ≡ (offerGood (length (b .plan .yards)) (length (b .plan .names)) o >> (withBorder (b .plan .version) (upTo (min (b .room) (space .bytes))) (dataOf (b .plan) .bytes) (yardOf o) >> fitting space (summed (joined (b .plan) o) (b .room))))
+add-steps : (b : Builder) (o : Offered) (space : Space) → add b o space ≡ (offerGood (length (b .plan .yards)) (length (b .plan .names)) o >> (withBorder (b .plan .version)
+    (upTo (min (b .room) (space .bytes))) (dataOf (b .plan) .bytes) (yardOf o) >> fitting space (summed (joined (b .plan) o) (b .room))))
 unfolding add offerGood
 add-steps b o space = grouped (checks 0 (o .lats) (o .lons) []) (ltb (length (b .plan .yards)) 4096 && eqb (length (b .plan .names)) (length (o .lengths))) (areTexts (o .lengths) (o .texts)) _
 
@@ -64,10 +58,9 @@ module _ (b : Builder) (held : Held) (before : Lists) (h : Holds b held before) 
 
     steps-here : add b o space ≡ (offerGood (held .yards) (held .names) o >> (dataWith held o (before .bytes) out >> last))
     steps-here =
-        add-steps b o space
-        ∙ (ap (λ (n : ℕ). offerGood (length (b .plan .yards)) (length (b .plan .names)) o >> (withBorder (b .plan .version) (upTo (min (b .room) n)) (dataOf (b .plan) .bytes) (yardOf o) >> last)) room
-        ∙ (ap (λ (w : Reply (List ℕ)). offerGood (length (b .plan .yards)) (length (b .plan .names)) o >> (w >> last)) (sym data-as)
-        ∙ ap (λ (c : Reply (Unit {0})). c >> (dataWith held o (before .bytes) out >> last)) (sym good-as)))
+        add-steps b o space ∙ (ap (λ (n : ℕ). offerGood (length (b .plan .yards)) (length (b .plan .names)) o >> (withBorder (b .plan .version)
+        (upTo (min (b .room) n)) (dataOf (b .plan) .bytes) (yardOf o) >> last)) room ∙ (ap (λ (w : Reply (List ℕ)). offerGood (length (b .plan .yards))
+        (length (b .plan .names)) o >> (w >> last)) (sym data-as) ∙ ap (λ (c : Reply (Unit {0})). c >> (dataWith held o (before .bytes) out >> last)) (sym good-as)))
 
     refused-here : (why : Refusal) → (offerGood (held .yards) (held .names) o >> dataWith held o (before .bytes) out) ≡ refused why → Answers (add b o space) before before (C.Refused why)
     unfolding Answers
@@ -85,7 +78,8 @@ pub as-changed : (r : Added) (x y : Changed) (noted : ℕ) → r ≡ record { ch
 as-changed r x y noted e is = e ∙ ap (λ (z : Changed). record { changed = z; noted = noted }) is
 
 -- ---- the ways out
-module _ (held : Held) (noted : ℕ) (lats lons : List ℤ) (pieces sizes values : List ℕ) (rooms : Rooms) (lent : NoteRooms) (out : ℕ) (before : Lists) (notes : Notes) (bytes-are : rooms .bytes ≡ length (before .bytes)) where
+module _ (held : Held) (noted : ℕ) (lats lons : List ℤ) (pieces sizes values : List ℕ) (rooms : Rooms) (lent : NoteRooms) (out : ℕ) (before : Lists) (notes : Notes)
+    (bytes-are : rooms .bytes ≡ length (before .bytes)) where
   abbrev o : Offered
   o = offeredAs lats lons pieces sizes values
 
@@ -106,9 +100,10 @@ module _ (held : Held) (noted : ℕ) (lats lons : List ℤ) (pieces sizes values
   -- its numbers do not fit its lists
   pub stands-not-adds : rooms .boxes ≡ length (before .boxes) → rooms .borders ≡ length (before .borders) → rooms .lengths ≡ length (before .lengths) → rooms .texts ≡ length (before .texts)
       → (t : Bool) → t ≡ standing held rooms → not t ≡ true → (r : Added) → r ≡ same (plain 28) → Adds held noted o rooms lent out before before notes notes r
-  stands-not-adds boxes borders lengths texts t e n r is =
-      let low : standing held rooms ≡ false = sym e ∙ not-true t n in
-      record { answers = λ b h right. absurd (never-both (standing held rooms) (holds-standing b held before h rooms boxes borders lengths texts bytes-are) low); stands-not = λ f. (is, (refl, refl)) }
+  stands-not-adds boxes borders lengths texts t e n r is = let low : standing held rooms ≡ false = sym e ∙ not-true t n in record {
+    answers = λ b h right. absurd (never-both (standing held rooms) (holds-standing b held before h rooms boxes borders lengths texts bytes-are) low);
+    stands-not = λ f. (is, (refl, refl));
+  }
 
   module _ (t : Bool) (e : t ≡ standing held rooms) (n : not t ≡ false) where
     pub stood : standing held rooms ≡ true
@@ -118,11 +113,13 @@ module _ (held : Held) (noted : ℕ) (lats lons : List ℤ) (pieces sizes values
     not-low f = absurd (never-both (standing held rooms) stood f)
 
     -- a refusal with its reason
-    refused-as : (why : Refusal) → ((b : Builder) → Holds b held before → Answers (add b o space) before before (C.Refused why)) → (r : Added) → r ≡ same why → Adds held noted o rooms lent out before before notes notes r
+    refused-as : (why : Refusal) → ((b : Builder) → Holds b held before → Answers (add b o space) before before (C.Refused why)) → (r : Added) → r ≡ same why →
+        Adds held noted o rooms lent out before before notes notes r
     refused-as why answers r is =
         subst (Adds held noted o rooms lent out before before notes notes) (sym is) (record { answers = λ b h right. (answers b h, nothing-noted (held .names) why b); stands-not = λ f. not-low f })
 
-    pub refused-adds : (after : List ℕ) (r : Border) → Offers held o (before .bytes) out after r → (why : Refusal) → r ≡ B.Refused why → (s : Added) → s ≡ same why → Adds held noted o rooms lent out before before notes notes s
+    pub refused-adds : (after : List ℕ) (r : Border) → Offers held o (before .bytes) out after r → (why : Refusal) → r ≡ B.Refused why → (s : Added) → s ≡ same why →
+        Adds held noted o rooms lent out before before notes notes s
     unfolding Offers
     refused-adds after r offers why is =
         let bad : Offers held o (before .bytes) out after (B.Refused why) = subst (Offers held o (before .bytes) out after) is offers in
@@ -144,29 +141,31 @@ module _ (held : Held) (noted : ℕ) (lats lons : List ℤ) (pieces sizes values
       unfolding offered
       drawn-here = drew .1 .0
 
-      module _ (sum : ℕ) (sum-is : sum ≡ sumOf sizes) (u : Bool) (long-is : u ≡ (longEnough rooms (held .names) (held .yards + 1) (held .front) (held .strings + sum) && notesEnough lent (held .names) (held .yards + 1))) where
+      module _ (sum : ℕ) (sum-is : sum ≡ sumOf sizes) (u : Bool)
+          (long-is : u ≡ (longEnough rooms (held .names) (held .yards + 1) (held .front) (held .strings + sum) && notesEnough lent (held .names) (held .yards + 1))) where
         asked : u ≡ space .lists
         asked = long-is ∙ ap (λ (n : ℕ). longEnough rooms (held .names) (held .yards + 1) (held .front) (held .strings + n) && notesEnough lent (held .names) (held .yards + 1)) sum-is
 
         pub full-adds : not u ≡ true → (s : Added) → s ≡ same (plain 28) → Adds held noted o rooms lent out before before notes notes s
-        full-adds low-is =
-            let low : space .lists ≡ false = sym asked ∙ not-true u low-is in
+        full-adds low-is = let low : space .lists ≡ false = sym asked ∙ not-true u low-is in
             refused-as (plain 28) (λ b h. full-here b held before h o out space room-here (take (held .bytes) (before .bytes) ++ take size after) good-here drawn-here low)
 
-        pub joined-adds : not u ≡ false → (again : Lists) (notes′ : Notes) (s : Added) → Joins held noted lats lons sizes (take sum values) (take size after) before again notes notes′ s → Adds held noted o rooms lent out before again notes notes′ s
+        pub joined-adds : not u ≡ false → (again : Lists) (notes′ : Notes) (s : Added) → Joins held noted lats lons sizes (take sum values) (take size after) before again notes notes′ s →
+            Adds held noted o rooms lent out before again notes notes′ s
         unfolding Joins
-        joined-adds long-too again notes′ s joins =
-            let long : space .lists ≡ true = sym asked ∙ not-false u long-too in
-            record {
-              answers = λ b h right.
-                  let both = joins b pieces values space (ap (λ (n : ℕ). take n values) sum-is) long
-                  (record {
-                    holds = h;
-                    good = good-here;
-                    wide = wide b held before h o out;
-                    narrow = omega arith;
-                    drawn = sym (data-as b held before h o out) ∙ (drawn-here ∙ ap (λ (l : List ℕ). given (l ++ take size after)) (data-here b held before h o out));
-                  }) right in
-                  (subst (λ (x : Reply Builder). Answers x before again (s .changed)) (sym (add-last b held before h o out space room-here (take (held .bytes) (before .bytes) ++ take size after) good-here drawn-here)) (both .0), both .1);
-              stands-not = λ f. not-low f;
-            }
+        joined-adds long-too again notes′ s joins = let long : space .lists ≡ true = sym asked ∙ not-false u long-too in record {
+          answers = λ b h right.
+              let both = joins b pieces values space (ap (λ (n : ℕ). take n values) sum-is) long
+              (record {
+                holds = h;
+                good = good-here;
+                wide = wide b held before h o out;
+                narrow = omega arith;
+                drawn = sym (data-as b held before h o out) ∙ (drawn-here ∙ ap (λ (l : List ℕ). given (l ++ take size after)) (data-here b held before h o out));
+              }) right in (
+                subst (λ (x : Reply Builder). Answers x before again (s .changed))
+                    (sym (add-last b held before h o out space room-here (take (held .bytes) (before .bytes) ++ take size after) good-here drawn-here)) (both .0),
+                both .1,
+              );
+          stands-not = λ f. not-low f;
+        }

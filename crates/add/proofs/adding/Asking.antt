@@ -1,24 +1,16 @@
 -- What the steps of an add ask for follows from the tests before them. Assumes nothing.
-use Prim.Native.Nat.{ℕ, _+_, _-_, _*_, _^_, _≤_, _<_, min}
-use borrow.Author.Tests.{leb-true, le-leb, lt-leb, not-false}
-use lib.{Dec.{leb}, IntN.{ℤ}, ListN.{length, take, drop, length-append}, Seq.{length-take-le, drop-at}}
-use mathlib.Core.{Bool.{Bool, true, false, not, _&&_}, List.{List, _++_}, Path.{_≡_, refl, sym, ap, subst, _∙_}}
-use native.Mathlib.{Nat.{mul-comm, mul-suc}, Numerals.{add-one}, Omega.{arith}}
-use Rattle.numbers.proofs.Tests.{both}
+use Rattle.numbers.proofs.Prelude.{ℕ, _+_, _-_, _*_, _^_, _≤_, _<_, min, le-leb, leb-true, not-false, lt-leb, leb, ℤ, length, take, drop, length-append, length-take-le, drop-at, Bool, true, false}
+use Rattle.numbers.{proofs.{Prelude.{_&&_, not, List, _++_, _≡_, refl, sym, ap, subst, _∙_, mul-comm, mul-suc, add-one, arith}, Tests.{both}}, specs.{Lists.{zeros}, Reply.{given}}}
 use Rattle.build.{proofs.Slices.{texts-few}, specs.Room.{enough, workOf}}
-use Rattle.builder.proofs.Counting.{lengths-room}
-use Rattle.builder.specs.{File.{areTexts, isText, upTo}, Yards.{cutBy, sumOf}, declared.borders.Border.{Border}}
-use Rattle.builder.specs.declared.borders.Border.the-variants as B
-use Rattle.builder.{proofs.drawing.Sections.{appended-fits}, specs.inner.Drawing.Section.{LentFor}}
-use Rattle.draft.proofs.held.Stood.{Own, Stood, own-parts, stood as stood-is}
-use Rattle.draft.specs.{Held.{Builder.{Offered}, Space.{ownEnough, longEnough, roomsOf, standing}, State.{Lists, listsAs}}, declared.held.{room.Rooms.{Rooms}, state.Held.{Held}}}
-use Rattle.numbers.specs.{Lists.{zeros}, Reply.{given}}
+use Rattle.builder.{proofs.{Counting.{lengths-room}, drawing.Sections.{appended-fits}}, specs.{File.{areTexts, isText, upTo}, Yards.{cutBy, sumOf}, declared.borders.Border.{Border}}}
+use Rattle.builder.specs.inner.Drawing.Section.{LentFor}
+use Rattle.draft.{proofs.held.Stood.{Own, Stood, own-parts, stood as stood-is}, specs.Held.{Builder.{Offered}, Space.{ownEnough, longEnough, standing}, State.{Lists}}}
+use Rattle.draft.specs.declared.held.{room.Rooms.{Rooms}, state.Held.{Held}}
 use Rattle.writer.specs.{Pieces.{piecesOf}, Writer.{every, borderOf}}
-use Rattle.add.specs.Growing.Notes.{NotesRoom}
+use Rattle.add.specs.{Adding.Adds.{Few, notesEnough, usedOut}, Growing.Notes.{NotesRoom}, Offered.Offers.{offeredAs, offerGood, dataWith, Offers}, declared.adding.room.NoteRooms.{NoteRooms}}
+use Rattle.add.specs.inner.{Joining.Joins.{Measuring}, Offered.Puts.{Placed}}
 use Rattle.add.proofs.joining.Joining.{Fine, fine}
-use Rattle.add.specs.inner.Joining.Joins.{Measuring}
-use Rattle.add.specs.{Offered.Offers.{offeredAs, offerGood, dataWith, Offers}, inner.Offered.Puts.{Placed, lengthsEnd}}
-use Rattle.add.specs.{Adding.Adds.{Few, notesEnough, usedOut}, declared.adding.room.NoteRooms.{NoteRooms}}
+use Rattle.builder.specs.declared.borders.Border.the-variants as B
 
 -- ---- lists that are long enough
 third : (a b d : Bool) → (a && (b && (false && d))) ≡ false
@@ -30,9 +22,8 @@ pub no-place : (r : Rooms) (names yards front strings sum : ℕ) (other : Bool) 
 unfolding longEnough ownEnough
 no-place r names yards front strings sum other h k =
     let low : leb (strings + sum) (r .texts) ≡ false = lt-leb (strings + sum) (r .texts) (omega (arith, h, k)) in
-    let none : ownEnough r names yards (strings + sum) ≡ false =
-    ap (λ (b : Bool). leb yards (r .borders) && (leb (names + 1 + names * yards) (r .lengths) && (b && leb (4 * yards) (r .boxes)))) low
-    ∙ third (leb yards (r .borders)) (leb (names + 1 + names * yards) (r .lengths)) (leb (4 * yards) (r .boxes)) in
+    let none : ownEnough r names yards (strings + sum) ≡ false = ap (λ (b : Bool). leb yards (r .borders) && (leb (names + 1 + names * yards) (r .lengths) &&
+    (b && leb (4 * yards) (r .boxes)))) low ∙ third (leb yards (r .borders)) (leb (names + 1 + names * yards) (r .lengths)) (leb (4 * yards) (r .boxes)) in
     sym (ap (λ (b : Bool). (b && enough (workOf (r .starts) (r .keys) (r .spare) (r .kept) (r .held) (r .words) (r .places) (r .boxes)) yards (names * yards) (strings + sum - front)) && other) none)
 
 pub no-space : (t s other : Bool) → t ≡ s → not t ≡ true → false ≡ (s && other)
@@ -68,11 +59,8 @@ module _ (r : NoteRooms) (names yards : ℕ) where
 
   pub notes-parts : notesEnough r names yards ≡ true → NotesRoom names yards (r .marks) (r .chains) (r .groups) (r .begins)
   unfolding notesEnough
-  notes-parts e =
-      let one = both (leb (yards * names + 1) (r .marks)) _ e in
-      let two = both (leb (4096 + yards * names) (r .chains)) _ (one .1) in
-      let three = both (leb (4096 + yards) (r .groups)) _ (two .1) in
-      record {
+  notes-parts e = let one = both (leb (yards * names + 1) (r .marks)) _ e in let two = both (leb (4096 + yards * names) (r .chains)) _ (one .1) in
+      let three = both (leb (4096 + yards) (r .groups)) _ (two .1) in record {
         marked = omega (arith, leb-true (yards * names + 1) (r .marks) (one .0));
         chained = leb-true (4096 + yards * names) (r .chains) (two .0);
         grouped = leb-true (4096 + yards) (r .groups) (three .0);
@@ -123,15 +111,17 @@ module _ (held : Held) (lats lons : List ℤ) (pieces sizes values : List ℕ) (
   data-fits : held .bytes + size ≤ upTo (min (held .room) (min (length bytes) out))
   data-fits =
       let fits : length (take (held .bytes) bytes ++ take size after) ≤ upTo (min (held .room) (min (length bytes) out)) =
-      appended-fits (upTo (min (held .room) (min (length bytes) out))) (take (held .bytes) bytes) false (length (piecesOf pieces)) (borderOf (held .version) lats lons (piecesOf pieces) (take (held .bytes) bytes)) (take (held .bytes) bytes ++ take size after) drawn in
+      appended-fits (upTo (min (held .room) (min (length bytes) out))) (take (held .bytes) bytes) false (length (piecesOf pieces))
+      (borderOf (held .version) lats lons (piecesOf pieces) (take (held .bytes) bytes)) (take (held .bytes) bytes ++ take size after) drawn in
       omega (arith, fits, length-append (take (held .bytes) bytes) (take size after), length-take-le (held .bytes) bytes (omega (arith, s .bytes-room, bytes-are)), length-take-le size after size-in)
 
-  module _ (lent : NoteRooms) (sum : ℕ) (sum-is : sum ≡ sumOf sizes) (t : Bool) (e : t ≡ (longEnough rooms (held .names) (held .yards + 1) (held .front) (held .strings + sum) && notesEnough lent (held .names) (held .yards + 1))) (n : not t ≡ false) where
+  module _ (lent : NoteRooms) (sum : ℕ) (sum-is : sum ≡ sumOf sizes) (t : Bool)
+      (e : t ≡ (longEnough rooms (held .names) (held .yards + 1) (held .front) (held .strings + sum) && notesEnough lent (held .names) (held .yards + 1))) (n : not t ≡ false) where
     all-long : (longEnough rooms (held .names) (held .yards + 1) (held .front) (held .strings + sum) ≡ true) × (notesEnough lent (held .names) (held .yards + 1) ≡ true)
     all-long = both (longEnough rooms (held .names) (held .yards + 1) (held .front) (held .strings + sum)) _ (sym e ∙ not-false t n)
 
-    parts : (ownEnough rooms (held .names) (held .yards + 1) (held .strings + sum) ≡ true)
-        × (enough (workOf (rooms .starts) (rooms .keys) (rooms .spare) (rooms .kept) (rooms .held) (rooms .words) (rooms .places) (rooms .boxes)) (held .yards + 1) (held .names * (held .yards + 1)) (held .strings + sum - held .front) ≡ true)
+    parts : (ownEnough rooms (held .names) (held .yards + 1) (held .strings + sum) ≡ true) × (enough (workOf (rooms .starts) (rooms .keys) (rooms .spare)
+        (rooms .kept) (rooms .held) (rooms .words) (rooms .places) (rooms .boxes)) (held .yards + 1) (held .names * (held .yards + 1)) (held .strings + sum - held .front) ≡ true)
     unfolding longEnough
     parts = both (ownEnough rooms (held .names) (held .yards + 1) (held .strings + sum)) _ (all-long .0)
 
@@ -150,8 +140,8 @@ module _ (held : Held) (lats lons : List ℤ) (pieces sizes values : List ℕ) (
     times : held .names * (held .yards + 1) ≡ held .names * held .yards + held .names
     times = ap (λ (k : ℕ). held .names * k) (add-one (held .yards)) ∙ mul-suc (held .names) (held .yards)
 
-    pub placed-here : (before : Lists) → before .bytes ≡ bytes → rooms .boxes ≡ length (before .boxes) → rooms .borders ≡ length (before .borders) → rooms .lengths ≡ length (before .lengths) → rooms .texts ≡ length (before .texts)
-        → Placed held (length sizes) (length (take sum values)) (length (take size after)) before
+    pub placed-here : (before : Lists) → before .bytes ≡ bytes → rooms .boxes ≡ length (before .boxes) → rooms .borders ≡ length (before .borders)
+        → rooms .lengths ≡ length (before .lengths) → rooms .texts ≡ length (before .texts) → Placed held (length sizes) (length (take sum values)) (length (take size after)) before
     placed-here before same boxes borders lengths texts =
         record {
           few-names = s .few-names;
@@ -166,8 +156,8 @@ module _ (held : Held) (lats lons : List ℤ) (pieces sizes values : List ℕ) (
           bytes-room = omega (arith, border-size, data-fits, ap length same);
         }
 
-    pub measuring-here : (strings : ℕ) → strings ≡ held .strings + sum
-        → Measuring held sizes strings (length (take size after)) (rooms .borders) (rooms .lengths) (rooms .texts) (workOf (rooms .starts) (rooms .keys) (rooms .spare) (rooms .kept) (rooms .held) (rooms .words) (rooms .places) (rooms .boxes))
+    pub measuring-here : (strings : ℕ) → strings ≡ held .strings + sum → Measuring held sizes strings (length (take size after)) (rooms .borders) (rooms .lengths)
+        (rooms .texts) (workOf (rooms .starts) (rooms .keys) (rooms .spare) (rooms .kept) (rooms .held) (rooms .words) (rooms .places) (rooms .boxes))
         (lent .marks) (lent .chains) (lent .groups) (lent .begins)
     measuring-here strings end =
         record {
@@ -182,7 +172,8 @@ module _ (held : Held) (lats lons : List ℤ) (pieces sizes values : List ℕ) (
           borders-room = lists .borders-room;
           lengths-room = lists .lengths-all;
           texts-room = omega (arith, end, lists .texts-room);
-          work-room = ap (λ (k : ℕ). enough (workOf (rooms .starts) (rooms .keys) (rooms .spare) (rooms .kept) (rooms .held) (rooms .words) (rooms .places) (rooms .boxes)) (held .yards + 1) (held .names * (held .yards + 1)) (k - held .front)) end ∙ parts .1;
+          work-room = ap (λ (k : ℕ). enough (workOf (rooms .starts) (rooms .keys) (rooms .spare) (rooms .kept) (rooms .held) (rooms .words) (rooms .places) (rooms .boxes)) (held .yards + 1)
+              (held .names * (held .yards + 1)) (k - held .front)) end ∙ parts .1;
           noted = notes-parts lent (held .names) (held .yards + 1) (all-long .1);
         }
 
@@ -204,5 +195,4 @@ module _ (points lent : ℕ) (out part : List ℕ) (l : LentFor (min points 6553
   front-in = omega (arith, part-size, length-append part (drop lent out))
 
   pub used : (after : List ℕ) → after ≡ zeros lent ++ drop lent (part ++ drop lent out) → after ≡ usedOut points out
-  used after e =
-      e ∙ (ap (λ (l : List ℕ). zeros lent ++ l) (drop-at part (drop lent out) lent part-size) ∙ ap (λ (n : ℕ). zeros n ++ drop n out) (l .is))
+  used after e = e ∙ (ap (λ (l : List ℕ). zeros lent ++ l) (drop-at part (drop lent out) lent part-size) ∙ ap (λ (n : ℕ). zeros n ++ drop n out) (l .is))

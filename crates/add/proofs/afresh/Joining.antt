@@ -1,17 +1,12 @@
 -- A builder with a yard more, by a fresh sum, and its notes. Assumes nothing.
-use Prim.Native.Nat.{ℕ, _+_}
-use denote.Enum.Declared.{tagOf, declared}
-use lib.{IntN.{ℤ}, ListN.{length}}
-use mathlib.Core.{List.{List}, Path.{_≡_, refl, ap, _∙_}}
-use native.Mathlib.Omega.{arith}
+use Rattle.numbers.proofs.Prelude.{ℕ, _+_, tagOf, declared, ℤ, length, List, _≡_, refl, ap, _∙_, arith}
 use Rattle.build.specs.declared.room.Work.{Work}
 use Rattle.builder.specs.{Borders.{Drawn}, Yards.{Yard}}
-use Rattle.add.specs.{inner.Growing.Joins.{Grew}, Growing.{Joins.{Renoted}, Notes.{Notes, NotedLists, NotesRoom}}}
+use Rattle.add.specs.{Growing.{Joins.{Renoted}, Notes.{Notes, NotedLists, NotesRoom}}, declared.afresh.measure.Measured.{Measured}}
+use Rattle.add.specs.inner.{Afresh.Afresh.{Lying, Measures, Measuring, Notable, Values, gathered}, Growing.Joins.{Grew}}
+use Rattle.draft.{proofs.summed.Reached.{reached}, specs.{Held.State.{Stands}, declared.held.state.{Changed.{Changed}, Held.{Held}}}}
 use Rattle.draft.proofs.held.state.Changed as K
-use Rattle.draft.specs.{Held.State.{Stands}, declared.held.state.{Held.{Held}, Changed.{Changed}}}
 use Rattle.draft.specs.declared.held.state.Changed.the-variants as C
-use Rattle.draft.proofs.summed.Reached.{reached}
-use Rattle.add.specs.{inner.Afresh.Afresh.{Lying, Measures, Measuring, Notable, Values, gathered}, declared.afresh.measure.Measured.{Measured}}
 
 -- ---- what can be measured can be noted
 pub measured-notable : (held : Held) (size borders lengths texts : ℕ) (work : Work) → Measuring held size borders lengths texts work → (places marks chains groups begins : ℕ) → places ≡ work .places
@@ -26,11 +21,10 @@ module _ (held : Held) (strings size : ℕ) (boxes : List ℤ) (borders lengths 
   pub grew-not : tagOf (declared K.enum) (m .changed) ≡ 1 → (noted : ℕ) (notes : Notes)
       → Lying held size boxes borders lengths texts (λ yards drawn. Grew yards drawn held strings noted notes notes (record { changed = m .changed; noted = noted }))
   unfolding Renoted
-  grew-not tag noted notes yards drawn bytes stands = record { changed = told yards drawn bytes stands .changed; notes = as-it-was (m .changed) tag }
-    where
-      as-it-was : (changed : Changed) → tagOf (declared K.enum) changed ≡ 1 → Renoted (held .names) yards noted notes noted notes changed
-      as-it-was (C.Into h) t = absurd (omega (arith, t))
-      as-it-was (C.Refused why) t = (refl, refl)
+  grew-not tag noted notes yards drawn bytes stands = record { changed = told yards drawn bytes stands .changed; notes = as-it-was (m .changed) tag } where
+    as-it-was : (changed : Changed) → tagOf (declared K.enum) changed ≡ 1 → Renoted (held .names) yards noted notes noted notes changed
+    as-it-was (C.Into h) t = absurd (omega (arith, t))
+    as-it-was (C.Refused why) t = (refl, refl)
 
   values-in : (yards : List Yard) (drawn : Drawn) → length (drawn .bytes) ≡ held .bytes + size → Stands yards drawn (held .names) (held .yards + 1) boxes borders lengths texts
       → Values yards (held .names) (held .yards + 1) lengths texts places
@@ -47,8 +41,7 @@ module _ (held : Held) (strings size : ℕ) (boxes : List ℤ) (borders lengths 
       → ((yards : List Yard) → Values yards (held .names) (held .yards + 1) lengths texts places → NotedLists (held .names) yards after)
       → Lying held size boxes borders lengths texts (λ yards drawn. Grew yards drawn held strings noted before after (record { changed = m .changed; noted = m .records + 1 }))
   unfolding Renoted
-  grew-into tag noted before after lists yards drawn bytes stands = record { changed = told yards drawn bytes stands .changed; notes = anew (m .changed) tag }
-    where
-      anew : (changed : Changed) → tagOf (declared K.enum) changed ≡ 0 → Renoted (held .names) yards noted before (m .records + 1) after changed
-      anew (C.Into h) t = record { number = omega (arith, told yards drawn bytes stands .records); lists = lists yards (values-in yards drawn bytes stands) }
-      anew (C.Refused why) t = absurd (omega (arith, t))
+  grew-into tag noted before after lists yards drawn bytes stands = record { changed = told yards drawn bytes stands .changed; notes = anew (m .changed) tag } where
+    anew : (changed : Changed) → tagOf (declared K.enum) changed ≡ 0 → Renoted (held .names) yards noted before (m .records + 1) after changed
+    anew (C.Into h) t = record { number = omega (arith, told yards drawn bytes stands .records); lists = lists yards (values-in yards drawn bytes stands) }
+    anew (C.Refused why) t = absurd (omega (arith, t))

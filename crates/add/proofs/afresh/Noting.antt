@@ -1,20 +1,11 @@
 -- What is noted afresh of some yards. Assumes nothing.
-use Prim.Native.Nat.{ℕ, _+_, _-_, _*_, _^_, _≤_, _<_}
-use borrow.Author.Tests.{eqb-true, eqb-false, not-false, not-true}
-use lib.{Dec.{eqb}, ListN.{length, take, drop, length-append, length-replicate}, Seq.{length-take-le, take-at}}
-use mathlib.Core.{Bool.{Bool, true, false, not}, List.{List, _++_, map}, Path.{_≡_, sym, ap, subst, _∙_}}
-use native.Mathlib.{Nat.{mul-comm}, Omega.{arith}}
-use Rattle.builder.{proofs.Counting.{lengths-room}, specs.Yards.{Yard, sumOf}}
-use Rattle.notes.specs.Chains.Entered.{Indexed}
-use Rattle.builder.specs.Grouping.Items.{startsFrom}
-use Rattle.add.specs.Growing.Notes.{Notes, notesAs, NotedLists, valuesIn}
-use Rattle.draft.{proofs.held.Fronts.{front-made}, specs.Held.State.{Front}}
-use Rattle.build.specs.Metadata.Kept.{joined}
-use Rattle.notes.specs.inner.Noted.Noting.{NotesAll}
-use Rattle.numbers.{proofs.Lists.{zeros-drop}, specs.Lists.{zeros}}
-use Rattle.draft.specs.inner.Summed.Sums.{beginsOf}
-use Rattle.build.proofs.recording.Fewer.{joined-sum}
-use Rattle.add.specs.inner.Afresh.Afresh.{Notable, Values, gathered}
+use Rattle.numbers.proofs.{Lists.{zeros-drop}, Prelude.{ℕ, _+_, _-_, _*_, _^_, _≤_, _<_, not-false, not-true, eqb-true, eqb-false, eqb, length, take, drop, length-append, length-replicate}}
+use Rattle.numbers.{proofs.Prelude.{length-take-le, take-at, Bool, true, false, not, List, _++_, map, _≡_, sym, ap, subst, _∙_, mul-comm, arith}, specs.Lists.{zeros}}
+use Rattle.builder.{proofs.Counting.{lengths-room}, specs.{Grouping.Items.{startsFrom}, Yards.{Yard, sumOf}}}
+use Rattle.notes.specs.{Chains.Entered.{Indexed}, inner.Noted.Noting.{NotesAll}}
+use Rattle.add.specs.{Growing.Notes.{Notes, notesAs, NotedLists, valuesIn}, inner.Afresh.Afresh.{Notable, Values, gathered}}
+use Rattle.draft.{proofs.held.Fronts.{front-made}, specs.{Held.State.{Front}, inner.Summed.Sums.{beginsOf}}}
+use Rattle.build.{proofs.recording.Fewer.{joined-sum}, specs.Metadata.Kept.{joined}}
 
 -- ---- the lists that are lent
 module _ (names count : ℕ) (lengths : List ℕ) (places marks chains groups begins : ℕ) (n : Notable names count (length lengths) places marks chains groups begins) where
@@ -42,7 +33,8 @@ module _ (yards : List Yard) (names count : ℕ) (lengths texts places : List �
   never-other b e n notes = absurd (eqb-false (sumOf lengths) (length texts) (sym e ∙ not-true b n) (sym whole))
 
 -- ---- the marks: where the values begin, over the front of zeros
-module _ (lengths zeroed lent : List ℕ) (marks : ℕ) (z : zeroed ≡ zeros marks) (m : lent ≡ startsFrom 0 lengths) (room : length lengths + 1 ≤ marks) (same : length lent ≡ length (take (length lengths + 1) zeroed)) where
+module _ (lengths zeroed lent : List ℕ) (marks : ℕ) (z : zeroed ≡ zeros marks) (m : lent ≡ startsFrom 0 lengths) (room : length lengths + 1 ≤ marks)
+    (same : length lent ≡ length (take (length lengths + 1) zeroed)) where
   zeroed-size : length zeroed ≡ marks
   zeroed-size = ap length z ∙ length-replicate marks 0
 

@@ -1,25 +1,17 @@
 -- A yard that lies in the lists, settled by a sure step or by a fresh sum. Assumes nothing.
-use Prim.Native.Nat.{ℕ, _+_, _-_, _*_, _^_, _≤_, _<_}
-use denote.Enum.Declared.{tagOf, declared}
-use lib.{IntN.{ℤ}, ListN.{length, take, drop, length-drop, length-take}}
-use mathlib.Core.{Bool.{true}, List.{List, [], _∷_, _++_, map}, Path.{_≡_, refl, sym, ap, subst, _∙_}}
-use native.Mathlib.{Nat.{mul-comm}, Omega.{arith}}
-use Rattle.add.specs.inner.Afresh.Afresh.{Lying}
-use Rattle.add.specs.inner.Afresh.Afresh as Afresh
-use Rattle.build.specs.{Room.{enough, workOf}, declared.room.Work.{Work}}
-use Rattle.builder.proofs.Counting.{lengths-room}
-use Rattle.builder.specs.{Borders.{Drawn}, Yards.{Yard, sumOf}}
-use Rattle.add.specs.{inner.Growing.Joins.{Growing, Grew, measuredAs}, Growing.{Joins.{Renoted}, Notes.{Notes, NotedBy, NotesRoom}}, declared.growing.grow.Added.{Added}}
-use Rattle.draft.specs.{Held.{State.{Idle, Lists}, Totals.{totalsFor}}, declared.held.state.{Held.{Held}, Changed.{Changed}}}
-use Rattle.draft.specs.declared.held.state.Changed.the-variants as C
+use Rattle.numbers.proofs.Prelude.{ℕ, _+_, _-_, _*_, _≤_, tagOf, declared, ℤ, length, drop, length-drop, length-take, List, [], _∷_, _++_, map, _≡_, refl, sym, ap, subst, _∙_, arith}
 use Rattle.numbers.specs.{Lists.{zeros}, declared.refusal.Refusal.{Refusal}}
-use Rattle.add.specs.inner.Offered.Puts.{Placed}
-use Rattle.draft.specs.inner.Summed.Sums.{Summing}
-use Rattle.add.specs.{inner.Surely.Sure.{Joinable, SurelyAs}, declared.surely.sure.Surely.{Surely}}
+use Rattle.add.specs.{Growing.{Joins.{Renoted}, Notes.{Notes, NotedBy, NotesRoom}}, Joining.Joins.{Rests, idle}, declared.{growing.grow.Added.{Added}, surely.sure.Surely.{Surely}}}
+use Rattle.add.specs.inner.{Afresh.Afresh.{Lying}, Growing.Joins.{Growing, Grew}, Joining.Joins.{Measuring, Settles, valuesEnd, valueLengths, valueTexts}, Offered.Puts.{Placed}}
+use Rattle.add.specs.inner.Surely.Sure.{Joinable, SurelyAs}
+use Rattle.build.specs.{Room.{enough, workOf}, declared.room.Work.{Work}}
+use Rattle.builder.{proofs.Counting.{lengths-room}, specs.{Borders.{Drawn}, Yards.{Yard, sumOf}}}
+use Rattle.draft.specs.{Held.State.{Idle, Lists}, declared.held.state.Held.{Held}}
+use Rattle.add.specs.inner.Afresh.Afresh
+use Rattle.draft.specs.declared.held.state.Changed.the-variants as C
 use Rattle.add.proofs.surely.sure.Surely as K
-use Rattle.add.specs.inner.Surely.Sure as Sure
+use Rattle.add.specs.inner.Surely.Sure
 use Rattle.add.specs.declared.surely.sure.Surely.the-variants as S
-use Rattle.add.specs.{inner.Joining.Joins.{Measuring, Settles, valuesEnd, valueLengths, valueTexts}, Joining.Joins.{Rests, idle}}
 
 -- ---- the third answer of a sure step
 pub unsure-tag : (s : Surely) → tagOf (declared K.enum) s ≡ 2 → s ≡ S.Unsure
@@ -32,8 +24,8 @@ notes-as names yards a b c d a′ b′ c′ d′ ea eb ec ed n =
     record { marked = omega (arith, n .marked, ea); chained = omega (arith, n .chained, eb); grouped = omega (arith, n .grouped, ec); begun = omega (arith, n .begun, ed) }
 
 -- ---- the lists to work in, from where they were lent
-pub idle-as : (a b c d e f g a₁ b₁ c₁ d₁ e₁ f₁ g₁ a₂ b₂ c₂ d₂ e₂ f₂ g₂ : List ℕ) → length a₁ ≡ length a → length b₁ ≡ length b → length c₁ ≡ length c → length d₁ ≡ length d → length e₁ ≡ length e → length f₁ ≡ length f → length g₁ ≡ length g
-    → Idle a₁ b₁ c₁ d₁ e₁ f₁ g₁ [] a₂ b₂ c₂ d₂ e₂ f₂ g₂ [] → Rests a b c d e f g a₂ b₂ c₂ d₂ e₂ f₂ g₂
+pub idle-as : (a b c d e f g a₁ b₁ c₁ d₁ e₁ f₁ g₁ a₂ b₂ c₂ d₂ e₂ f₂ g₂ : List ℕ) → length a₁ ≡ length a → length b₁ ≡ length b → length c₁ ≡ length c
+    → length d₁ ≡ length d → length e₁ ≡ length e → length f₁ ≡ length f → length g₁ ≡ length g → Idle a₁ b₁ c₁ d₁ e₁ f₁ g₁ [] a₂ b₂ c₂ d₂ e₂ f₂ g₂ [] → Rests a b c d e f g a₂ b₂ c₂ d₂ e₂ f₂ g₂
 idle-as a b c d e f g a₁ b₁ c₁ d₁ e₁ f₁ g₁ a₂ b₂ c₂ d₂ e₂ f₂ g₂ ea eb ec ed ee ef eg at-rest =
     idle
     (record {
@@ -88,12 +80,14 @@ module _ (held : Held) (sizes : List ℕ) (strings size borders : ℕ) (lengths 
   -- ---- what was settled
   module _ (noted : ℕ) (boxes : List ℤ) (border-places : List ℕ) (before middle : Notes) (s : Surely)
       (sure : Sure.Joins held noted strings size sizes boxes border-places (valueTexts held strings texts) before middle s) where
-    surely : (yards : List Yard) (y : Yard) (drawn drawn′ : Drawn) → Growing yards y drawn drawn′ held size boxes border-places (valueLengths held lengths) (valueTexts held strings texts) → sizes ≡ map length (y .values)
+    surely : (yards : List Yard) (y : Yard) (drawn drawn′ : Drawn) → Growing yards y drawn drawn′ held size boxes border-places (valueLengths held lengths) (valueTexts held strings texts) →
+        sizes ≡ map length (y .values)
         → held .strings + sumOf sizes ≡ strings → NotedBy (held .names) yards noted before → SurelyAs held strings (yards ++ (y ∷ [])) drawn′ before middle s
     surely yards y drawn drawn′ g sizes-are end right =
         sure yards y drawn drawn′ (valueLengths held lengths) g sizes-are (omega (arith, texts-many, end, m .order)) right
 
-    pub settled-into : (next : Held) (noted′ : ℕ) → s ≡ S.Into next noted′ → Settles held noted strings size sizes boxes border-places lengths texts before middle (record { changed = C.Into next; noted = noted′ })
+    pub settled-into : (next : Held) (noted′ : ℕ) → s ≡ S.Into next noted′ →
+        Settles held noted strings size sizes boxes border-places lengths texts before middle (record { changed = C.Into next; noted = noted′ })
     unfolding SurelyAs Renoted
     settled-into next noted′ is yards y drawn drawn′ g sizes-are end right =
         let two = subst (SurelyAs held strings (yards ++ (y ∷ [])) drawn′ before middle) is (surely yards y drawn drawn′ g sizes-are end right) in
@@ -105,9 +99,8 @@ module _ (held : Held) (sizes : List ℕ) (strings size borders : ℕ) (lengths 
         let two = subst (SurelyAs held strings (yards ++ (y ∷ [])) drawn′ before middle) is (surely yards y drawn drawn′ g sizes-are end right) in
         record { changed = two .0; notes = (refl, two .1) }
 
-    pub settled-afresh : s ≡ S.Unsure → (after : Notes) (r : Added)
-        → Lying held size boxes border-places (valueLengths held lengths) (valueTexts held strings texts) (λ yards drawn. Grew yards drawn held strings noted middle after r)
-        → Settles held noted strings size sizes boxes border-places lengths texts before after r
+    pub settled-afresh : s ≡ S.Unsure → (after : Notes) (r : Added) → Lying held size boxes border-places (valueLengths held lengths) (valueTexts held strings texts)
+        (λ yards drawn. Grew yards drawn held strings noted middle after r) → Settles held noted strings size sizes boxes border-places lengths texts before after r
     unfolding SurelyAs
     settled-afresh is after r lying yards y drawn drawn′ g sizes-are end right =
         let same : middle ≡ before = subst (SurelyAs held strings (yards ++ (y ∷ [])) drawn′ before middle) is (surely yards y drawn drawn′ g sizes-are end right) in
@@ -115,16 +108,17 @@ module _ (held : Held) (sizes : List ℕ) (strings size borders : ℕ) (lengths 
 
 -- ---- after the yard was put
 pub measuring-as : (held : Held) (sizes : List ℕ) (strings size a b c d a′ b′ c′ d′ starts keys spare kept bytes words places marks chains groups begins : ℕ) → a′ ≡ a → b′ ≡ b → c′ ≡ c → d′ ≡ d
-    → Measuring held sizes strings size a b c (workOf starts keys spare kept bytes words places d) marks chains groups begins → Measuring held sizes strings size a′ b′ c′ (workOf starts keys spare kept bytes words places d′) marks chains groups begins
+    → Measuring held sizes strings size a b c (workOf starts keys spare kept bytes words places d) marks chains groups begins →
+    Measuring held sizes strings size a′ b′ c′ (workOf starts keys spare kept bytes words places d′) marks chains groups begins
 measuring-as held sizes strings size a b c d a′ b′ c′ d′ starts keys spare kept bytes words places marks chains groups begins ea eb ec ed m =
     subst (λ (n : ℕ). Measuring held sizes strings size n b′ c′ (workOf starts keys spare kept bytes words places d′) marks chains groups begins) (sym ea)
     (subst (λ (n : ℕ). Measuring held sizes strings size a n c′ (workOf starts keys spare kept bytes words places d′) marks chains groups begins) (sym eb)
     (subst (λ (n : ℕ). Measuring held sizes strings size a b n (workOf starts keys spare kept bytes words places d′) marks chains groups begins) (sym ec)
     (subst (λ (n : ℕ). Measuring held sizes strings size a b c (workOf starts keys spare kept bytes words places n) marks chains groups begins) (sym ed) m)))
 
-pub placed-after : (held : Held) (sizes values border : ℕ) (before after : Lists) → Placed held sizes values border before
-    → length (after .boxes) ≡ length (before .boxes) → length (after .borders) ≡ length (before .borders) → length (after .lengths) ≡ length (before .lengths) → length (after .texts) ≡ length (before .texts) → length (after .bytes) ≡ length (before .bytes)
-    → Placed held 0 0 0 after
+pub placed-after : (held : Held) (sizes values border : ℕ) (before after : Lists) → Placed held sizes values border before → length (after .boxes) ≡ length (before .boxes)
+    → length (after .borders) ≡ length (before .borders) → length (after .lengths) ≡ length (before .lengths) → length (after .texts) ≡ length (before .texts)
+    → length (after .bytes) ≡ length (before .bytes) → Placed held 0 0 0 after
 placed-after held sizes values border before after p boxes borders lengths texts bytes =
     record {
       few-names = p .few-names;

@@ -1,12 +1,11 @@
 -- A yard behind what the lists hold, and the lists cleared behind it. Assumes nothing.
-use Prim.Native.Nat.{ℕ, _+_, _-_, _*_, _≤_, _<_}
-use lib.{IntN.{ℤ, pos}, ListN.{length, take, drop, replicate, length-drop, length-take, length-append}, Seq.{sets, sets-eq, drop-drop, take-all, drop-length}}
-use mathlib.Core.{List.{List, [], _∷_, _++_, append-nil, append-assoc}, Path.{_≡_, refl, sym, ap, subst, _∙_}}
-use native.Mathlib.Omega.{arith}
+use Rattle.numbers.proofs.Prelude.{ℕ, _+_, _-_, _≤_, ℤ, length, take, drop, replicate, length-drop, sets, drop-length, drop-drop, take-all, sets-eq, List, [], _∷_, _++_, append-assoc, append-nil}
+use Rattle.numbers.proofs.Prelude.{_≡_, sym, ap, _∙_, arith}
 use Rattle.builder.specs.{Entries.{boxOf}, declared.boxes.Bounds.{Bounds}}
 use Rattle.add.specs.inner.Offered.Puts.{cornersFor, endedAt}
 
-pub corners-put : (bounds : Bounds) (lats lons : List ℤ) → bounds ≡ boxOf lats lons → (boxes after : List ℤ) (at : ℕ) → after ≡ sets boxes at (bounds .south ∷ bounds .west ∷ bounds .north ∷ bounds .east ∷ []) → after ≡ sets boxes at (cornersFor lats lons)
+pub corners-put : (bounds : Bounds) (lats lons : List ℤ) → bounds ≡ boxOf lats lons → (boxes after : List ℤ) (at : ℕ) →
+    after ≡ sets boxes at (bounds .south ∷ bounds .west ∷ bounds .north ∷ bounds .east ∷ []) → after ≡ sets boxes at (cornersFor lats lons)
 corners-put bounds lats lons is boxes after at e = e ∙ ap (λ (b : Bounds). sets boxes at (b .south ∷ b .west ∷ b .north ∷ b .east ∷ [])) is
 
 module _ {A : Type 0} where
@@ -23,12 +22,10 @@ module _ {A : Type 0} where
   -- stored from the front of such a part
   pub put-back : (list part more : List A) (at : ℕ) → at + length more ≤ length list → part ≡ sets (take (length list - at) (drop at list)) 0 more
       → take at list ++ (part ++ drop (length list - at) (drop at list)) ≡ sets list at more
-  put-back list part more at h e =
-      let fits : 0 + length more ≤ length (drop at list) = omega (arith, length-drop at list) in
+  put-back list part more at h e = let fits : 0 + length more ≤ length (drop at list) = omega (arith, length-drop at list) in
       let here : part ≡ more ++ drop (0 + length more) (drop at list) = e ∙ (ap (λ (l : List A). sets l 0 more) (lent-all list at) ∙ sets-eq more (drop at list) 0 fits) in
       let far : at + (0 + length more) ≡ at + length more = omega arith in
-      back-all list part at
-      ∙ (ap (λ (l : List A). take at list ++ l) (here ∙ ap (λ (l : List A). more ++ l) (drop-drop (0 + length more) at list ∙ ap (λ (n : ℕ). drop n list) far))
+      back-all list part at ∙ (ap (λ (l : List A). take at list ++ l) (here ∙ ap (λ (l : List A). more ++ l) (drop-drop (0 + length more) at list ∙ ap (λ (n : ℕ). drop n list) far))
       ∙ sym (sets-eq more list at h ∙ append-assoc (take at list) more (drop (at + length more) list)))
 
   pub cleared-back : (none : A) (list part : List A) (at : ℕ) → part ≡ replicate (length (take (length list - at) (drop at list))) none

@@ -1,16 +1,11 @@
 -- What a step makes of a builder's numbers. Assumes nothing.
-use Prim.Native.Nat.{ℕ, _+_, _-_, _*_, _<_}
-use lib.{IntN.{ℤ}, ListN.{length, take}, Seq.{length-take-le}}
-use mathlib.Core.{List.{List}, Path.{_≡_, refl, sym, ap, subst, _∙_}}
-use native.Mathlib.Omega.{arith}
+use Rattle.numbers.{proofs.Prelude.{ℕ, _+_, _-_, _*_, _<_, ℤ, length, take, length-take-le, List, _≡_, refl, sym, ap, subst, _∙_, arith}, specs.declared.refusal.Refusal.{Refusal}}
 use Rattle.builder.specs.{Borders.{Drawn}, Yards.{Yard}}
-use Rattle.add.specs.inner.Growing.Joins.{measuredAs, totalsWith}
-use Rattle.draft.specs.declared.held.state.{Held.{Held}, Changed.{Changed}}
+use Rattle.add.specs.inner.{Growing.Joins.{measuredAs, totalsWith}, Surely.Sure.{Growths, SureRoom, Weighing, totalsBy}}
+use Rattle.draft.specs.declared.held.state.{Changed.{Changed}, Held.{Held}}
+use Rattle.notes.specs.{declared.quick.step.{Stepped.{Stepped}, Sureness.{Sureness}}, inner.Quick.Steps.{Room, Stepping, Steps}}
 use Rattle.draft.specs.declared.held.state.Changed.the-variants as C
-use Rattle.numbers.specs.declared.refusal.Refusal.{Refusal}
-use Rattle.notes.specs.{inner.Quick.Steps.{Room, Stepping, Steps}, declared.quick.step.{Stepped.{Stepped}, Sureness.{Sureness}}}
 use Rattle.notes.specs.declared.quick.step.Sureness.the-variants as Q
-use Rattle.add.specs.inner.Surely.Sure.{Growths, SureRoom, Weighing, totalsBy}
 use Rattle.add.specs.declared.surely.sure.Growth.the-variants as G
 
 -- ---- the marks that are lent
@@ -19,28 +14,26 @@ ends-in yards names marks h = length-take-le ((yards + 1) * names + 1) marks (om
 
 pub step-room : (held : Held) (boxes borders : ℕ) (marks : List ℕ) (chains groups begins : ℕ) → SureRoom held boxes borders (length marks) chains groups begins
     → Room (held .names) (held .yards) boxes borders (length (take ((held .yards + 1) * held .names + 1) marks)) chains groups begins
-step-room held boxes borders marks chains groups begins r =
-    let n = r .noted in
-    record {
-      few-names = r .few-names;
-      few-yards = r .few-yards;
-      boxed = r .boxed;
-      bordered = r .bordered;
-      started = ends-in (held .yards) (held .names) marks (n .marked);
-      chained = n .chained;
-      grouped = omega (arith, n .grouped);
-      begun = omega (arith, n .begun);
-    }
+step-room held boxes borders marks chains groups begins r = let n = r .noted in record {
+  few-names = r .few-names;
+  few-yards = r .few-yards;
+  boxed = r .boxed;
+  bordered = r .bordered;
+  started = ends-in (held .yards) (held .names) marks (n .marked);
+  chained = n .chained;
+  grouped = omega (arith, n .grouped);
+  begun = omega (arith, n .begun);
+}
 
 -- the greatest lower latitude is passed on as a signed number
 pub weighs : (held : Held) (noted : ℕ) (boxes : List ℤ) (borders texts marks chains groups begins : List ℕ) (r : Sureness) (greatest : ℤ) → greatest ≡ held .greatest
-    → ((yards : List Yard) (y : Yard) (drawn drawn′ : Drawn) (lengths : List ℕ)
-    → Stepping yards y drawn drawn′ (held .names) (held .yards) (record { records = noted - 1; metadata = held .metadata; table = held .table; greatest = greatest }) boxes borders lengths (take ((held .yards + 1) * held .names + 1) marks) texts chains groups begins
-    → Steps yards y drawn′ r)
-    → Weighing held noted boxes borders texts marks chains groups begins r
+    → ((yards : List Yard) (y : Yard) (drawn drawn′ : Drawn) (lengths : List ℕ) → Stepping yards y drawn drawn′ (held .names) (held .yards)
+    (record { records = noted - 1; metadata = held .metadata; table = held .table; greatest = greatest }) boxes borders lengths (take ((held .yards + 1) * held .names + 1) marks)
+    texts chains groups begins → Steps yards y drawn′ r) → Weighing held noted boxes borders texts marks chains groups begins r
 weighs held noted boxes borders texts marks chains groups begins r greatest e told = λ yards y drawn drawn′ lengths s.
     told yards y drawn drawn′ lengths
-    (subst (λ (z : ℤ). Stepping yards y drawn drawn′ (held .names) (held .yards) (record { records = noted - 1; metadata = held .metadata; table = held .table; greatest = z }) boxes borders lengths (take ((held .yards + 1) * held .names + 1) marks) texts chains groups begins) (sym e) s)
+    (subst (λ (z : ℤ). Stepping yards y drawn drawn′ (held .names) (held .yards) (record { records = noted - 1; metadata = held .metadata; table = held .table; greatest = z }) boxes borders
+    lengths (take ((held .yards + 1) * held .names + 1) marks) texts chains groups begins) (sym e) s)
 
 -- ---- the builder's numbers
 module _ (held : Held) (strings size : ℕ) (weighed : Sureness) (s : Stepped) (sure : weighed ≡ Q.Sure s) (greatest : ℤ) (same : greatest ≡ s .greatest) (records : ℕ) (r : Changed)

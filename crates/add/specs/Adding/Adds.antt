@@ -1,13 +1,9 @@
 -- What `add` promises.
-use Prim.Native.Nat.{ℕ, _+_, _*_, _≤_, _<_, min}
-use lib.{Dec.{leb}, ListN.{length, drop}}
-use mathlib.Core.{Bool.{Bool, false, _&&_}, List.{List, _++_}, Path.{_≡_}}
+use Rattle.numbers.specs.{Lists.{zeros}, Prelude.{ℕ, _+_, _*_, _≤_, _<_, min, leb, length, drop, Bool, false, _&&_, List, _++_, _≡_}, Reply.{plain}}
 use Rattle.builder.specs.Yards.{sumOf}
-use Rattle.add.specs.{Growing.{Joins.{Renoted}, Notes.{Notes, NotedBy}}, declared.growing.grow.Added.{Added}}
+use Rattle.add.specs.{Growing.{Joins.{Renoted}, Notes.{Notes, NotedBy}}, declared.{adding.room.NoteRooms.{NoteRooms}, growing.grow.Added.{Added}}}
 use Rattle.draft.specs.{Held.{Builder.{Builder, Offered, add, joined}, Space.{Space, longEnough, standing}, State.{Lists, Holds, Answers}}, declared.held.{room.Rooms.{Rooms}, state.Held.{Held}}}
 use Rattle.draft.specs.declared.held.state.Changed.the-variants as C
-use Rattle.numbers.specs.{Lists.{zeros}, Reply.{plain}}
-use Rattle.add.specs.declared.adding.room.NoteRooms.{NoteRooms}
 
 -- the lists of notes are long enough for so many names and yards: a word more than there are values; 4,096 and one a value; 4,096 and one a yard; one a yard
 unfoldable pub notesEnough : NoteRooms → ℕ → ℕ → Bool
@@ -20,7 +16,10 @@ noteRooms marks chains groups begins = record { marks = marks; chains = chains; 
 -- the room for an offered yard, with an output of this length
 abbrev pub spaceFor : Held → Rooms → NoteRooms → Offered → ℕ → Space
 spaceFor held rooms notes o out =
-    record { bytes = min (rooms .bytes) out; lists = longEnough rooms (held .names) (held .yards + 1) (held .front) (held .strings + sumOf (o .lengths)) && notesEnough notes (held .names) (held .yards + 1) }
+    record {
+      bytes = min (rooms .bytes) out;
+      lists = longEnough rooms (held .names) (held .yards + 1) (held .front) (held .strings + sumOf (o .lengths)) && notesEnough notes (held .names) (held .yards + 1);
+    }
 
 -- the definition's answer, and what is noted with it, for a builder that calls have made and notes that are right; 28 and no change for one whose numbers do not fit its lists
 pub record Adds (held : Held) (noted : ℕ) (o : Offered) (rooms : Rooms) (lent : NoteRooms) (out : ℕ) (before after : Lists) (notes notes′ : Notes) (r : Added) : Type 0 where

@@ -1,10 +1,9 @@
 -- A builder with a yard more.
-use Prim.Native.Nat.{ℕ}
-use mathlib.Core.{List.{List}, Path.{_≡_}}
+use Rattle.numbers.specs.Prelude.{ℕ, List, _≡_}
 use Rattle.builder.specs.Yards.{Yard}
 use Rattle.draft.specs.declared.held.state.Changed.{Changed}
-use Rattle.draft.specs.declared.held.state.Changed.the-variants as C
 use Rattle.add.specs.Growing.Notes.{Notes, Noted}
+use Rattle.draft.specs.declared.held.state.Changed.the-variants as C
 
 -- what a call that was answered leaves noted; after a refusal all is as it was
 unfoldable pub Renoted : ℕ → List Yard → ℕ → Notes → ℕ → Notes → Changed → Type 0

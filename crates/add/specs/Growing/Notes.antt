@@ -1,14 +1,9 @@
 -- What is noted beside a builder, so that an add need not sum afresh: a number, which is 0 where nothing is noted, and four lists.
-use Prim.Native.Nat.{ℕ, _+_, _*_, _≤_, _<_}
-use lib.ListN.{length}
-use mathlib.Core.{List.{List, _++_, map}, Path.{_≡_}}
-use Rattle.builder.specs.{Metadata.{fieldsOf, layoutOf}, Yards.{Text, Yard}}
-use Rattle.notes.specs.Chains.Entered.{Indexed}
-use Rattle.builder.specs.Grouping.Items.{startsFrom}
+use Rattle.numbers.specs.{Lists.{zeros}, Prelude.{ℕ, _+_, _*_, _≤_, _<_, length, List, _++_, map, _≡_}}
+use Rattle.builder.specs.{Grouping.Items.{startsFrom}, Metadata.{fieldsOf, layoutOf}, Yards.{Text, Yard}}
+use Rattle.notes.specs.{Chains.Entered.{Indexed}, Noted.Records.{fieldsIn, beginIn}}
 use Rattle.draft.specs.Held.State.{Front}
 use Rattle.build.specs.Metadata.Kept.{joined}
-use Rattle.notes.specs.Noted.Records.{fieldsIn, beginIn}
-use Rattle.numbers.specs.Lists.{zeros}
 
 pub record Notes : Type 0 where
   pub marks : List ℕ

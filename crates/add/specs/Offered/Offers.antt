@@ -1,12 +1,9 @@
 -- A yard that is offered, and what the functions that look at it say.
-use Prim.Native.Nat.{ℕ, _≤_, min}
-use lib.{Dec.{ltb, eqb}, IntN.{ℤ}, ListN.{length, take}}
-use mathlib.Core.{Bool.{false, _&&_}, List.{List, [], _++_}, Path.{_≡_}}
+use Rattle.numbers.specs.{Prelude.{ℕ, _≤_, min, eqb, ltb, ℤ, length, take, false, _&&_, List, [], _++_, _≡_}, Reply.{Reply, given, refused, plain, demand, _>>_}}
 use Rattle.writer.specs.{Pieces.{piecesOf}, Writer.{checks, borderOf}}
 use Rattle.builder.specs.{Borders.{appended}, File.{areTexts, upTo}, declared.borders.Border.{Border}}
-use Rattle.builder.specs.declared.borders.Border.the-variants as B
 use Rattle.draft.specs.{Held.Builder.{Offered}, declared.held.state.Held.{Held}}
-use Rattle.numbers.specs.Reply.{Reply, given, refused, plain, demand, _>>_}
+use Rattle.builder.specs.declared.borders.Border.the-variants as B
 
 abbrev pub offeredAs : List ℤ → List ℤ → List ℕ → List ℕ → List ℕ → Offered
 offeredAs lats lons pieces sizes values = record { lats = lats; lons = lons; pieces = pieces; lengths = sizes; texts = values }

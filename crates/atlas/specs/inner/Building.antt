@@ -1,12 +1,9 @@
 -- What the functions that build an atlas or hold words against one say of each other.
-use Prim.Native.Nat.{ℕ, zero, suc, _+_, _-_, _*_, _^_, _≤_}
-use lib.{Dec.{ltb, leb, eqb}, ListN.{length, set, getD}, Seq.{sets}}
-use mathlib.Core.{Bool.{Bool, _&&_}, List.{List, [], _∷_}, Path.{_≡_}}
+use Rattle.numbers.specs.{Answer.{if_then_else_}, Prelude.{ℕ, zero, suc, _+_, _*_, _^_, eqb, ltb, leb, length, getD, set, sets, Bool, _&&_, List, [], _∷_, _≡_}, Reply.{Reply, plain, demand, _>>_}}
 use Rattle.header.specs.declared.header.Head.{Head}
 use Rattle.index.specs.{Index.{recordsAt}, Tied.{wordAt}, inner.Own.{isWord, isAt, standsFrom, isEmptyFrom}}
 use Rattle.marks.specs.Marks.{low, groupsOf}
-use Rattle.numbers.specs.{Answer.{if_then_else_}, Reply.{Reply, plain, demand, _>>_}}
-use Rattle.atlas.specs.Atlas.{marksFor, entryOf, besideOf}
+use Rattle.atlas.specs.Atlas.{marksFor, besideOf}
 
 -- the marks of the border of record k in the words
 abbrev pub marksAtRecord : List ℕ → Head → List ℕ → ℕ → List ℕ

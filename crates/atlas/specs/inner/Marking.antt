@@ -1,11 +1,8 @@
 -- What the functions that work out the marks of a border say of each other.
-use Prim.Native.Nat.{ℕ}
-use mathlib.Core.List.{List, [], _∷_}
-use Rattle.numbers.specs.Answer.{Answer, found, failed}
-use Rattle.border.specs.Box.{Box}
-use Rattle.border.specs.declared.reader.{Reader.{Reader}, Encoding.{Encoding}}
+use Rattle.numbers.specs.{Answer.{Answer, found, failed}, Prelude.{ℕ, List, [], _∷_}}
+use Rattle.border.specs.{Box.{Box}, declared.reader.{Encoding.{Encoding}, Reader.{Reader}}}
 use Rattle.marks.specs.Marks.{wordOf, low, kindOf, nextOf, endOf, Span, spanned, counted, levelsFrom}
-use Rattle.atlas.specs.declared.{span.{Frame.{Frame}, Reach.{Reach}}, course.{Edges.{Edges}, Course.{Course}}}
+use Rattle.atlas.specs.declared.{course.{Course.{Course}, Edges.{Edges}}, span.{Frame.{Frame}, Reach.{Reach}}}
 use Rattle.atlas.specs.declared.course.Edges.the-variants as E
 
 -- ---- what the structs and the enum say

@@ -1,10 +1,8 @@
 -- A result that is held against the range of an i32: inside it reading goes on, outside it is refusal 13. Assumes nothing.
-use Prim.Native.Nat.{_^_}
-use lib.{Dec.{ltb}, IntN.{ℤ, pos, negℤ, _-ℤ_, +ℤ-idl}, Signed.{mag}}
-use mathlib.Core.{Bool.{Bool, true, false}, Path.{_≡_, sym, _∙_}}
-use mir.{Facts.{toZ-ofZ}, Syntax.{w32, w64}, Val.{SFits, toZ, ofZ}}
-use Rattle.numbers.specs.Answer.{Answer, refused, _>>=_, checked}
-use Rattle.numbers.proofs.write.Gaps.{widened}
+use Rattle.numbers.proofs.Prelude.{_^_, ltb, ℤ, pos, _-ℤ_, negℤ, mag, Bool, true, false, _≡_, sym, _∙_, w32, w64, SFits, ofZ, toZ}
+use Rattle.numbers.{proofs.write.Gaps.{widened}, specs.Answer.{Answer, refused, _>>=_, checked}}
+use lib.IntN.{+ℤ-idl}
+use mir.Facts.{toZ-ofZ}
 use Rattle.border.proofs.place.Whole.{negation-fits}
 
 module _ {A : Type 0} (z : ℤ) {t : Bool} (e : t ≡ ltb (mag z) (2 ^ 31)) (next : ℤ → Answer A) where

@@ -1,10 +1,6 @@
 -- Whole numbers of an i32 and an i64: ranges, tests and the way from one to the other. Assumes nothing.
-use Prim.Native.Nat.{ℕ, zero, suc, _+_, _-_, _<_, _≤_, _^_}
-use native.Mathlib.{Nat.{lt-of-le-of-lt}, Omega.{arith}}
-use mathlib.Core.{Path.{_≡_, refl}, Bool.{Bool, true, false, cond}}
-use lib.{Dec.{ltb, eqb}, IntN.{ℤ, pos, negsuc, negℤ, _+ℤ_, _-ℤ_}, Signed.{mag}}
-use mir.{Syntax.{w32, w64}, Val.{SFits, ofZ}}
-use borrow.Author.Tests.{ne-eqb}
+use Rattle.numbers.proofs.Prelude.{ℕ, zero, suc, _+_, _-_, _^_, _≤_, _<_, ne-eqb, eqb, ltb, ℤ, pos, negsuc, _+ℤ_, _-ℤ_, negℤ, mag, Bool, true, false, cond, _≡_, refl, w32, w64, SFits, ofZ}
+use Rattle.numbers.proofs.Prelude.{lt-of-le-of-lt, arith}
 use Rattle.border.specs.Place.{isZero}
 
 mag-cond : (t : Bool) (a b : ℕ) (m : ℕ) → a ≤ m → b ≤ m → mag (cond t (negsuc a) (pos b)) ≤ m
@@ -18,10 +14,7 @@ mag-sum (negsuc a) (pos b) = mag-cond (ltb b (suc a)) (suc a - suc b) (b - suc a
 mag-sum (negsuc a) (negsuc b) = omega arith
 
 pub sum-fits : {a b : ℤ} → SFits w32 a → SFits w32 b → SFits w64 (a +ℤ b)
-sum-fits {a} {b} h k =
-    record {
-      sfits = lt-of-le-of-lt (mag-sum a b) (let x : mag a < 2 ^ 31 = h .sfits in let y : mag b < 2 ^ 31 = k .sfits in omega arith);
-    }
+sum-fits {a} {b} h k = record { sfits = lt-of-le-of-lt (mag-sum a b) (let x : mag a < 2 ^ 31 = h .sfits in let y : mag b < 2 ^ 31 = k .sfits in omega arith) }
 
 mag-neg : (a : ℤ) → mag (negℤ a) ≤ mag a + 1
 mag-neg (pos zero) = omega arith
@@ -29,10 +22,7 @@ mag-neg (pos (suc n)) = omega arith
 mag-neg (negsuc n) = omega arith
 
 pub negation-fits : {a : ℤ} → SFits w32 a → SFits w64 (pos 0 -ℤ a)
-negation-fits {a} h =
-    record {
-      sfits = lt-of-le-of-lt (mag-sum (pos 0) (negℤ a)) (let x : mag a < 2 ^ 31 = h .sfits in omega (arith, mag-neg a));
-    }
+negation-fits {a} h = record { sfits = lt-of-le-of-lt (mag-sum (pos 0) (negℤ a)) (let x : mag a < 2 ^ 31 = h .sfits in omega (arith, mag-neg a)) }
 
 pub difference-fits : {a b : ℤ} → SFits w32 a → SFits w32 b → SFits w64 (a -ℤ b)
 difference-fits {a} {b} h k =

@@ -1,8 +1,6 @@
 -- Version 0: a turn goes on from the moves that are left, which the count gives first. Assumes nothing.
-use mathlib.Core.{Path.{_≡_, refl}, Bool.{Bool, true, false}}
-use lib.Dec.{eqb}
-use Rattle.numbers.specs.{Answer.{Answer, found, failed, refused, if_then_else_, _>>=_}, Varint.{Numeral}}
-use Rattle.border.specs.{Reader.{Turn, Reading, onward, plainPair, plainTurn}, inner.Told.{counted}, declared.reader.{Reader.{Reader}, Run.the-variants.{Idle}}}
+use Rattle.numbers.{proofs.Prelude.{eqb, Bool, true, false, _≡_, refl}, specs.{Answer.{Answer, found, failed, refused, if_then_else_, _>>=_}, Varint.{Numeral}}}
+use Rattle.border.specs.{Reader.{Turn, Reading, onward, plainPair, plainTurn}, declared.reader.{Reader.{Reader}, Run.the-variants.{Idle}}, inner.Told.{counted}}
 
 module _ (k : Numeral → Answer Turn) where
   chosen : (t : Bool) (n : Numeral) → ((if t then failed else found n) >>= k) ≡ (if t then failed else k n)
@@ -14,7 +12,8 @@ module _ (k : Numeral → Answer Turn) where
   read-on failed = refl
   read-on (refused n) = refl
 
-  started : (t : Bool) (n : Numeral) (m : Answer Numeral) → ((if t then found n else (m >>= λ c. if eqb (c .value) 0 then failed else found c)) >>= k) ≡ (if t then k n else (m >>= λ c. if eqb (c .value) 0 then failed else k c))
+  started : (t : Bool) (n : Numeral) (m : Answer Numeral) → ((if t then found n else (m >>= λ c. if eqb (c .value) 0 then failed else found c)) >>= k) ≡
+      (if t then k n else (m >>= λ c. if eqb (c .value) 0 then failed else k c))
   started true n m = refl
   started false n m = read-on m
 

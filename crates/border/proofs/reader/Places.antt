@@ -1,12 +1,7 @@
 -- Places of references: sums modulo 2 ^ 32, and the i64 that a start and a length must stay in. Assumes nothing.
-use Prim.Native.Nat.{ℕ, zero, suc, _+_, _-_, _<_, _≤_, _%_, _^_}
-use native.Mathlib.{Nat.{mod-eq-of-lt}, Omega.{arith}}
-use mathlib.Core.{Path.{_≡_, refl, sym, ap, _∙_}, Bool.{Bool, true, false, cond}}
-use lib.{Dec.{ltb}, IntN.{ℤ, pos, negsuc, _+ℤ_, _-ℤ_}, Signed.{mag, ltZ}}
-use borrow.Author.Tests.{ltb-true, ltb-false, lt-ltb, le-ltb}
-use Rattle.numbers.specs.{Answer.{found, refused, if_then_else_, checked}, Point.{low32}}
+use Rattle.numbers.proofs.Prelude.{ℕ, zero, suc, _+_, _-_, _%_, _^_, _≤_, _<_, lt-ltb, le-ltb, ltb-true, ltb-false, ltb, ℤ, pos, negsuc, _+ℤ_, _-ℤ_, mag, ltZ, Bool, true, false, cond, _≡_, refl, sym}
+use Rattle.numbers.{proofs.{Prelude.{ap, _∙_, mod-eq-of-lt, arith}, Signed.{mag-cond}, Tests.{differ}}, specs.{Answer.{found, refused, if_then_else_, checked}, Point.{low32}}}
 use Rattle.border.specs.{Reader.{dataPlace, asI64, opened}, declared.reader.Run.the-variants.{Idle, Forward, Backward}}
-use Rattle.numbers.proofs.Tests.{differ}
 
 -- ---- modulo 2 ^ 32
 
@@ -21,11 +16,10 @@ low-sum (negsuc a) (pos b) = low-sub b a (ltb b (suc a)) refl ∙ omega arith
 low-sum (negsuc a) (negsuc b) = omega arith
 
 low-start : (n : ℕ) → low32 (asI64 n) ≡ n % 2 ^ 32
-low-start n = go (ltb n (2 ^ 63))
-  where
-    go : (t : Bool) → low32 (if t then pos n else (pos n -ℤ pos (2 ^ 64))) ≡ n % 2 ^ 32
-    go true = refl
-    go false = low-sum (pos n) (negsuc (2 ^ 64 - 1)) ∙ omega arith
+low-start n = go (ltb n (2 ^ 63)) where
+  go : (t : Bool) → low32 (if t then pos n else (pos n -ℤ pos (2 ^ 64))) ≡ n % 2 ^ 32
+  go true = refl
+  go false = low-sum (pos n) (negsuc (2 ^ 64 - 1)) ∙ omega arith
 
 one-lower : (s d : ℕ) → (s + 4294967295 + d) % 2 ^ 32 ≡ ((s + d) % 2 ^ 32 + 4294967295) % 2 ^ 32
 one-lower s d = omega arith
@@ -57,29 +51,20 @@ lower {n} h = rw (lt-ltb n (2 ^ 63) h)
 upper : {n : ℕ} → 2 ^ 63 ≤ n → n < 2 ^ 64 → asI64 n ≡ negsuc (2 ^ 64 - suc n)
 upper {n} h k = rw (le-ltb n (2 ^ 63) h, lt-ltb n (2 ^ 64) k)
 
-mag-cond : (t : Bool) (a b m : ℕ) → a < m → b < m → mag (cond t (negsuc a) (pos b)) < m
-mag-cond true a b m h k = h
-mag-cond false a b m h k = k
-
 either : {A : Type 0} (n m : ℕ) → (n < m → A) → (m ≤ n → A) → A
-either {A} n m f g = go (ltb n m) refl
-  where
-    go : (t : Bool) → ltb n m ≡ t → A
-    go true e = f (ltb-true n m e)
-    go false e = g (ltb-false n m e)
+either {A} n m f g = go (ltb n m) refl where
+  go : (t : Bool) → ltb n m ≡ t → A
+  go true e = f (ltb-true n m e)
+  go false e = g (ltb-false n m e)
 
 module _ (base start : ℕ) (fits : start < 2 ^ 64) where
   inside : (size : ℕ) → size < 2 ^ 32 → (start < 2 ^ 63 → start + size < 2 ^ 63) → mag (asI64 start +ℤ pos size) < 2 ^ 63
   inside size s h =
-      either start (2 ^ 63)
-      (λ l. rw (lower l) (h l))
-      (λ u. rw (upper u fits) (mag-cond (ltb size (suc (2 ^ 64 - suc start))) _ _ (2 ^ 63) (omega arith) (omega arith)))
+      either start (2 ^ 63) (λ l. rw (lower l) (h l)) (λ u. rw (upper u fits) (mag-cond (ltb size (suc (2 ^ 64 - suc start))) _ _ (2 ^ 63) (omega arith) (omega arith)))
 
   inside-back : (more : ℕ) → more < 2 ^ 32 → (2 ^ 63 ≤ start → more < start - 2 ^ 63) → mag (asI64 start +ℤ negsuc more) < 2 ^ 63
   inside-back more s h =
-      either start (2 ^ 63)
-      (λ l. rw (lower l) (mag-cond (ltb start (suc more)) _ _ (2 ^ 63) (omega arith) (omega arith)))
-      (λ u. let x = h u in rw (upper u fits) (omega arith))
+      either start (2 ^ 63) (λ l. rw (lower l) (mag-cond (ltb start (suc more)) _ _ (2 ^ 63) (omega arith) (omega arith))) (λ u. let x = h u in rw (upper u fits) (omega arith))
 
   -- ---- a reference
 
@@ -87,8 +72,7 @@ module _ (base start : ℕ) (fits : start < 2 ^ 64) where
       → found (Forward (dataPlace base (pos start)) (dataPlace base (pos (start % 2 ^ 32 + size)))) ≡ opened base (asI64 start) (pos size)
   unfolding opened checked
   forward-opened zero s n h = absurd (n refl)
-  forward-opened (suc k) s n h =
-      rw (lt-ltb _ _ (inside (suc k) s h), ← forward-next base start, ← forward-end base start (suc k))
+  forward-opened (suc k) s n h = rw (lt-ltb _ _ (inside (suc k) s h), ← forward-next base start, ← forward-end base start (suc k))
 
   pub forward-over : (size : ℕ) → start < 2 ^ 63 → 2 ^ 63 ≤ start + size → refused 13 ≡ opened base (asI64 start) (pos size)
   unfolding opened checked
@@ -98,8 +82,7 @@ module _ (base start : ℕ) (fits : start < 2 ^ 64) where
   pub backward-opened : (more : ℕ) → more < 2 ^ 32 → (2 ^ 63 ≤ start → more < start - 2 ^ 63)
       → found (Backward (dataPlace base (pos (start % 2 ^ 32 + 4294967295))) (dataPlace base (pos (start % 2 ^ 32 + 4294967295 + (4294967295 - more))))) ≡ opened base (asI64 start) (negsuc more)
   unfolding opened checked
-  backward-opened more s h =
-      rw (lt-ltb _ _ (inside-back more s h), ← backward-next base start, ← backward-end base start more s)
+  backward-opened more s h = rw (lt-ltb _ _ (inside-back more s h), ← backward-next base start, ← backward-end base start more s)
 
   pub backward-over : (more : ℕ) → 2 ^ 63 ≤ start → start - 2 ^ 63 ≤ more → refused 13 ≡ opened base (asI64 start) (negsuc more)
   unfolding opened checked
@@ -114,22 +97,19 @@ none-opened base start = refl
 
 module _ (z : ℤ) where
   pub below : ltZ z (pos 0) ≡ true → negsuc (mag z) ≡ z
-  below = go z
-    where
-      go : (z : ℤ) → ltZ z (pos 0) ≡ true → negsuc (mag z) ≡ z
-      go (pos n) e = let z = ltb-true n 0 e in absurd (omega arith)
-      go (negsuc n) e = refl
+  below = go z where
+    go : (z : ℤ) → ltZ z (pos 0) ≡ true → negsuc (mag z) ≡ z
+    go (pos n) e = let z = ltb-true n 0 e in absurd (omega arith)
+    go (negsuc n) e = refl
 
   pub turned : ltZ z (pos 0) ≡ true → negsuc 0 -ℤ z ≡ pos (mag z)
-  turned = go z
-    where
-      go : (z : ℤ) → ltZ z (pos 0) ≡ true → negsuc 0 -ℤ z ≡ pos (mag z)
-      go (pos n) e = let z = ltb-true n 0 e in absurd (omega arith)
-      go (negsuc n) e = rw (le-ltb (suc n) 1 (omega arith)) (ap pos (omega arith))
+  turned = go z where
+    go : (z : ℤ) → ltZ z (pos 0) ≡ true → negsuc 0 -ℤ z ≡ pos (mag z)
+    go (pos n) e = let z = ltb-true n 0 e in absurd (omega arith)
+    go (negsuc n) e = rw (le-ltb (suc n) 1 (omega arith)) (ap pos (omega arith))
 
   pub above : ltZ z (pos 0) ≡ false → pos (mag z) ≡ z
-  above = go z
-    where
-      go : (z : ℤ) → ltZ z (pos 0) ≡ false → pos (mag z) ≡ z
-      go (pos n) e = refl
-      go (negsuc n) e = differ (sym e)
+  above = go z where
+    go : (z : ℤ) → ltZ z (pos 0) ≡ false → pos (mag z) ≡ z
+    go (pos n) e = refl
+    go (negsuc n) e = differ (sym e)

@@ -1,10 +1,6 @@
 -- A turn that a `let .. else` leaves does not go round again. Assumes nothing.
-use mathlib.Core.{Path.{_≡_, refl}, List.{[], _∷_}}
-use types.Run.{OneOf, miss}
-use denote.Enum.Declared.{tagOf}
-use Rattle.numbers.specs.Answer.{Answer, _>>=_}
-use Rattle.border.specs.{inner.Told.{toldTurn, settledBy}, Trace.{Given, roundAgain}}
-use Rattle.border.specs.declared.reader.{Reader.{Reader}, Turn.{Turn, the-variants.{Gives, Again, Ended, Failed, Refused}}}
+use Rattle.numbers.{proofs.Prelude.{tagOf, [], _∷_, _≡_, refl, OneOf, miss}, specs.Answer.{Answer, _>>=_}}
+use Rattle.border.specs.{Trace.{Given, roundAgain}, declared.reader.{Reader.{Reader}, Turn.{Turn, the-variants.{Gives, Again, Ended, Failed, Refused}}}, inner.Told.{toldTurn, settledBy}}
 use Rattle.border.proofs.reader.Turn.{the-type}
 
 pub last-round : (t : Turn) (rest : Reader → Answer Given) → OneOf (0 ∷ 2 ∷ 3 ∷ 4 ∷ []) (tagOf the-type t) → settledBy t ≡ (toldTurn t >>= roundAgain rest)

@@ -1,12 +1,9 @@
 -- Each kind of turn, once its numbers are read: what the code goes by, and whoever writes a border. Assumes nothing.
-use mathlib.Core.{Path.{_≡_}, Bool.{Bool, true, false}, List.{List}}
-use Prim.Native.Nat.{ℕ, _-_}
-use borrow.Author.Tests.{eq-eqb, ne-eqb}
-use Rattle.numbers.specs.{Answer.{found, failed, refused}, Varint.{numeral, readingOf, backwardAt}, Point.{signedOf, pointOf}, declared.point.RawPoint.{RawPoint}}
-use Rattle.border.specs.Place.{moveBy, movedBy, negated}
-use Rattle.border.specs.Reader.{Reading, gives, again, ends, onward, arrived, closing, advanced, shownBy, plainMove, plainPair, plainTurn, asI64, opened, reference, marker, lent, forwardFrom, backwardFrom, packedTurn, turnOf}
-use Rattle.border.specs.declared.place.Point.{Point}
-use Rattle.border.specs.declared.reader.{Reader.{Reader}, Run.{Run, the-variants.{Idle, Forward, Backward}}, Version.{Version, the-variants.{Plain, Packed}}}
+use Rattle.numbers.proofs.Prelude.{ℕ, _-_, eq-eqb, ne-eqb, Bool, true, false, List, _≡_}
+use Rattle.numbers.specs.{Answer.{found, failed, refused}, Point.{signedOf, pointOf}, Varint.{numeral, readingOf, backwardAt}, declared.point.RawPoint.{RawPoint}}
+use Rattle.border.specs.{Place.{moveBy, movedBy, negated}, Reader.{Reading, gives, again, ends, onward, arrived, closing, advanced, shownBy, plainMove, plainPair, plainTurn, asI64, opened}}
+use Rattle.border.specs.{Reader.{reference, marker, lent, forwardFrom, backwardFrom, packedTurn, turnOf}, declared.{place.Point.{Point}, reader.{Reader.{Reader}, Run.{Run}}}}
+use Rattle.border.specs.declared.reader.{Run.the-variants.{Idle, Forward, Backward}, Version.{Version, the-variants.{Plain, Packed}}}
 
 -- ---- version 1, outside a reference
 
@@ -69,7 +66,8 @@ module _ (reading : Reading) (f : List ℕ) (base : ℕ) (s : Reader) (next end 
     unfolding packedTurn lent
     backward-over h o = rw (← read, ne-eqb value 0 h, ← o)
 
-    pub backward-move : {back : RawPoint} → (value ≡ 0 → ⊥) → found back ≡ negated (pointOf value) → packedTurn (Backward next end) reading f base s ≡ advanced (onward s (s .place) (s .moves) (backwardFrom later end)) back
+    pub backward-move : {back : RawPoint} → (value ≡ 0 → ⊥) → found back ≡ negated (pointOf value) → packedTurn (Backward next end) reading f base s ≡ advanced
+        (onward s (s .place) (s .moves) (backwardFrom later end)) back
     unfolding packedTurn lent
     backward-move h o = rw (← read, ne-eqb value 0 h, ← o)
 

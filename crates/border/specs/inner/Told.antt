@@ -1,10 +1,8 @@
 -- What the cases of the reader's answers say, and what the thin form answers and leaves.
-use lib.Dec.{eqb}
-use Rattle.numbers.specs.{Answer.{Answer, found, failed, refused, if_then_else_, _>>=_}, Varint.{Numeral}, declared.{point.RawPoint.{RawPoint}, varint.Varint.{Varint}}}
+use Rattle.numbers.specs.{Answer.{Answer, found, failed, refused, if_then_else_, _>>=_}, Prelude.{eqb}, Varint.{Numeral}, declared.{point.RawPoint.{RawPoint}, varint.Varint.{Varint}}}
+use Rattle.border.specs.{Reader.{Turn, gives, again, ends, Reading}, Trace.{Given, reaches, ended, roundAgain}, declared.place.{Away.{Away, the-variants.{By}}, Moved.{Moved}}}
+use Rattle.border.specs.declared.{place.{Moved.the-variants.{To}, Point.{Point}}, reader.{Next.{Next}, Opened.{Opened}, Reader.{Reader}, Run.{Run}, Stepped.{Stepped}}}
 use Rattle.numbers.specs.Varint as varint
-use Rattle.border.specs.{Reader.{Turn, gives, again, ends, Reading}, Trace.{Given, reaches, ended, roundAgain}}
-use Rattle.border.specs.declared.place.{Point.{Point}, Moved.{Moved, the-variants.{To}}, Away.{Away, the-variants.{By}}}
-use Rattle.border.specs.declared.reader.{Reader.{Reader}, Run.{Run}, Opened.{Opened}, Next.{Next}, Stepped.{Stepped}}
 use Rattle.border.specs.declared.place.Moved.the-variants as M
 use Rattle.border.specs.declared.place.Away.the-variants as W
 use Rattle.border.specs.declared.reader.Opened.the-variants as O

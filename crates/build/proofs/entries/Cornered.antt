@@ -1,10 +1,6 @@
 -- The boxes of the yards, one after another. Assumes nothing.
-use Prim.Native.Nat.{ℕ, zero, suc, _+_, _-_, _*_, _≤_, _<_}
-use lib.{IntN.{ℤ, pos}, ListN.{length, take, drop, getD, set, length-drop, length-set}, Seq.{sets, length-sets}}
-use mathlib.Core.{List.{List, [], _∷_}, Path.{_≡_, refl, sym, ap, subst, _∙_}}
-use native.Mathlib.Omega.{arith}
-use Rattle.builder.proofs.Checking.{four-words, next-is, begins-inside, part-is}
-use Rattle.builder.specs.{Entries.{boxOf}, Yards.{Text, Yard, partOf, partEnd, nextPart, yardsFrom}, declared.boxes.Bounds.{Bounds}}
+use Rattle.numbers.proofs.Prelude.{ℕ, suc, _+_, _-_, _*_, _≤_, _<_, ℤ, length, take, drop, getD, set, length-drop, length-set, sets, length-sets, List, [], _∷_, _≡_, refl, sym, ap, _∙_, arith}
+use Rattle.builder.{proofs.Checking.{four-words, next-is, begins-inside, part-is}, specs.{Entries.{boxOf}, Yards.{Text, partOf, partEnd, nextPart, yardsFrom}, declared.boxes.Bounds.{Bounds}}}
 use Rattle.build.specs.Entries.Corners.{cornersOf}
 
 -- boxes look at neither pieces nor texts
@@ -28,11 +24,8 @@ none-left [] ys xs h = refl
 
 -- four numbers, one after another
 pub four-set : (l : List ℤ) (at : ℕ) (a b c d a′ b′ c′ d′ : ℤ) → a ≡ a′ → b ≡ b′ → c ≡ c′ → d ≡ d′ → set (set (set (set l at a) (at + 1) b) (at + 2) c) (at + 3) d ≡ sets l at (a′ ∷ b′ ∷ c′ ∷ d′ ∷ [])
-four-set l at a b c d a′ b′ c′ d′ ea eb ec ed =
-    let one : at + 1 ≡ suc at = omega arith in
-    let two : at + 2 ≡ suc (suc at) = omega arith in
-    let three : at + 3 ≡ suc (suc (suc at)) = omega arith in
-    rw (ea, eb, ec, ed, one, two, three) refl
+four-set l at a b c d a′ b′ c′ d′ ea eb ec ed = let one : at + 1 ≡ suc at = omega arith in let two : at + 2 ≡ suc (suc at) = omega arith in
+    let three : at + 3 ≡ suc (suc (suc at)) = omega arith in rw (ea, eb, ec, ed, one, two, three) refl
 
 pub one-inside : (l : List ℤ) (at : ℕ) (a : ℤ) → at + 4 ≤ length l → at + 1 < length (set l at a)
 one-inside l at a h = omega (arith, h, length-set l at a)
@@ -50,7 +43,8 @@ four-size l at a b c d =
 -- the box of a part
 pub part-box : (lats : List ℤ) (lat tall : ℕ) (lons : List ℤ) (lon wide e f : ℕ) → e ≡ partEnd (length lats) lat tall → f ≡ partEnd (length lons) lon wide
     → (r : Bounds) → r ≡ boxOf (take (e - lat) (drop lat lats)) (take (f - lon) (drop lon lons)) → r ≡ boxOf (partOf tall (drop lat lats)) (partOf wide (drop lon lons))
-part-box lats lat tall lons lon wide e f is it r b = b ∙ (ap (λ (l : List ℤ). boxOf l (take (f - lon) (drop lon lons))) (part-is lats lat tall e is) ∙ ap (boxOf (partOf tall (drop lat lats))) (part-is lons lon wide f it))
+part-box lats lat tall lons lon wide e f is it r b =
+    b ∙ (ap (λ (l : List ℤ). boxOf l (take (f - lon) (drop lon lons))) (part-is lats lat tall e is) ∙ ap (boxOf (partOf tall (drop lat lats))) (part-is lons lon wide f it))
 
 abbrev cornersFrom : List ℕ → List ℤ → List ℤ → List ℤ
 cornersFrom ns ys xs = cornersOf (yardsFrom ns ys xs [] [])
@@ -74,15 +68,16 @@ module _ (yards : List ℕ) (lats lons before boxes : List ℤ) (lat lon i : ℕ
     abbrev here : Bounds
     here = boxOf (partOf (getD yards i 0) (drop lat lats)) (partOf (getD yards (i + 1) 0) (drop lon lons))
 
-    step : cornersFrom (drop i yards) (drop lat lats) (drop lon lons) ≡ here .south ∷ here .west ∷ here .north ∷ here .east ∷ cornersFrom (drop (i + 4) yards) (drop (getD yards i 0) (drop lat lats)) (drop (getD yards (i + 1) 0) (drop lon lons))
+    step : cornersFrom (drop i yards) (drop lat lats) (drop lon lons) ≡ here .south ∷ here .west ∷ here .north ∷ here .east ∷ cornersFrom (drop (i + 4) yards)
+        (drop (getD yards i 0) (drop lat lats)) (drop (getD yards (i + 1) 0) (drop lon lons))
     unfolding yardsFrom cornersOf
     step =
-        ap (λ (ns : List ℕ). cornersFrom ns (drop lat lats) (drop lon lons)) (four-words yards i more)
-        ∙ ap (λ (l : List ℤ). here .south ∷ here .west ∷ here .north ∷ here .east ∷ l) (corners-alone (drop (i + 4) yards) (drop (getD yards i 0) (drop lat lats)) (drop (getD yards (i + 1) 0) (drop lon lons)) (drop (5 * getD yards (i + 2) 0) []) [] (drop (getD yards (i + 3) 0) []) [])
+        ap (λ (ns : List ℕ). cornersFrom ns (drop lat lats) (drop lon lons)) (four-words yards i more) ∙ ap (λ (l : List ℤ). here .south ∷ here .west
+        ∷ here .north ∷ here .east ∷ l) (corners-alone (drop (i + 4) yards) (drop (getD yards i 0) (drop lat lats)) (drop (getD yards (i + 1) 0) (drop lon lons))
+        (drop (5 * getD yards (i + 2) 0) []) [] (drop (getD yards (i + 3) 0) []) [])
 
     pub box-goes : (bounds : Bounds) → bounds ≡ here → (boxes′ : List ℤ) → boxes′ ≡ sets boxes i (bounds .south ∷ bounds .west ∷ bounds .north ∷ bounds .east ∷ [])
-        → (lat′ lon′ : ℕ) → lat′ ≡ nextPart (length lats) lat (getD yards i 0) → lon′ ≡ nextPart (length lons) lon (getD yards (i + 1) 0)
-        → Boxing yards lats lons before boxes′ lat′ lon′ (i + 4)
+        → (lat′ lon′ : ℕ) → lat′ ≡ nextPart (length lats) lat (getD yards i 0) → lon′ ≡ nextPart (length lons) lon (getD yards (i + 1) 0) → Boxing yards lats lons before boxes′ lat′ lon′ (i + 4)
     box-goes bounds eb boxes′ es lat′ lon′ el eo =
         let ys : drop lat′ lats ≡ drop (getD yards i 0) (drop lat lats) = next-is lats lat (getD yards i 0) lat′ el in
         let xs : drop lon′ lons ≡ drop (getD yards (i + 1) 0) (drop lon lons) = next-is lons lon (getD yards (i + 1) 0) lon′ eo in
@@ -103,6 +98,5 @@ module _ (yards : List ℕ) (lats lons before boxes : List ℤ) (lat lon i : ℕ
         }
 
   pub box-ends : length yards - i < 4 → boxes ≡ sets before 0 (cornersFrom yards lats lons)
-  box-ends few =
-      let short : length (drop i yards) < 4 = omega (arith, length-drop i yards, few) in
+  box-ends few = let short : length (drop i yards) < 4 = omega (arith, length-drop i yards, few) in
       sym (ap (sets boxes i) (none-left (drop i yards) (drop lat lats) (drop lon lons) short)) ∙ c .same

@@ -1,19 +1,15 @@
 -- A latitude counted from the south, and a yard's word. Assumes nothing.
-use Prim.Native.Nat.{ℕ, suc, _+_, _-_, _*_, _%_, _^_, _≤_, _<_}
-use borrow.Author.Tests.{le-ltb}
-use lib.{Dec.{T, ltb}, IntN.{ℤ, pos, negsuc, natAbs, _+ℤ_}, ListN.{getD}, Signed.{nonNeg}}
-use mathlib.Core.{Bool.{Bool, true, false, cond}, List.{List}, Path.{_≡_, refl, sym, ap, subst, _∙_}}
-use mir.{Facts.{toZ-ofZ}, Syntax.{w32, w64}, Val.{SFits, toZ, ofZ}}
-use native.Mathlib.Omega.{arith}
-use Rattle.numbers.proofs.write.Gaps.{widened}
-use Rattle.builder.specs.Entries.{fromSouth, boundsAt, wordOfYard}
+use Rattle.numbers.proofs.Prelude.{ℕ, suc, _+_, _-_, _*_, _%_, _^_, _<_, le-ltb, T, ℤ, pos, negsuc, _+ℤ_, natAbs, getD, Bool, cond, List, _≡_, refl, sym, ap, subst, _∙_, w32, w64, SFits, ofZ, toZ}
+use Rattle.numbers.proofs.{Prelude.{arith}, write.Gaps.{widened}}
+use lib.Signed.{nonNeg}
+use mir.Facts.{toZ-ofZ}
+use Rattle.builder.specs.Entries.{fromSouth, wordOfYard}
 
 -- the sum of the code
 south-sum : (z : ℤ) → SFits w32 z → z +ℤ pos 2147483648 ≡ pos (fromSouth z)
 unfolding fromSouth
 south-sum (pos n) h = refl
-south-sum (negsuc n) h =
-    let m : n < 2 ^ 31 = h .sfits in
+south-sum (negsuc n) h = let m : n < 2 ^ 31 = h .sfits in
     ap (λ (t : Bool). cond t (negsuc (suc n - suc 2147483648)) (pos (2147483648 - suc n))) (le-ltb 2147483648 (suc n) (omega (arith, m)))
 
 south-small : (z : ℤ) → SFits w32 z → fromSouth z < 2 ^ 32
@@ -49,9 +45,7 @@ module _ (z : ℤ) (h : SFits w32 z) where
 -- a yard's word
 pub yard-word : (boxes : List ℤ) (yard r : ℕ) → yard < 2 ^ 32 → r ≡ fromSouth (getD boxes (4 * yard) (pos 0)) → r * 4294967296 + yard ≡ wordOfYard boxes yard
 unfolding wordOfYard
-yard-word boxes yard r h e =
-    let m : yard % 2 ^ 32 ≡ yard = omega (arith, h) in
-    rw (e, m) refl
+yard-word boxes yard r h e = let m : yard % 2 ^ 32 ≡ yard = omega (arith, h) in rw (e, m) refl
 
 pub word-fits : (z : ℤ) → SFits w32 z → (r : ℕ) → r ≡ fromSouth z → r < 2 ^ 32
 word-fits z h r e = subst (λ (n : ℕ). n < 2 ^ 32) (sym e) (south-small z h)

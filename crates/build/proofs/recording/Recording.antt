@@ -1,20 +1,14 @@
 -- From the values of all yards to the layout of the metadata section. Assumes nothing.
-use Prim.Native.Nat.{ℕ, _+_, _*_, _^_, _≤_, _<_}
-use denote.Enum.Declared.{tagOf, declared}
-use lib.{ListN.{length, take, drop, getD, length-map}, Seq.{take-append-seam, length-front}}
-use mathlib.Core.{List.{List, _++_, map}, Path.{_≡_, sym, ap, subst, _∙_}}
-use native.Mathlib.Omega.{arith}
+use Rattle.numbers.proofs.Prelude.{ℕ, _+_, _*_, _^_, _≤_, _<_, tagOf, declared, length, take, drop, getD, length-map, take-append-seam, List, _++_, map, _≡_, sym, ap, subst, _∙_, arith}
+use lib.Seq.{length-front}
 use Rattle.writer.proofs.Stores.{stored-front, stored-length}
-use Rattle.builder.{proofs.Counting.{cut-many}, specs.{Metadata.{layoutOf}, Yards.{Text, cutBy, sumOf}}}
-use Rattle.builder.specs.inner.Drawing.Section.{spread}
-use Rattle.builder.{proofs.grouping.Meant.{starts-inside}, specs.Grouping.{Items.{startsFrom, Inside}, Keys.{numbersFrom, keysOf, firstOf}}}
-use Rattle.layout.specs.{inner.{Answers.{LaidOut}, Layout.{Least}}, declared.records.Laid.{the-variants.{Records, TooLong}, Laid}}
-use Rattle.layout.proofs.records.Laid as K
-use Rattle.build.proofs.metadata.{Begun.{cut-join}, Itemed.{cut-lengths}}
-use Rattle.build.specs.{Metadata.Kept.{fieldsTo, joined, Keeps, beginOf, Ready}, inner.Metadata.Words.{Marked, Wording}}
-use Rattle.build.proofs.recording.{Fewer.{fields-few, fields-short, layout-few, joined-sum}, Laying.{layout-found, layout-there}}
+use Rattle.builder.{proofs.{Counting.{cut-many}, grouping.Meant.{starts-inside}}, specs.{Grouping.{Items.{startsFrom, Inside}, Keys.{numbersFrom, keysOf, firstOf}}, Metadata.{layoutOf}}}
+use Rattle.builder.specs.{Yards.{Text, cutBy, sumOf}, inner.Drawing.Section.{spread}}
+use Rattle.layout.specs.{declared.records.Laid.{Laid, the-variants.{Records, TooLong}}, inner.{Answers.{LaidOut}, Layout.{Least}}}
+use Rattle.build.proofs.{metadata.{Begun.{cut-join}, Itemed.{cut-lengths}}, recording.{Fewer.{fields-few, fields-short, layout-few, joined-sum}, Laying.{layout-found, layout-there}}}
 use Rattle.build.proofs.recording.Spreading.{spread-size, spread-again, spread-read, numbered-many}
-use Rattle.build.specs.inner.Recording.Recorded.{Short, Shares, Fields, Fielded, Laying, Recorded}
+use Rattle.build.specs.{Metadata.Kept.{fieldsTo, joined, Keeps, beginOf, Ready}, inner.{Metadata.Words.{Marked, Wording}, Recording.Recorded.{Short, Shares, Fields, Fielded, Laying, Recorded}}}
+use Rattle.layout.proofs.records.Laid as K
 
 -- ---- a list of which the front was lent
 pub front-same : (d e : List ℕ) (n whole : ℕ) → length e ≡ length (take n d) → length d ≡ whole → length (e ++ drop n d) ≡ whole
@@ -39,7 +33,8 @@ least-there inline words s (Records n) l t records = absurd (omega (arith, t))
 least-there inline words s TooLong l t records = absurd (omega (arith, l (s .records) (s .is .fits), s .small))
 
 -- ---- the records that yards share
-pub share-inside : (names count : ℕ) (lengths texts : List ℕ) (starts spare places : ℕ) → Shares names count lengths texts starts spare places → (begins : List ℕ) → begins ≡ startsFrom 0 lengths → Inside begins texts (count * names)
+pub share-inside : (names count : ℕ) (lengths texts : List ℕ) (starts spare places : ℕ) → Shares names count lengths texts starts spare places → (begins : List ℕ) →
+    begins ≡ startsFrom 0 lengths → Inside begins texts (count * names)
 share-inside names count lengths texts starts spare places s begins e =
     subst (λ (b : List ℕ). Inside b texts (count * names)) (sym e) (subst (λ (n : ℕ). Inside (startsFrom 0 lengths) texts n) (s .all) (starts-inside lengths texts (omega (arith, s .whole))))
 
@@ -50,7 +45,8 @@ order-own starts texts width count order many is = is ∙ ap (keysOf starts text
 pub share-all : (names count : ℕ) (lengths texts : List ℕ) (starts spare places : ℕ) → Shares names count lengths texts starts spare places → (n : ℕ) → n ≡ count → length lengths ≡ n * names
 share-all names count lengths texts starts spare places s n e = s .all ∙ ap (λ (k : ℕ). k * names) (sym e)
 
-pub keeps-as : (names n m : ℕ) (lengths texts before places kept kept′ held held′ : List ℕ) (sizes bytes : ℕ) → n ≡ m → Keeps names n lengths texts before places kept kept′ held held′ sizes bytes → Keeps names m lengths texts before places kept kept′ held held′ sizes bytes
+pub keeps-as : (names n m : ℕ) (lengths texts before places kept kept′ held held′ : List ℕ) (sizes bytes : ℕ) → n ≡ m →
+    Keeps names n lengths texts before places kept kept′ held held′ sizes bytes → Keeps names m lengths texts before places kept kept′ held held′ sizes bytes
 keeps-as names n m lengths texts before places kept kept′ held held′ sizes bytes e k = subst (λ (c : ℕ). Keeps names c lengths texts before places kept kept′ held held′ sizes bytes) e k
 
 -- ---- the words of the records' fields
@@ -59,8 +55,7 @@ module _ (lengths texts : List ℕ) (starts keys spare words : ℕ) (f : Fields 
   fields = cutBy lengths texts
 
   pub fields-inside : (begins : List ℕ) → begins ≡ startsFrom 0 lengths → Inside begins texts (keys * 1)
-  fields-inside begins e =
-      let n : length lengths ≡ keys * 1 = omega (arith, f .keys-room) in
+  fields-inside begins e = let n : length lengths ≡ keys * 1 = omega (arith, f .keys-room) in
       subst (λ (b : List ℕ). Inside b texts (keys * 1)) (sym e) (subst (λ (n : ℕ). Inside (startsFrom 0 lengths) texts n) n (starts-inside lengths texts (f .whole)))
 
   pub fields-marked : (begins order : List ℕ) → begins ≡ startsFrom 0 lengths → length order ≡ keys → order ≡ keysOf begins texts 1 keys → Marked lengths texts begins order
@@ -109,7 +104,8 @@ module _ (names count : ℕ) (lengths texts : List ℕ) (starts keys spare kept 
   bytes-most : length (joined all-fields) ≤ sumOf lengths
   bytes-most = fields-short names count lengths texts (l .all) (omega (arith, l .whole))
 
-  module _ (before middle kept₀ kept′ held₀ held′ : List ℕ) (sizes bytes : ℕ) (ek : length kept₀ ≡ kept) (eh : length held₀ ≡ held) (k : Keeps names count lengths texts before middle kept₀ kept′ held₀ held′ sizes bytes) where
+  module _ (before middle kept₀ kept′ held₀ held′ : List ℕ) (sizes bytes : ℕ) (ek : length kept₀ ≡ kept) (eh : length held₀ ≡ held)
+      (k : Keeps names count lengths texts before middle kept₀ kept′ held₀ held′ sizes bytes) where
     sizes-are : sizes ≡ length all-fields
     sizes-are = omega (arith, k .lengths-are .place-after, length-map all-fields length)
 
@@ -129,8 +125,7 @@ module _ (names count : ℕ) (lengths texts : List ℕ) (starts keys spare kept 
     held-size = stored-length (k .texts-are) ∙ eh
 
     pub kept-front : take sizes kept′ ≡ map length all-fields
-    kept-front =
-        let many : sizes ≡ length (map length all-fields) = omega (arith, k .lengths-are .place-after) in
+    kept-front = let many : sizes ≡ length (map length all-fields) = omega (arith, k .lengths-are .place-after) in
         ap (take sizes) (stored-front kept₀ (map length all-fields) kept′ sizes (k .lengths-are) (omega (arith, many, sizes-few, l .kept-room, ek)))
         ∙ (ap (λ (n : ℕ). take n (map length all-fields ++ drop (length (map length all-fields)) kept₀)) many ∙ take-append-seam (map length all-fields) (drop (length (map length all-fields)) kept₀))
 
@@ -148,8 +143,7 @@ module _ (names count : ℕ) (lengths texts : List ℕ) (starts keys spare kept 
     pub laying-fields : (begins order room : ℕ) → begins ≡ sizes + 1 → order ≡ sizes → room ≡ spare → Fields (take sizes kept′) (take bytes held′) begins order room words
     laying-fields begins order room eb eo es =
         let sum : sumOf (take sizes kept′) ≡ length (joined all-fields) = ap sumOf kept-front ∙ sym (joined-sum all-fields) in
-        let long : length (take bytes held′) ≡ length (joined all-fields) = ap length held-front in
-        record {
+        let long : length (take bytes held′) ≡ length (joined all-fields) = ap length held-front in record {
           whole = omega (arith, sum, long);
           bound = omega (arith, sum, bytes-most, kept-long, sizes-few, l .bound);
           starts-room = omega (arith, kept-long, eb);
@@ -173,11 +167,13 @@ module _ (names count : ℕ) (lengths texts : List ℕ) (starts keys spare kept 
             room = omega (arith, fields-most, l .words-room, ew);
             words-are = laid .words-are;
             layout = laid .records-are;
-            first = λ yard h. ap (λ (x : List ℕ). getD x (2 * yard) 0) (k .first) ∙ spread-read (firstOf (startsFrom 0 lengths) texts names count) count before yard h (omega (arith, l .places-room, eb));
+            first = λ yard h. ap (λ (x : List ℕ). getD x (2 * yard) 0) (k .first) ∙
+                spread-read (firstOf (startsFrom 0 lengths) texts names count) count before yard h (omega (arith, l .places-room, eb));
             places-room = omega (arith, l .places-room, eb, ap length (k .first), spread-size 0 (map (firstOf (startsFrom 0 lengths) texts names count) (numbersFrom 0 count)) before);
           }
 
-      pub laying-ends : (after : List ℕ) → after ≡ spread 0 (map (beginOf names lengths texts count) (numbersFrom 0 count)) middle → Recorded names count lengths texts before kept′ held′ words′ after records remote sizes bytes
+      pub laying-ends : (after : List ℕ) → after ≡ spread 0 (map (beginOf names lengths texts count) (numbersFrom 0 count)) middle →
+          Recorded names count lengths texts before kept′ held′ words′ after records remote sizes bytes
       laying-ends after e =
           record {
             kept-in = omega (arith, sizes-few, l .kept-room, kept-size);
@@ -188,5 +184,7 @@ module _ (names count : ℕ) (lengths texts : List ℕ) (starts keys spare kept 
             words-are = ap (λ (n : ℕ). take n words′) sizes-are ∙ laid .words-are;
             records-are = laid .records-are;
             remote-is = laid .remote-is;
-            placed = e ∙ (ap (spread 0 (map (beginOf names lengths texts count) (numbersFrom 0 count))) (k .first) ∙ spread-again 0 (map (beginOf names lengths texts count) (numbersFrom 0 count)) (map (firstOf (startsFrom 0 lengths) texts names count) (numbersFrom 0 count)) before (numbered-many (beginOf names lengths texts count) count ∙ sym (numbered-many (firstOf (startsFrom 0 lengths) texts names count) count)));
+            placed = e ∙ (ap (spread 0 (map (beginOf names lengths texts count) (numbersFrom 0 count))) (k .first) ∙
+                spread-again 0 (map (beginOf names lengths texts count) (numbersFrom 0 count)) (map (firstOf (startsFrom 0 lengths) texts names count) (numbersFrom 0 count)) before
+                (numbered-many (beginOf names lengths texts count) count ∙ sym (numbered-many (firstOf (startsFrom 0 lengths) texts names count) count)));
           }

@@ -1,10 +1,7 @@
 -- Numbers at every second place, written twice. Assumes nothing.
-use Prim.Native.Nat.{ℕ, zero, suc, _+_, _*_, _≤_, _<_}
-use lib.{ListN.{length, set, getD, length-set, length-map}, Seq.{set-set, set-comm}}
-use mathlib.Core.{List.{List, [], _∷_, map}, Path.{_≡_, refl, ap, _∙_}}
-use native.Mathlib.Omega.{arith}
-use Rattle.builder.specs.inner.Drawing.Section.{spread}
-use Rattle.builder.{proofs.grouping.Listed.{numbers-many}, specs.Grouping.Keys.{numbersFrom}}
+use Rattle.numbers.proofs.Prelude.{ℕ, zero, suc, _+_, _*_, _≤_, _<_, length, getD, set, length-map, length-set, List, [], _∷_, map, _≡_, refl, ap, _∙_, arith}
+use lib.Seq.{set-set, set-comm}
+use Rattle.builder.{proofs.grouping.Listed.{numbers-many}, specs.{Grouping.Keys.{numbersFrom}, inner.Drawing.Section.{spread}}}
 use Rattle.build.proofs.metadata.Begun.{spread-at}
 
 pub spread-size : (i : ℕ) (ns list : List ℕ) → length (spread i ns list) ≡ length list
@@ -16,8 +13,7 @@ set-before : (i j : ℕ) (ns list : List ℕ) (n : ℕ) → j < i → set (sprea
 unfolding spread
 set-before i j [] list n h = refl
 set-before i j (m ∷ ns) list n h =
-    set-before (i + 2) j ns (set list i m) n (omega arith)
-    ∙ ap (spread (i + 2) ns) (set-comm list i j m n (λ e. omega (arith, e)))
+    set-before (i + 2) j ns (set list i m) n (omega arith) ∙ ap (spread (i + 2) ns) (set-comm list i j m n (λ e. omega (arith, e)))
 
 -- the second time alone counts
 pub spread-again : (i : ℕ) (ns ms list : List ℕ) → length ns ≡ length ms → spread i ns (spread i ms list) ≡ spread i ns list
@@ -39,8 +35,6 @@ pub numbered-many : (f : ℕ → ℕ) (count : ℕ) → length (map f (numbersFr
 numbered-many f count = length-map (numbersFrom 0 count) f ∙ numbers-many 0 count
 
 pub spread-read : (f : ℕ → ℕ) (count : ℕ) (list : List ℕ) (i : ℕ) → i < count → 2 * count ≤ length list → getD (spread 0 (map f (numbersFrom 0 count)) list) (2 * i) 0 ≡ f i
-spread-read f count list i h room =
-    let a : 2 * i ≡ 0 + 2 * i = omega arith in
-    let b : 0 + i ≡ i = omega arith in
+spread-read f count list i h room = let a : 2 * i ≡ 0 + 2 * i = omega arith in let b : 0 + i ≡ i = omega arith in
     ap (λ (n : ℕ). getD (spread 0 (map f (numbersFrom 0 count)) list) n 0) a
     ∙ (spread-at 0 (map f (numbersFrom 0 count)) list i (omega (arith, numbered-many f count, h)) (omega (arith, h, room)) ∙ (numbered-at f 0 count i h ∙ ap f b))

@@ -1,11 +1,7 @@
 -- The boxes of the yards, as they are kept: four numbers each; and the yards in the order of the table.
-use Prim.Native.Nat.{ℕ, _*_, _≤_}
-use lib.{IntN.{ℤ}, ListN.{length}, Seq.{sets}}
-use mathlib.Core.{List.{List, [], _∷_, map}, Path.{_≡_}}
-use Rattle.builder.specs.{Entries.{boxOf, wordOfYard}, Yards.{Yard}}
-use Rattle.builder.specs.Grouping.Keys.{numbersFrom}
+use Rattle.numbers.specs.{Lists.{zeros}, Prelude.{ℕ, _*_, _≤_, ℤ, length, sets, List, [], _∷_, map, _≡_}}
+use Rattle.builder.specs.{Entries.{boxOf, wordOfYard}, Grouping.Keys.{numbersFrom}, Yards.{Yard}}
 use Rattle.layout.specs.Order.{keyOf, sortedBy}
-use Rattle.numbers.specs.Lists.{zeros}
 
 unfoldable pub cornersOf : List Yard → List ℤ
 cornersOf [] = []

@@ -1,11 +1,8 @@
 -- What the functions that lay out the metadata section say.
-use Prim.Native.Nat.{ℕ, _+_, _*_, _^_, _≤_, _<_}
-use lib.ListN.{length, take, getD}
-use mathlib.Core.{List.{List, [], _∷_, _++_, map, flatMap}, Path.{_≡_}}
+use Rattle.numbers.specs.Prelude.{ℕ, _+_, _*_, _^_, _≤_, _<_, length, take, getD, List, map, flatMap, _≡_}
 use Rattle.writer.specs.inner.Stored.{Stored}
-use Rattle.builder.specs.{Metadata.{fieldsOf, layoutOf, startOf}, Sharing.{sameTexts, firsts}, Yards.{Text, sumOf}}
+use Rattle.builder.specs.{Grouping.{Items.{startsFrom, itemAt}, Keys.{numbersFrom, firstOf}}, Metadata.{fieldsOf, layoutOf, startOf}, Sharing.{sameTexts, firsts}, Yards.{Text, sumOf}}
 use Rattle.builder.specs.inner.Drawing.Section.{spread}
-use Rattle.builder.specs.Grouping.{Items.{startsFrom, itemAt}, Keys.{numbersFrom, firstOf}}
 use Rattle.build.specs.inner.Metadata.Words.{wordIn}
 
 -- the values of the first so many yards, of so many names, from their lengths and texts

@@ -1,7 +1,5 @@
 -- What is written of a file, from the lists that stand while it is built.
-use Prim.Native.Nat.{ℕ, _+_, _*_, _^_, _≤_, _<_}
-use lib.ListN.{length, take}
-use mathlib.Core.{List.{List, _++_, map, flatMap}, Path.{_≡_}}
+use Rattle.numbers.specs.Prelude.{ℕ, _+_, _*_, _^_, _≤_, _<_, length, take, List, _++_, map, flatMap, _≡_}
 use Rattle.builder.specs.{Metadata.{inlined, remotes, joinedFrom, fieldBytes}, Yards.{cutBy, sumOf}}
 use Rattle.build.specs.inner.Metadata.Words.{wordIn}
 

@@ -1,14 +1,9 @@
 -- What the functions that build a file say of each other.
-use Prim.Native.Nat.{ℕ, _+_, _*_, _/_, min}
-use lib.{Dec.{leb}, IntN.{ℤ}, ListN.{length, take}}
-use mathlib.Core.{Bool.{Bool, true, _&&_}, List.{List}, Path.{_≡_}}
-use Rattle.builder.specs.{Borders.{Drawn, drawnOf}, File.{areTexts, builtOf, fileOf, fitted, upTo}, Yards.{Lent, planOf, countsGood}}
-use Rattle.builder.specs.declared.borders.Border.{Border}
+use Rattle.numbers.specs.{Lists.{zeros}, Prelude.{ℕ, _+_, _*_, _/_, min, leb, ℤ, length, take, Bool, true, _&&_, List, _≡_}, Reply.{Reply, given, refused, plain, demand, _>>_}}
+use Rattle.builder.specs.{Borders.{Drawn, drawnOf}, File.{areTexts, builtOf, fileOf, fitted, upTo}, Yards.{Lent, planOf, countsGood}, declared.borders.Border.{Border}, inner.Drawing.Section.{spread}}
+use Rattle.build.specs.{Checked.{checked, lentAs}, Room.{needOf, enoughFor}, declared.{asked.Asked.{Asked}, file.Built.{Built}, room.{Need.{Need}, Work.{Work}}}}
 use Rattle.builder.specs.declared.borders.Border.the-variants as B
-use Rattle.builder.specs.inner.Drawing.Section.{spread}
-use Rattle.builder.specs.inner.Drawing.Section as Section
-use Rattle.numbers.specs.{Lists.{zeros}, Reply.{Reply, given, refused, plain, demand, _>>_}}
-use Rattle.build.specs.{Checked.{checked, lentAs}, Room.{needOf, enoughFor}, declared.{asked.Asked.{Asked}, file.Built.{Built}, room.{Work.{Work}, Need.{Need}}}}
+use Rattle.builder.specs.inner.Drawing.Section
 use Rattle.build.specs.declared.file.Built.the-variants as W
 
 -- what was lent, with what is asked for

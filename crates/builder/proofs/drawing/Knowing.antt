@@ -1,10 +1,5 @@
 -- 27, test by test. Assumes nothing.
-use Prim.Native.Nat.{ℕ, _≤_, _<_}
-use borrow.Author.Tests.{le-leb, lt-leb, le-ltb, lt-ltb}
-use lib.Dec.{ltb, leb}
-use mathlib.Core.{Bool.{Bool, true, false, _&&_}, Path.{_≡_, refl}}
-use native.Mathlib.Omega.{arith}
-use Rattle.header.specs.Header.{isKind}
+use Rattle.numbers.proofs.Prelude.{ℕ, _≤_, _<_, lt-ltb, le-leb, le-ltb, lt-leb, ltb, leb, Bool, false, _&&_, _≡_, refl}
 
 module _ (precision version : ℕ) (kind : Bool) where
   abbrev good : Bool

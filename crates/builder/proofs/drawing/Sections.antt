@@ -1,18 +1,12 @@
 -- The data section, yard by yard. Assumes nothing.
-use Prim.Native.Nat.{ℕ, zero, suc, _+_, _-_, _*_, _/_, _^_, _≤_, _<_}
-use borrow.Author.Tests.{leb-true}
-use lib.{Dec.{ltb, leb}, IntN.{ℤ}, ListN.{length, take, drop, getD, set, length-append, length-drop, length-set}}
-use lib.Seq.{sets, sets-eq, take-at, append-snoc, length-take-le, length-sets}
-use mathlib.Core.{Bool.{Bool, true, false, not}, List.{List, [], _∷_, _++_, append-nil, append-assoc}, Path.{_≡_, refl, sym, ap, subst, _∙_}}
-use native.Mathlib.Omega.{arith}
-use Rattle.writer.specs.{Pieces.{piecesOf}, inner.Stored.{Stored}, Writer.{borderOf}}
-use Rattle.builder.proofs.Checking.{four-words, next-is, begins-inside}
-use Rattle.builder.specs.{Borders.{Drawn, appended, withBorder, drawnFrom, drawnOf, Draws}, Yards.{Text, Yard, partOf, nextPart, yardsFrom}}
-use Rattle.builder.specs.declared.borders.Border.{Border}
+use Rattle.numbers.proofs.Prelude.{ℕ, suc, _+_, _-_, _*_, _/_, _^_, _≤_, _<_, leb-true, ltb, leb, ℤ, length, take, drop, getD, set, length-append, length-drop, length-set, length-take-le, take-at}
+use Rattle.numbers.proofs.Prelude.{length-sets, sets-eq, Bool, not, List, [], _∷_, _++_, append-assoc, append-nil, _≡_, refl, sym, ap, subst, _∙_, arith}
+use Rattle.numbers.specs.{Reply.{Reply, given, refused, refusal, plain, demand, _>>=_, _>>_}, declared.refusal.Refusal.{Refusal}}
+use Rattle.writer.specs.{Pieces.{piecesOf}, Writer.{borderOf}, inner.Stored.{Stored}}
+use Rattle.builder.proofs.{Checking.{four-words, next-is, begins-inside}, drawing.Lending.{never-given, past, demanded, given-same}}
+use Rattle.builder.specs.{Borders.{Drawn, appended, withBorder, drawnFrom, drawnOf, Draws}, Yards.{Text, partOf, nextPart, yardsFrom}, declared.borders.Border.{Border}}
+use Rattle.builder.specs.inner.Drawing.Section.{yardAppended, spread, DrawsAll}
 use Rattle.builder.specs.declared.borders.Border.the-variants as B
-use Rattle.numbers.specs.{Answer.{if_then_else_}, Reply.{Reply, given, refused, refusal, plain, demand, _>>=_, _>>_}, declared.refusal.Refusal.{Refusal}}
-use Rattle.builder.proofs.drawing.Lending.{never-given, past, demanded, given-same}
-use Rattle.builder.specs.inner.Drawing.Section.{yardAppended, spread, Whole, DrawsAll}
 
 -- ---- an answer, with the places so far before its own
 abbrev carried : List ℕ → Reply Drawn → Reply Drawn
@@ -35,8 +29,7 @@ carried-more done n (refused why) = refl
 pub spread-more : (i : ℕ) (done : List ℕ) (n : ℕ) (list : List ℕ) → spread i (done ++ (n ∷ [])) list ≡ set (spread i done list) (i + 2 * length done) n
 unfolding spread
 spread-more i [] n list = let e : i ≡ i + 2 * 0 = omega arith in ap (λ (k : ℕ). set list k n) e
-spread-more i (d ∷ done) n list =
-    let e : i + 2 + 2 * length done ≡ i + 2 * suc (length done) = omega arith in
+spread-more i (d ∷ done) n list = let e : i + 2 + 2 * length done ≡ i + 2 * suc (length done) = omega arith in
     spread-more (i + 2) done n (set list i d) ∙ ap (λ (k : ℕ). set (spread (i + 2) done (set list i d)) k n) e
 
 -- ---- a border that was added fits the room
@@ -51,21 +44,24 @@ appended-fits room sofar cut pieces (given bytes) all e =
     subst (λ (l : List ℕ). length l ≤ room) same fits
 
 -- ---- drawing looks at no text
-pub drawn-alone : (version room : ℕ) (sofar ns : List ℕ) (ys xs : List ℤ) (w : List ℕ) (t t′ : List Text) → drawnFrom version room sofar (yardsFrom ns ys xs w t) ≡ drawnFrom version room sofar (yardsFrom ns ys xs w t′)
+pub drawn-alone : (version room : ℕ) (sofar ns : List ℕ) (ys xs : List ℤ) (w : List ℕ) (t t′ : List Text) →
+    drawnFrom version room sofar (yardsFrom ns ys xs w t) ≡ drawnFrom version room sofar (yardsFrom ns ys xs w t′)
 unfolding yardsFrom drawnFrom withBorder
 drawn-alone version room sofar (a ∷ b ∷ p ∷ v ∷ rest) ys xs w t t′ =
-    go (yardAppended version room sofar ys a xs b w (5 * p)) (λ more. drawn-alone version room more rest (drop a ys) (drop b xs) (drop (5 * p) w) (drop v t) (drop v t′))
-  where
-    go : (r : Reply (List ℕ)) → ((more : List ℕ) → drawnFrom version room more (yardsFrom rest (drop a ys) (drop b xs) (drop (5 * p) w) (drop v t)) ≡ drawnFrom version room more (yardsFrom rest (drop a ys) (drop b xs) (drop (5 * p) w) (drop v t′)))
-        → (r >>= λ more. placedAt (length sofar) (drawnFrom version room more (yardsFrom rest (drop a ys) (drop b xs) (drop (5 * p) w) (drop v t)))) ≡ (r >>= λ more. placedAt (length sofar) (drawnFrom version room more (yardsFrom rest (drop a ys) (drop b xs) (drop (5 * p) w) (drop v t′))))
-    go (given more) same = ap (placedAt (length sofar)) (same more)
-    go (refused why) same = refl
+    go (yardAppended version room sofar ys a xs b w (5 * p)) (λ more. drawn-alone version room more rest (drop a ys) (drop b xs) (drop (5 * p) w) (drop v t) (drop v t′)) where
+      go : (r : Reply (List ℕ)) → ((more : List ℕ) → drawnFrom version room more (yardsFrom rest (drop a ys) (drop b xs) (drop (5 * p) w) (drop v t)) ≡ drawnFrom
+          version room more (yardsFrom rest (drop a ys) (drop b xs) (drop (5 * p) w) (drop v t′))) → (r >>= λ more. placedAt (length sofar)
+          (drawnFrom version room more (yardsFrom rest (drop a ys) (drop b xs) (drop (5 * p) w) (drop v t)))) ≡ (r >>= λ more. placedAt (length sofar)
+          (drawnFrom version room more (yardsFrom rest (drop a ys) (drop b xs) (drop (5 * p) w) (drop v t′))))
+      go (given more) same = ap (placedAt (length sofar)) (same more)
+      go (refused why) same = refl
 drawn-alone version room sofar (a ∷ b ∷ p ∷ []) ys xs w t t′ = refl
 drawn-alone version room sofar (a ∷ b ∷ []) ys xs w t t′ = refl
 drawn-alone version room sofar (a ∷ []) ys xs w t t′ = refl
 drawn-alone version room sofar [] ys xs w t t′ = refl
 
-none-left : (version room : ℕ) (sofar ns : List ℕ) (ys xs : List ℤ) (w : List ℕ) → length ns < 4 → drawnFrom version room sofar (yardsFrom ns ys xs w []) ≡ given (record { bytes = sofar; places = [] })
+none-left : (version room : ℕ) (sofar ns : List ℕ) (ys xs : List ℤ) (w : List ℕ) → length ns < 4 →
+    drawnFrom version room sofar (yardsFrom ns ys xs w []) ≡ given (record { bytes = sofar; places = [] })
 unfolding yardsFrom drawnFrom
 none-left version room sofar (a ∷ b ∷ p ∷ v ∷ rest) ys xs w h = let few : suc (suc (suc (suc (length rest)))) < 4 = h in absurd (omega (arith, few))
 none-left version room sofar (a ∷ b ∷ p ∷ []) ys xs w h = refl
@@ -132,10 +128,10 @@ module _ (version room : ℕ) (yards : List ℕ) (lats lons : List ℤ) (pieces 
       abbrev later : List ℕ → Reply Drawn
       later all = drawnFrom version room all (yardsFrom (drop (i + 4) yards) (drop a (drop lat lats)) (drop b (drop lon lons)) (drop w (drop piece pieces)) [])
 
-      goes : (r : Reply (List ℕ)) → (texts : List Text)
-          → (r >>= λ all. placedAt (length (take size bytes)) (drawnFrom version room all (yardsFrom (drop (i + 4) yards) (drop a (drop lat lats)) (drop b (drop lon lons)) (drop w (drop piece pieces)) texts)))
-          ≡ (r >>= λ all. placedAt (length (take size bytes)) (later all))
-      goes (given all) texts = ap (placedAt (length (take size bytes))) (drawn-alone version room all (drop (i + 4) yards) (drop a (drop lat lats)) (drop b (drop lon lons)) (drop w (drop piece pieces)) texts [])
+      goes : (r : Reply (List ℕ)) → (texts : List Text) → (r >>= λ all. placedAt (length (take size bytes)) (drawnFrom version room all (yardsFrom (drop (i + 4) yards)
+          (drop a (drop lat lats)) (drop b (drop lon lons)) (drop w (drop piece pieces)) texts))) ≡ (r >>= λ all. placedAt (length (take size bytes)) (later all))
+      goes (given all) texts =
+          ap (placedAt (length (take size bytes))) (drawn-alone version room all (drop (i + 4) yards) (drop a (drop lat lats)) (drop b (drop lon lons)) (drop w (drop piece pieces)) texts [])
       goes (refused why) texts = refl
 
       step : from (take size bytes) i lat lon piece ≡ (here >>= λ all. placedAt (length (take size bytes)) (later all))
@@ -147,8 +143,7 @@ module _ (version room : ℕ) (yards : List ℕ) (lats lons : List ℤ) (pieces 
       -- a border that is refused refuses all
       pub section-refused : (out : List ℕ) (r : Border) → Draws here (take size bytes) out r → (why : Refusal) → r ≡ B.Refused why → DrawsAll whole before places bytes (B.Refused why)
       unfolding Draws DrawsAll
-      section-refused out r d why e =
-          let no′ : here ≡ refused why = subst (λ (x : Border). Draws here (take size bytes) out x) e d in
+      section-refused out r d why e = let no′ : here ≡ refused why = subst (λ (x : Border). Draws here (take size bytes) out x) e d in
           sym (c .same) ∙ (ap (carried (c .done)) (step ∙ ap (λ (k : Reply (List ℕ)). k >>= λ all. placedAt (length (take size bytes)) (later all)) no′))
 
       module _ (out : List ℕ) (r : Border) (d : Draws here (take size bytes) out r) (n : ℕ) (e : r ≡ B.Drawn n) where
@@ -164,7 +159,8 @@ module _ (version room : ℕ) (yards : List ℕ) (lats lons : List ℤ) (pieces 
 
         pub border-fits : size + n ≤ room
         border-fits =
-            let l = appended-fits room (take size bytes) (ltb (length (drop piece pieces)) w) (length (piecesOf (take w (drop piece pieces)))) (borderOf version (partOf a (drop lat lats)) (partOf b (drop lon lons)) (piecesOf (take w (drop piece pieces))) (take size bytes)) (take size bytes ++ take n out) (drawn .0) in
+            let l = appended-fits room (take size bytes) (ltb (length (drop piece pieces)) w) (length (piecesOf (take w (drop piece pieces))))
+            (borderOf version (partOf a (drop lat lats)) (partOf b (drop lon lons)) (piecesOf (take w (drop piece pieces))) (take size bytes)) (take size bytes ++ take n out) (drawn .0) in
             omega (arith, l, length-append (take size bytes) (take n out), before-size, length-take-le n out (drawn .1))
 
         pub border-put : room ≤ 1073741824 → size + length (take n out) < 2 ^ 62
@@ -178,10 +174,14 @@ module _ (version room : ℕ) (yards : List ℕ) (lats lons : List ℤ) (pieces 
             let next : size′ ≡ size + length (take n out) = s .place-after in
             let room′ : size + length (take n out) ≤ length bytes = omega (arith, many, border-fits, c .room-in) in
             let lay : bytes′ ≡ (take size bytes ++ take n out) ++ drop (size + length (take n out)) bytes = s .stored ∙ sets-eq (take n out) bytes size room′ in
-            let front : take size′ bytes′ ≡ take size bytes ++ take n out = ap (take size′) lay ∙ take-at (take size bytes ++ take n out) (drop (size + length (take n out)) bytes) size′ (length-append (take size bytes) (take n out) ∙ omega (arith, before-size, next)) in
+            let front : take size′ bytes′ ≡ take size bytes ++ take n out =
+            ap (take size′) lay ∙
+            take-at (take size bytes ++ take n out) (drop (size + length (take n out)) bytes) size′ (length-append (take size bytes) (take n out) ∙ omega (arith, before-size, next)) in
             let at : i / 2 + 1 ≡ 1 + 2 * length (c .done) = omega (arith, c .count) in
             let whole′ : carried (c .done) (placedAt size (later (take size bytes ++ take n out))) ≡ whole =
-            sym (ap (carried (c .done)) (step ∙ (ap (λ (k : Reply (List ℕ)). k >>= λ all. placedAt (length (take size bytes)) (later all)) (drawn .0) ∙ ap (λ (k : ℕ). placedAt k (later (take size bytes ++ take n out))) before-size))) ∙ c .same in
+            sym (ap (carried (c .done))
+            (step ∙ (ap (λ (k : Reply (List ℕ)). k >>= λ all. placedAt (length (take size bytes)) (later all)) (drawn .0) ∙
+            ap (λ (k : ℕ). placedAt k (later (take size bytes ++ take n out))) before-size))) ∙ c .same in
             let ys : drop lat′ lats ≡ drop a (drop lat lats) = next-is lats lat a lat′ el in
             let xs : drop lon′ lons ≡ drop b (drop lon lons) = next-is lons lon b lon′ eo in
             let ws : drop piece′ pieces ≡ drop w (drop piece pieces) = next-is pieces piece w piece′ ec in
@@ -205,7 +205,8 @@ module _ (version room : ℕ) (yards : List ℕ) (lats lons : List ℤ) (pieces 
     unfolding DrawsAll
     section-ends few =
         let short : length (drop i yards) < 4 = omega (arith, length-drop i yards, few) in
-        let end : whole ≡ given (record { bytes = take size bytes; places = c .done ++ [] }) = sym (c .same) ∙ ap (carried (c .done)) (none-left version room (take size bytes) (drop i yards) (drop lat lats) (drop lon lons) (drop piece pieces) short) in
+        let end : whole ≡ given (record { bytes = take size bytes; places = c .done ++ [] }) =
+        sym (c .same) ∙ ap (carried (c .done)) (none-left version room (take size bytes) (drop i yards) (drop lat lats) (drop lon lons) (drop piece pieces) short) in
         record {
           drawn = record { bytes = take size bytes; places = c .done };
           is = end ∙ ap (λ (ps : List ℕ). given (record { bytes = take size bytes; places = ps })) (append-nil (c .done));

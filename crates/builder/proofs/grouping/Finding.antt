@@ -1,19 +1,9 @@
 -- The first of equal items and how many there are, found from where their hash begins. Assumes nothing.
-use Prim.Native.Nat.{ℕ, zero, suc, _+_, _-_, _*_, _/_, _^_, _≤_, _<_}
-use borrow.Author.Tests.{le-leb, lt-leb}
-use lib.{Dec.{leb, eqb}, ListN.{length, drop, getD, length-map, length-drop}, Seq.{drop-cons, drop-length, getD-drop}}
-use mathlib.Core.{Bool.{Bool, true, false}, List.{List, [], _∷_, map}, Path.{_≡_, refl, sym, ap, subst, _∙_}}
-use native.Mathlib.{Numerals.{add-one}, Omega.{arith}}
-use Rattle.builder.proofs.Groups.{first-sorted}
-use Rattle.builder.specs.Sharing.{firstWith, timesIn}
-use Rattle.layout.{proofs.Orders.{sorted-kept}, specs.Order.{keyOf, sortedBy, Under, Rising, keptBy}}
-use Rattle.numbers.specs.Answer.{if_then_else_}
-use Rattle.builder.proofs.grouping.Keyed.{orderOf, items-are, alike-hash}
-use Rattle.builder.specs.Grouping.{Items.{Inside}, Keys.{numbersFrom, itemOf, hashOf, alike, keysOf, firstOf, Lower, Members}}
-
-pub not-good : (b : Bool) → (b ≡ true → ⊥) → b ≡ false
-not-good true never = absurd (never refl)
-not-good false never = refl
+use Rattle.numbers.proofs.Prelude.{ℕ, zero, suc, _+_, _^_, _≤_, _<_, length, drop, getD, length-map, drop-cons, drop-length, Bool, true, false, List, [], _∷_, map, _≡_, refl, sym, ap, _∙_, add-one}
+use Rattle.numbers.{proofs.{Prelude.{arith}, Tests.{fails}}, specs.Answer.{if_then_else_}}
+use Rattle.builder.proofs.{Groups.{first-sorted}, grouping.Keyed.{orderOf, items-are, alike-hash}}
+use Rattle.builder.specs.{Grouping.Keys.{numbersFrom, itemOf, hashOf, alike, keysOf, firstOf, Lower, Members}, Sharing.{firstWith}}
+use Rattle.layout.specs.Order.{keyOf, sortedBy, Under, Rising}
 
 -- ---- keys that never fall, by places
 under-at : (k : ℕ) (xs : List ℕ) → Under keyOf k xs → (i : ℕ) → i < length xs → k ≤ keyOf (getD xs i 0)
@@ -67,8 +57,7 @@ module _ (good : ℕ → Bool) (other : ℕ) where
   first-skip zero xs none = refl
   first-skip (suc run) [] none = refl
   first-skip (suc run) (x ∷ xs) none =
-      first-skip run xs (λ i h k. none (suc i) (omega arith) (omega arith))
-      ∙ sym (ap (λ (b : Bool). if b then x else firstWith good other xs) (none 0 (omega arith) (omega arith)))
+      first-skip run xs (λ i h k. none (suc i) (omega arith) (omega arith)) ∙ sym (ap (λ (b : Bool). if b then x else firstWith good other xs) (none 0 (omega arith) (omega arith)))
 
   pub record Scanning (items : List ℕ) (run i : ℕ) : Type 0 where
     pub from : run ≤ i
@@ -78,9 +67,7 @@ module _ (good : ℕ → Bool) (other : ℕ) where
   module _ (items : List ℕ) (run i : ℕ) (c : Scanning items run i) where
     pub scan-found : i < length items → good (getD items i 0) ≡ true → getD items i 0 ≡ firstWith good other (drop run items)
     unfolding firstWith
-    scan-found h g =
-        let e : firstWith good other (drop i items) ≡ getD items i 0 = ap (firstWith good other) (drop-cons items i 0 h) ∙ rw g in
-        sym e ∙ c .same
+    scan-found h g = let e : firstWith good other (drop i items) ≡ getD items i 0 = ap (firstWith good other) (drop-cons items i 0 h) ∙ rw g in sym e ∙ c .same
 
     pub scan-goes : i < length items → good (getD items i 0) ≡ false → Scanning items run (i + 1)
     unfolding firstWith
@@ -90,10 +77,8 @@ module _ (good : ℕ → Bool) (other : ℕ) where
 
     pub scan-ends : length items ≤ i → other ≡ firstWith good other (drop run items)
     unfolding firstWith
-    scan-ends h =
-        let e : i ≡ length items = omega (arith, c .index) in
-        let z : firstWith good other (drop i items) ≡ other = ap (firstWith good other) (ap (λ (n : ℕ). drop n items) e ∙ drop-length items) in
-        sym z ∙ c .same
+    scan-ends h = let e : i ≡ length items = omega (arith, c .index) in
+        let z : firstWith good other (drop i items) ≡ other = ap (firstWith good other) (ap (λ (n : ℕ). drop n items) e ∙ drop-length items) in sym z ∙ c .same
 
   pub scan-starts : (items : List ℕ) (run : ℕ) → run ≤ length items → Scanning items run run
   scan-starts items run h = record { from = omega arith; index = h; same = refl }
@@ -123,13 +108,11 @@ module _ (good : ℕ → Bool) (other : ℕ) (keys : List ℕ) (run i : ℕ) (c 
   over = ap (firstWith good other) (sym (drop-items run keys))
 
   pub found-in : i < length keys → (item : ℕ) → item ≡ itemOf (getD keys i 0) → (r : Bool) → r ≡ good item → r ≡ true → item ≡ firstWith good other (map itemOf (drop run keys))
-  found-in h item e r is yes′ =
-      let at : item ≡ getD (map itemOf keys) i 0 = e ∙ sym (item-is keys i) in
+  found-in h item e r is yes′ = let at : item ≡ getD (map itemOf keys) i 0 = e ∙ sym (item-is keys i) in
       at ∙ scan-found good other (map itemOf keys) run i c (omega (arith, size)) (ap good (sym at) ∙ sym is ∙ yes′) ∙ over
 
   pub goes-in : i < length keys → (item : ℕ) → item ≡ itemOf (getD keys i 0) → (r : Bool) → r ≡ good item → r ≡ false → Scanning good other (map itemOf keys) run (i + 1)
-  goes-in h item e r is no′ =
-      let at : item ≡ getD (map itemOf keys) i 0 = e ∙ sym (item-is keys i) in
+  goes-in h item e r is no′ = let at : item ≡ getD (map itemOf keys) i 0 = e ∙ sym (item-is keys i) in
       scan-goes good other (map itemOf keys) run i c (omega (arith, size)) (ap good (sym at) ∙ sym is ∙ no′)
 
   pub ends-in : length keys ≤ i → other ≡ firstWith good other (map itemOf (drop run keys))
@@ -140,18 +123,17 @@ among-item starts texts width keys m i h item e = rw e (m .member i h)
 
 module _ (starts texts : List ℕ) (width : ℕ) (keys : List ℕ) (m : Members starts texts width keys) (item key run : ℕ) (is : key ≡ hashOf starts texts width item) (l : Lower keys key run) where
   pub other-hash : (i : ℕ) → i < length keys → (keyOf (getD keys i 0) ≡ key → ⊥) → alike starts texts width item (itemOf (getD keys i 0)) ≡ false
-  other-hash i h n = not-good (alike starts texts width item (itemOf (getD keys i 0))) (λ g. n (m .keyed i h ∙ alike-hash starts texts width item (itemOf (getD keys i 0)) g ∙ sym is))
+  other-hash i h n = fails (alike starts texts width item (itemOf (getD keys i 0))) (λ g. n (m .keyed i h ∙ alike-hash starts texts width item (itemOf (getD keys i 0)) g ∙ sym is))
 
   pub not-before : (i : ℕ) → i < run → i < length (map itemOf keys) → alike starts texts width item (getD (map itemOf keys) i 0) ≡ false
-  not-before i h k =
-      let lower = l .lower i h in
-      rw (at-item keys i) (other-hash i (omega (arith, h, l .inside)) (λ e. omega (arith, lower, e)))
+  not-before i h k = let lower = l .lower i h in rw (at-item keys i) (other-hash i (omega (arith, h, l .inside)) (λ e. omega (arith, lower, e)))
 
-  pub first-is : keys ≡ keysOf starts texts width (length keys) → length keys ≤ 2 ^ 32 → (r : ℕ) → r ≡ firstWith (alike starts texts width item) item (map itemOf (drop run keys)) → r ≡ firstOf starts texts width (length keys) item
+  pub first-is : keys ≡ keysOf starts texts width (length keys) → length keys ≤ 2 ^ 32 → (r : ℕ) → r ≡ firstWith (alike starts texts width item) item (map itemOf (drop run keys)) →
+      r ≡ firstOf starts texts width (length keys) item
   unfolding firstOf orderOf
-  first-is order few r e =
-      let good : ℕ → Bool = alike starts texts width item in
+  first-is order few r e = let good : ℕ → Bool = alike starts texts width item in
       let skip : firstWith good item (drop run (map itemOf keys)) ≡ firstWith good item (map itemOf keys) = first-skip good item run (map itemOf keys) not-before in
-      let sorted : firstWith good item (sortedBy (hashOf starts texts width) (numbersFrom 0 (length keys))) ≡ firstWith good item (numbersFrom 0 (length keys)) = first-sorted (hashOf starts texts width) good item (hashOf starts texts width item) (alike-hash starts texts width item) (numbersFrom 0 (length keys)) in
+      let sorted : firstWith good item (sortedBy (hashOf starts texts width) (numbersFrom 0 (length keys))) ≡ firstWith good item (numbersFrom 0 (length keys)) =
+      first-sorted (hashOf starts texts width) good item (hashOf starts texts width item) (alike-hash starts texts width item) (numbersFrom 0 (length keys)) in
       let items : map itemOf keys ≡ orderOf starts texts width (length keys) = ap (map itemOf) order ∙ items-are starts texts width (length keys) few in
       e ∙ ap (firstWith good item) (drop-items run keys) ∙ skip ∙ ap (firstWith good item) items ∙ sorted

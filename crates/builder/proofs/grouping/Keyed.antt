@@ -1,27 +1,19 @@
 -- Words in the order of their hashes: what stands for which item, and that equal items have equal keys. Assumes nothing.
-use Prim.Native.Nat.{ℕ, zero, suc, _+_, _*_, _/_, _%_, _^_, _≤_, _<_}
-use borrow.Author.Tests.{eqb-true, le-leb}
-use lib.{Dec.{eqb, ltb}, ListN.{length, getD, length-map, List·getD-map}}
-use mathlib.Core.{Bool.{Bool, true, false}, List.{List, [], _∷_, map}, Path.{_≡_, refl, sym, ap, subst, _∙_}}
-use native.Mathlib.Omega.{arith}
-use Rattle.builder.specs.{Sharing.{sameBy, sameText, sameTexts}, Yards.{Text}}
-use Rattle.layout.{proofs.Orders.{sorted-rises, sorted-map}, specs.{inner.Answers.{Sorted}, Order.{keyOf, insertBy, sortedBy, Rising}}}
-use Rattle.numbers.specs.Answer.{if_then_else_}
-use Rattle.builder.proofs.grouping.Listed.{numbers-many}
-use Rattle.builder.specs.Grouping.{Items.{itemAt, hashTexts, Inside}, Keys.{numbersFrom, itemOf, hashOf, keyWord, alike, keysOf, Members, Sorting}}
-use Rattle.numbers.proofs.Tests.{both}
+use Rattle.numbers.proofs.Prelude.{ℕ, zero, suc, _+_, _*_, _%_, _^_, _≤_, _<_, le-leb, eqb-true, eqb, ltb, length, getD, length-map, Bool, true, false, List, [], _∷_, map, _≡_, refl, sym, ap, subst}
+use Rattle.numbers.{proofs.{Prelude.{_∙_, arith}, Tests.{both, differ}}, specs.Answer.{if_then_else_}}
+use lib.ListN.{List·getD-map}
+use Rattle.builder.specs.{Grouping.{Items.{itemAt, hashTexts, Inside}, Keys.{numbersFrom, itemOf, hashOf, keyWord, alike, keysOf, Members, Sorting}}, Sharing.{sameBy, sameText, sameTexts}}
+use Rattle.builder.specs.Yards.{Text}
+use Rattle.layout.{proofs.Orders.{sorted-rises, sorted-map}, specs.{Order.{keyOf, insertBy, sortedBy, Rising}, inner.Answers.{Sorted}}}
+use Rattle.builder.proofs.{Ordered.{upper, lower}, grouping.Listed.{numbers-many}}
 
 -- ---- the same is equal
-never : false ≡ true → ⊥
-never e = let z : _≡_ {A = ℕ} 0 1 = cc in omega arith
-
 same-equal : {A : Type 0} (same : A → A → Bool) → ((x y : A) → same x y ≡ true → x ≡ y) → (xs ys : List A) → sameBy same xs ys ≡ true → xs ≡ ys
 unfolding sameBy
 same-equal same eq [] [] e = refl
-same-equal same eq [] (y ∷ ys) e = absurd (never e)
-same-equal same eq (x ∷ xs) [] e = absurd (never e)
-same-equal same eq (x ∷ xs) (y ∷ ys) e =
-    let two = both (same x y) (sameBy same xs ys) e in
+same-equal same eq [] (y ∷ ys) e = differ e
+same-equal same eq (x ∷ xs) [] e = differ e
+same-equal same eq (x ∷ xs) (y ∷ ys) e = let two = both (same x y) (sameBy same xs ys) e in
     ap (λ z. z ∷ xs) (eq x y (two .0)) ∙ ap (λ zs. y ∷ zs) (same-equal same eq xs ys (two .1))
 
 pub text-equal : (a b : Text) → sameText a b ≡ true → a ≡ b
@@ -51,11 +43,10 @@ module _ (key : ℕ → ℕ) (n : ℕ) where
   below-insert : (x : ℕ) (ys : List ℕ) → x < n → Below n ys → Below n (insertBy key x ys)
   unfolding Below insertBy
   below-insert x [] h b = (h, tt)
-  below-insert x (y ∷ ys) h b = go (ltb (key y) (key x)) (below-insert x ys h (b .1))
-    where
-      go : (t : Bool) → Below n (insertBy key x ys) → Below n (if t then (y ∷ insertBy key x ys) else (x ∷ y ∷ ys))
-      go true more = (b .0, more)
-      go false more = (h, b)
+  below-insert x (y ∷ ys) h b = go (ltb (key y) (key x)) (below-insert x ys h (b .1)) where
+    go : (t : Bool) → Below n (insertBy key x ys) → Below n (if t then (y ∷ insertBy key x ys) else (x ∷ y ∷ ys))
+    go true more = (b .0, more)
+    go false more = (h, b)
 
   below-sorted : (xs : List ℕ) → Below n xs → Below n (sortedBy key xs)
   unfolding Below sortedBy
@@ -70,12 +61,6 @@ small-itself (x ∷ xs) b = let e : x % 2 ^ 32 ≡ x = omega (arith, b .0) in ap
 map-twice : (f g : ℕ → ℕ) (h : ℕ → ℕ) → ((x : ℕ) → f (g x) ≡ h x) → (xs : List ℕ) → map f (map g xs) ≡ map h xs
 map-twice f g h e [] = refl
 map-twice f g h e (x ∷ xs) = ap (λ y. y ∷ map f (map g xs)) (e x) ∙ ap (λ ys. h x ∷ ys) (map-twice f g h e xs)
-
-upper-half : (a b : ℕ) → (a * 2 ^ 32 + b % 2 ^ 32) / 2 ^ 32 ≡ a
-upper-half a b = omega arith
-
-lower-half : (a b : ℕ) → (a * 2 ^ 32 + b % 2 ^ 32) % 2 ^ 32 ≡ b % 2 ^ 32
-lower-half a b = omega arith
 
 below-more : (a b : ℕ) (xs : List ℕ) → a ≤ b → Below a xs → Below b xs
 unfolding Below
@@ -95,7 +80,7 @@ module _ (starts texts : List ℕ) (width : ℕ) where
 
   word-key : (a : ℕ) → keyOf (word a) ≡ hash a
   unfolding keyWord
-  word-key a = upper-half (hash a) a
+  word-key a = upper (hash a) a
 
   -- the items in the order of their hashes
   unfoldable pub orderOf : ℕ → List ℕ
@@ -112,9 +97,8 @@ module _ (starts texts : List ℕ) (width : ℕ) where
   pub items-are : (count : ℕ) → count ≤ 2 ^ 32 → map itemOf (keysOf starts texts width count) ≡ orderOf count
   unfolding keyWord
   items-are count h =
-      ap (map itemOf) (keys-are count)
-      ∙ map-twice itemOf word (λ x. x % 2 ^ 32) (λ x. lower-half (hash x) x) (orderOf count)
-      ∙ small-itself (orderOf count) (below-more count (2 ^ 32) (orderOf count) h (order-below count))
+      ap (map itemOf) (keys-are count) ∙ map-twice itemOf word (λ x. x % 2 ^ 32) (λ x. lower (hash x) x) (orderOf count) ∙ small-itself (orderOf count)
+      (below-more count (2 ^ 32) (orderOf count) h (order-below count))
 
   pub keys-hashes : (count : ℕ) → count ≤ 2 ^ 32 → map keyOf (keysOf starts texts width count) ≡ map hash (orderOf count)
   keys-hashes count h = ap (map keyOf) (keys-are count) ∙ map-twice keyOf word hash word-key (orderOf count)
@@ -139,17 +123,13 @@ module _ (starts texts : List ℕ) (width : ℕ) where
     item-many = ap length (sym items) ∙ length-map keys itemOf
 
     hash-at : (i : ℕ) → i < length keys → keyOf (getD keys i 0) ≡ hash (itemOf (getD keys i 0))
-    hash-at i h =
-        let l : length (map keyOf keys) ≡ length keys = length-map keys keyOf in
-        sym (List·getD-map keyOf keys i 0)
-        ∙ ap (λ (l : List ℕ). getD l i 0) (ap (map keyOf) order ∙ keys-hashes (length keys) few)
-        ∙ at-map hash (orderOf (length keys)) i (omega (arith, h, item-many))
-        ∙ ap hash (sym (item-at i))
-      where
-        at-map : (f : ℕ → ℕ) (xs : List ℕ) (i : ℕ) → i < length xs → getD (map f xs) i 0 ≡ f (getD xs i 0)
-        at-map f [] i h = absurd (omega arith)
-        at-map f (x ∷ xs) zero h = refl
-        at-map f (x ∷ xs) (suc i) h = at-map f xs i (omega arith)
+    hash-at i h = let l : length (map keyOf keys) ≡ length keys = length-map keys keyOf in
+        sym (List·getD-map keyOf keys i 0) ∙ ap (λ (l : List ℕ). getD l i 0) (ap (map keyOf) order ∙ keys-hashes (length keys) few) ∙ at-map hash
+        (orderOf (length keys)) i (omega (arith, h, item-many)) ∙ ap hash (sym (item-at i)) where
+          at-map : (f : ℕ → ℕ) (xs : List ℕ) (i : ℕ) → i < length xs → getD (map f xs) i 0 ≡ f (getD xs i 0)
+          at-map f [] i h = absurd (omega arith)
+          at-map f (x ∷ xs) zero h = refl
+          at-map f (x ∷ xs) (suc i) h = at-map f xs i (omega arith)
 
     pub members : Inside starts texts (length keys * width) → Members starts texts width keys
     members inside = record {
@@ -159,7 +139,8 @@ module _ (starts texts : List ℕ) (width : ℕ) where
     }
 
   -- the words that were written and sorted
-  pub sorting-is : (count : ℕ) (spare words after other : List ℕ) (has : Bool) → words ≡ map word (numbersFrom 0 count) → count ≤ length spare → Sorted words spare after other has → Sorting starts texts width count spare after other
+  pub sorting-is : (count : ℕ) (spare words after other : List ℕ) (has : Bool) → words ≡ map word (numbersFrom 0 count) → count ≤ length spare → Sorted words spare after other has →
+      Sorting starts texts width count spare after other
   unfolding keysOf
   sorting-is count spare words after other has e h s =
       let size : length words ≡ count = ap length e ∙ (length-map (numbersFrom 0 count) word ∙ numbers-many 0 count) in

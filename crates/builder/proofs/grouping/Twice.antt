@@ -1,14 +1,9 @@
 -- How many items are the same, counted among those that have one hash. Assumes nothing.
-use Prim.Native.Nat.{ℕ, zero, suc, _+_, _-_, _*_, _^_, _≤_, _<_}
-use borrow.Author.Tests.{le-leb, lt-leb, eqb-false}
-use lib.{Dec.{leb, eqb}, ListN.{length, drop, getD, length-map, length-drop}, Seq.{drop-cons, drop-length, getD-drop}}
-use mathlib.Core.{Bool.{Bool, true, false}, List.{List, [], _∷_, map}, Path.{_≡_, refl, sym, ap, subst, _∙_}}
-use native.Mathlib.{Numerals.{add-one}, Omega.{arith}}
-use Rattle.builder.specs.Sharing.{timesIn}
+use Rattle.numbers.proofs.Prelude.{ℕ, zero, suc, _+_, _^_, _≤_, _<_, le-leb, lt-leb, eqb-false, eqb, leb, length, drop, getD, length-drop, length-map, drop-cons, getD-drop, Bool, true, false, List}
+use Rattle.numbers.{proofs.{Prelude.{[], _∷_, map, _≡_, refl, sym, ap, _∙_, add-one, arith}, Tests.{fails}}, specs.Answer.{if_then_else_}}
+use Rattle.builder.specs.{Grouping.Keys.{numbersFrom, itemOf, hashOf, alike, keysOf, Lower, Members}, Sharing.{timesIn}}
 use Rattle.layout.{proofs.Orders.{sorted-kept}, specs.Order.{keyOf, sortedBy, Rising, keptBy}}
-use Rattle.numbers.specs.Answer.{if_then_else_}
-use Rattle.builder.proofs.grouping.{Finding.{not-good, rising-at, drop-items, item-is, other-hash, not-before}, Keyed.{orderOf, items-are, alike-hash}}
-use Rattle.builder.specs.Grouping.Keys.{numbersFrom, itemOf, hashOf, alike, keysOf, Lower, Members}
+use Rattle.builder.proofs.grouping.{Finding.{rising-at, drop-items, item-is, other-hash, not-before}, Keyed.{orderOf, items-are, alike-hash}}
 
 none-more : (b : Bool) (n : ℕ) → b ≡ false → n ≡ (if b then 1 else 0) + n
 none-more b n e = rw e (omega arith)
@@ -24,15 +19,14 @@ module _ (same : ℕ → ℕ → Bool) (a : ℕ) where
   times-skip zero xs none = refl
   times-skip (suc run) [] none = refl
   times-skip (suc run) (x ∷ xs) none =
-      times-skip run xs (λ i h k. none (suc i) (omega arith) (omega arith))
-      ∙ none-more (same a x) (timesIn same a xs) (none 0 (omega arith) (omega arith))
+      times-skip run xs (λ i h k. none (suc i) (omega arith) (omega arith)) ∙ none-more (same a x) (timesIn same a xs) (none 0 (omega arith) (omega arith))
 
   module _ (key : ℕ → ℕ) (k : ℕ) (share : (x : ℕ) → same a x ≡ true → key x ≡ k) where
     times-by : (x : ℕ) (xs : List ℕ) (t : Bool) → eqb (key x) k ≡ t → timesIn same a (keptBy key k xs) ≡ timesIn same a xs
         → timesIn same a (if t then (x ∷ keptBy key k xs) else keptBy key k xs) ≡ (if same a x then 1 else 0) + timesIn same a xs
     unfolding timesIn
     times-by x xs true e more = ap (λ (n : ℕ). (if same a x then 1 else 0) + n) more
-    times-by x xs false e more = more ∙ none-more (same a x) (timesIn same a xs) (not-good (same a x) (λ h. eqb-false (key x) k e (share x h)))
+    times-by x xs false e more = more ∙ none-more (same a x) (timesIn same a xs) (fails (same a x) (λ h. eqb-false (key x) k e (share x h)))
 
     times-kept : (xs : List ℕ) → timesIn same a (keptBy key k xs) ≡ timesIn same a xs
     unfolding keptBy timesIn
@@ -65,8 +59,7 @@ module _ (same : ℕ → ℕ → Bool) (a : ℕ) where
       count-twice g e = sym (le-leb 2 (timesIn same a (drop run items)) (omega (arith, c .sum, two-more g, e)))
 
       pub count-once : same a (getD items i 0) ≡ true → (found + 1 ≡ 2 → ⊥) → Counting items run (found + 1) (i + 1)
-      count-once g n =
-          let e : found + 1 + timesIn same a (drop (suc i) items) ≡ timesIn same a (drop run items) = omega (arith, c .sum, two-more g) in
+      count-once g n = let e : found + 1 + timesIn same a (drop (suc i) items) ≡ timesIn same a (drop run items) = omega (arith, c .sum, two-more g) in
           rw (add-one i) (record { index = omega arith; from = omega (arith, c .from); few = omega (arith, c .few, n); sum = e })
 
       pub count-other : same a (getD items i 0) ≡ false → Counting items run found (i + 1)
@@ -110,7 +103,8 @@ module _ (starts texts : List ℕ) (keys : List ℕ) (m : Members starts texts 1
   good = alike starts texts 1
 
   -- past its hash there is none
-  pub count-past : Rising keyOf keys → (found i : ℕ) → Counting good item (map itemOf keys) run found i → i < length keys → (k : ℕ) → k ≡ keyOf (getD keys i 0) → (k ≡ key → ⊥) → false ≡ leb 2 (timesIn good item (map itemOf (drop run keys)))
+  pub count-past : Rising keyOf keys → (found i : ℕ) → Counting good item (map itemOf keys) run found i → i < length keys → (k : ℕ) → k ≡ keyOf (getD keys i 0) → (k ≡ key → ⊥) →
+      false ≡ leb 2 (timesIn good item (map itemOf (drop run keys)))
   count-past rises found i c h here e n′ =
       let n : keyOf (getD keys i 0) ≡ key → ⊥ = λ f. n′ (e ∙ f) in
       let above : key ≤ keyOf (getD keys i 0) = l .upper i (c .from) h in
@@ -121,10 +115,13 @@ module _ (starts texts : List ℕ) (keys : List ℕ) (m : Members starts texts 1
       ap (good item) (getD-drop i (map itemOf keys) j 0 ∙ item-is keys (i + j)) ∙ other-hash starts texts 1 keys m item key run is l (i + j) size (λ e. omega (arith, above, n, more, e)) in
       count-none good item (map itemOf keys) run found i c past ∙ ap (λ (xs : List ℕ). leb 2 (timesIn good item xs)) (sym (drop-items run keys))
 
-  pub twice-is : keys ≡ keysOf starts texts 1 (length keys) → length keys ≤ 2 ^ 32 → (r : Bool) → r ≡ leb 2 (timesIn good item (map itemOf (drop run keys))) → r ≡ leb 2 (timesIn good item (numbersFrom 0 (length keys)))
+  pub twice-is : keys ≡ keysOf starts texts 1 (length keys) → length keys ≤ 2 ^ 32 → (r : Bool) → r ≡ leb 2 (timesIn good item (map itemOf (drop run keys))) →
+      r ≡ leb 2 (timesIn good item (numbersFrom 0 (length keys)))
   unfolding orderOf
   twice-is order few r e =
-      let skip : timesIn good item (drop run (map itemOf keys)) ≡ timesIn good item (map itemOf keys) = times-skip good item run (map itemOf keys) (not-before starts texts 1 keys m item key run is l) in
+      let skip : timesIn good item (drop run (map itemOf keys)) ≡ timesIn good item (map itemOf keys) =
+      times-skip good item run (map itemOf keys) (not-before starts texts 1 keys m item key run is l) in
       let items : map itemOf keys ≡ orderOf starts texts 1 (length keys) = ap (map itemOf) order ∙ items-are starts texts 1 (length keys) few in
-      let sorted : timesIn good item (sortedBy (hashOf starts texts 1) (numbersFrom 0 (length keys))) ≡ timesIn good item (numbersFrom 0 (length keys)) = times-sorted good item (hashOf starts texts 1) (hashOf starts texts 1 item) (alike-hash starts texts 1 item) (numbersFrom 0 (length keys)) in
+      let sorted : timesIn good item (sortedBy (hashOf starts texts 1) (numbersFrom 0 (length keys))) ≡ timesIn good item (numbersFrom 0 (length keys)) =
+      times-sorted good item (hashOf starts texts 1) (hashOf starts texts 1 item) (alike-hash starts texts 1 item) (numbersFrom 0 (length keys)) in
       e ∙ ap (leb 2) (ap (timesIn good item) (drop-items run keys) ∙ skip ∙ ap (timesIn good item) items ∙ sorted)

@@ -1,11 +1,7 @@
 -- Hashes and comparisons, byte by byte and text by text. Assumes nothing.
-use Prim.Native.Nat.{ℕ, suc, _+_, _-_, _*_, _≤_, _<_}
-use borrow.Author.Tests.{eq-eqb, ne-eqb, not-true, not-false}
-use lib.{Dec.{eqb}, ListN.{length, drop, getD}, Seq.{drop-cons, drop-length}}
-use mathlib.Core.{Bool.{Bool, true, false, not, _&&_}, List.{List, [], _∷_}, Path.{_≡_, refl, sym, ap, _∙_}}
-use native.Mathlib.{Nat.{suc-mul, mul-le-mul-right}, Numerals.{add-one}, Omega.{arith}}
-use Rattle.builder.specs.{Sharing.{sameBy, sameText, sameTexts}, Yards.{Text}}
-use Rattle.builder.specs.Grouping.Items.{hashByte, hashText, hashTexts, textAt, itemAt, Inside}
+use Rattle.numbers.proofs.Prelude.{ℕ, suc, _+_, _-_, _*_, _≤_, _<_, eq-eqb, ne-eqb, not-false, not-true, eqb, length, drop, getD, drop-cons, drop-length, Bool, true, false, _&&_, not, List, [], _∷_}
+use Rattle.numbers.proofs.Prelude.{_≡_, refl, sym, ap, _∙_, suc-mul, mul-le-mul-right, add-one, arith}
+use Rattle.builder.specs.{Grouping.Items.{hashByte, hashText, hashTexts, textAt, itemAt, Inside}, Sharing.{sameBy, sameText, sameTexts}}
 
 -- ---- a text's hash
 pub record Hashing (seed : ℕ) (text : List ℕ) (hash i : ℕ) : Type 0 where
@@ -22,9 +18,7 @@ module _ (seed : ℕ) (text : List ℕ) (hash i : ℕ) (c : Hashing seed text ha
 
   pub hash-ends : length text ≤ i → hash ≡ hashText seed text
   unfolding hashText
-  hash-ends h =
-      let e : i ≡ length text = omega (arith, c .index) in
-      sym (ap (hashText hash) (ap (λ (n : ℕ). drop n text) e ∙ drop-length text)) ∙ c .same
+  hash-ends h = let e : i ≡ length text = omega (arith, c .index) in sym (ap (hashText hash) (ap (λ (n : ℕ). drop n text) e ∙ drop-length text)) ∙ c .same
 
 -- ---- two texts
 same-longer : (a b : List ℕ) → (length a ≡ length b → ⊥) → false ≡ sameText a b
@@ -32,11 +26,10 @@ unfolding sameBy
 same-longer [] [] h = absurd (h refl)
 same-longer [] (y ∷ b) h = refl
 same-longer (x ∷ a) [] h = refl
-same-longer (x ∷ a) (y ∷ b) h = go (eqb x y) (same-longer a b (λ e. h (ap suc e)))
-  where
-    go : (t : Bool) → false ≡ sameText a b → false ≡ (t && sameText a b)
-    go true more = more
-    go false more = refl
+same-longer (x ∷ a) (y ∷ b) h = go (eqb x y) (same-longer a b (λ e. h (ap suc e))) where
+  go : (t : Bool) → false ≡ sameText a b → false ≡ (t && sameText a b)
+  go true more = more
+  go false more = refl
 
 pub other-size : (a b : List ℕ) → (length a ≡ length b → ⊥) → false ≡ sameText a b
 other-size = same-longer
@@ -63,28 +56,20 @@ module _ (a b : List ℕ) (i : ℕ) (c : Comparing a b i) where
 
   pub compare-ends : length a ≤ i → true ≡ sameText a b
   unfolding sameBy
-  compare-ends h =
-      let e : i ≡ length a = omega (arith, c .index) in
-      let f : i ≡ length b = omega (arith, c .index, c .size) in
-      let x : drop i a ≡ [] = ap (λ (n : ℕ). drop n a) e ∙ drop-length a in
-      let y : drop i b ≡ [] = ap (λ (n : ℕ). drop n b) f ∙ drop-length b in
-      let z : sameText (drop i a) (drop i b) ≡ true = rw (x, y) in
-      sym z ∙ c .same
+  compare-ends h = let e : i ≡ length a = omega (arith, c .index) in let f : i ≡ length b = omega (arith, c .index, c .size) in
+      let x : drop i a ≡ [] = ap (λ (n : ℕ). drop n a) e ∙ drop-length a in let y : drop i b ≡ [] = ap (λ (n : ℕ). drop n b) f ∙ drop-length b in
+      let z : sameText (drop i a) (drop i b) ≡ true = rw (x, y) in sym z ∙ c .same
 
 -- ---- items
 -- an item's texts are among those of so many items
 pub item-among : (item count width : ℕ) → item < count → item * width + width ≤ count * width
-item-among item count width h =
-    let e : suc item * width ≡ item * width + width = suc-mul item width in
-    let m : suc item * width ≤ count * width = mul-le-mul-right width h in
-    omega (arith, e, m)
+item-among item count width h = let e : suc item * width ≡ item * width + width = suc-mul item width in
+    let m : suc item * width ≤ count * width = mul-le-mul-right width h in omega (arith, e, m)
 
 module _ (starts texts : List ℕ) where
   item-next : (at width i : ℕ) → i < width → itemAt starts texts (at + i) (width - i) ≡ textAt starts texts (at + i) ∷ itemAt starts texts (at + (i + 1)) (width - (i + 1))
   unfolding itemAt
-  item-next at width i h =
-      let e : width - i ≡ suc (width - (i + 1)) = omega arith in
-      let f : at + i + 1 ≡ at + (i + 1) = omega arith in
+  item-next at width i h = let e : width - i ≡ suc (width - (i + 1)) = omega arith in let f : at + i + 1 ≡ at + (i + 1) = omega arith in
       ap (itemAt starts texts (at + i)) e ∙ ap (λ (n : ℕ). textAt starts texts (at + i) ∷ itemAt starts texts n (width - (i + 1))) f
 
   item-done : (at width i : ℕ) → width ≤ i → itemAt starts texts (at + i) (width - i) ≡ []
@@ -122,18 +107,18 @@ module _ (starts texts : List ℕ) where
 
   module _ (a b width i : ℕ) (c : ItemSame a b width i) where
     module _ (h : i < width) where
-      two : sameTexts (itemAt starts texts (a + i) (width - i)) (itemAt starts texts (b + i) (width - i)) ≡ (sameText (textAt starts texts (a + i)) (textAt starts texts (b + i)) && sameTexts (itemAt starts texts (a + (i + 1)) (width - (i + 1))) (itemAt starts texts (b + (i + 1)) (width - (i + 1))))
+      two : sameTexts (itemAt starts texts (a + i) (width - i)) (itemAt starts texts (b + i) (width - i)) ≡ (sameText (textAt starts texts (a + i))
+          (textAt starts texts (b + i)) && sameTexts (itemAt starts texts (a + (i + 1)) (width - (i + 1))) (itemAt starts texts (b + (i + 1)) (width - (i + 1))))
       unfolding sameBy
       two = rw (item-next a width i h, item-next b width i h)
 
-      pub same-differs : (r : Bool) → r ≡ sameText (textAt starts texts (a + i)) (textAt starts texts (b + i)) → not r ≡ true → false ≡ sameTexts (itemAt starts texts a width) (itemAt starts texts b width)
-      same-differs r e n =
-          let f : sameText (textAt starts texts (a + i)) (textAt starts texts (b + i)) ≡ false = sym e ∙ not-true r n in
+      pub same-differs : (r : Bool) → r ≡ sameText (textAt starts texts (a + i)) (textAt starts texts (b + i)) → not r ≡ true →
+          false ≡ sameTexts (itemAt starts texts a width) (itemAt starts texts b width)
+      same-differs r e n = let f : sameText (textAt starts texts (a + i)) (textAt starts texts (b + i)) ≡ false = sym e ∙ not-true r n in
           sym (two ∙ rw f) ∙ c .same
 
       pub same-goes : (r : Bool) → r ≡ sameText (textAt starts texts (a + i)) (textAt starts texts (b + i)) → not r ≡ false → ItemSame a b width (i + 1)
-      same-goes r e n =
-          let f : sameText (textAt starts texts (a + i)) (textAt starts texts (b + i)) ≡ true = sym e ∙ not-false r n in
+      same-goes r e n = let f : sameText (textAt starts texts (a + i)) (textAt starts texts (b + i)) ≡ true = sym e ∙ not-false r n in
           record { index = omega arith; same = sym (two ∙ rw f) ∙ c .same }
 
     pub same-ends : width ≤ i → true ≡ sameTexts (itemAt starts texts a width) (itemAt starts texts b width)

@@ -1,7 +1,5 @@
 -- Items: so many texts in a row, by where each text of a list begins. A text alone is an item of one, a record one of as many as there are names.
-use Prim.Native.Nat.{ℕ, zero, suc, _+_, _-_, _*_, _%_, _^_, _≤_, _<_}
-use mathlib.Core.List.{List, [], _∷_}
-use lib.ListN.{length, take, drop, getD}
+use Rattle.numbers.specs.Prelude.{ℕ, zero, suc, _+_, _-_, _*_, _%_, _^_, _≤_, _<_, length, take, drop, getD, List, [], _∷_}
 use Rattle.builder.specs.Yards.{Text}
 
 -- a hash: any function of the bytes would do

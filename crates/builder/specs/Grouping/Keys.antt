@@ -1,11 +1,7 @@
 -- Items in the order of their hashes, and the first of those that are the same.
-use Prim.Native.Nat.{ℕ, zero, suc, _+_, _*_, _%_, _^_, _≤_, _<_}
-use mathlib.Core.{Bool.{Bool}, List.{List, [], _∷_, map}, Path.{_≡_}}
-use lib.ListN.{length, getD}
-use Rattle.builder.specs.Sharing.{sameTexts, firstWith}
+use Rattle.numbers.specs.{Lists.{zeros}, Prelude.{ℕ, zero, suc, _+_, _*_, _%_, _^_, _≤_, _<_, length, getD, Bool, List, [], _∷_, map, _≡_}}
+use Rattle.builder.specs.{Grouping.Items.{itemAt, hashTexts, Inside}, Sharing.{sameTexts, firstWith}}
 use Rattle.layout.specs.Order.{keyOf, sortedBy}
-use Rattle.numbers.specs.Lists.{zeros}
-use Rattle.builder.specs.Grouping.Items.{itemAt, hashTexts, Inside}
 
 -- so many numbers from one on
 unfoldable pub numbersFrom : ℕ → ℕ → List ℕ

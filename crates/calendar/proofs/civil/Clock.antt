@@ -1,20 +1,15 @@
 -- A clock that is ahead by an i32: where its instant lies, and what it shows. Assumes nothing.
-use Prim.Native.Nat.{ℕ, _^_, suc, _+_, _-_, _*_, _/_, _%_, _<_}
-use borrow.Author.Tests.{ltb-true, ltb-false, lt-ltb, le-ltb}
-use lib.{Dec.{ltb}, IntN.{ℤ, pos, negsuc, _+ℤ_}, Signed.{ltZ, mag}}
-use mathlib.Core.{Bool.{Bool, true, false, cond}, Path.{_≡_, refl, ap, sym, subst, _∙_}}
-use mir.{Syntax.{w32, w64}, Val.{SFits, toZ, ofZ}, ValLaws.{toZ-ofZ}}
-use native.Mathlib.Omega.{arith}
+use Rattle.numbers.proofs.Prelude.{ℕ, suc, _+_, _-_, _*_, _/_, _%_, _^_, _<_, lt-ltb, le-ltb, ltb-true, ltb-false, ltb, ℤ, pos, negsuc, _+ℤ_, mag, ltZ, Bool, true, false, cond, _≡_, refl, sym, ap}
+use Rattle.numbers.proofs.Prelude.{subst, _∙_, w32, w64, SFits, ofZ, toZ, toZ-ofZ, arith}
 use Rattle.calendar.proofs.{Laws.{days-in-all}, moment.Shift.{before, after}}
-use Rattle.calendar.specs.{Calendar.{weekdayOf}, Civil.{Shows, CivilOf}, Dates.{DateOf}, Moments.{instantOf, InDays, MomentOf}}
-use Rattle.calendar.specs.declared.{civil.Reading.{Reading}, moment.Moment.{Moment, the-variants.{At, Outside}}}
+use Rattle.calendar.specs.{Calendar.{weekdayOf}, Civil.{Shows, CivilOf}, Dates.{DateOf}, Moments.{instantOf, InDays, MomentOf}, declared.{civil.Reading.{Reading}, moment.Moment.{Moment}}}
+use Rattle.calendar.specs.declared.moment.Moment.the-variants.{At, Outside}
 use Rattle.calendar.specs.declared.civil.Civil.the-variants as civil
 
 -- from far before the year 1 no i32 leads into it
 stays-before : (b o : ℤ) → mag o < 2147483648 → ltZ b (negsuc 69999999999) ≡ true → ltZ (b +ℤ o) (negsuc 62135596799) ≡ true
 stays-before (pos n) o h k = let z : _≡_ {A = ℕ} 0 1 = cc in absurd (omega arith)
-stays-before (negsuc n) (pos m) h k =
-    let far : 69999999999 < n = ltb-true 69999999999 n k in
+stays-before (negsuc n) (pos m) h k = let far : 69999999999 < n = ltb-true 69999999999 n k in
     simp (lt-ltb m (suc n) (omega arith)) (lt-ltb 62135596799 (suc n - suc m) (omega arith))
 stays-before (negsuc n) (negsuc m) h k = lt-ltb 62135596799 (suc (n + m)) (omega (arith, ltb-true 69999999999 n k))
 
@@ -22,8 +17,7 @@ stays-before (negsuc n) (negsuc m) h k = lt-ltb 62135596799 (suc (n + m)) (omega
 stays-after : (b o : ℤ) → mag o < 2147483648 → ltZ (pos 260000000000) b ≡ true → ltZ (pos 253402300799) (b +ℤ o) ≡ true
 stays-after (negsuc n) o h k = let z : _≡_ {A = ℕ} 0 1 = cc in absurd (omega arith)
 stays-after (pos n) (pos m) h k = lt-ltb 253402300799 (n + m) (omega (arith, ltb-true 260000000000 n k))
-stays-after (pos n) (negsuc m) h k =
-    let far : 260000000000 < n = ltb-true 260000000000 n k in
+stays-after (pos n) (negsuc m) h k = let far : 260000000000 < n = ltb-true 260000000000 n k in
     simp (le-ltb n (suc m) (omega arith)) (lt-ltb 253402300799 (n - suc m) (omega arith))
 
 either : (t : Bool) (x y : ℕ) → x < 2 ^ 63 → y < 2 ^ 63 → mag (cond t (negsuc x) (pos y)) < 2 ^ 63
@@ -76,7 +70,8 @@ module _ (day second : ℕ) (d : InDays day second) where
   pub day-short : day < 3652059
   day-short = omega (arith, d .day-to, days-in-all)
 
-  pub shows : {year month date weekday : ℕ} → DateOf day year month date → weekday ≡ weekdayOf day → Shows (instantOf day second) (record { year = year; month = month; day = date; hour = second / 3600; minute = second / 60 % 60; second = second % 60; weekday = weekday })
+  pub shows : {year month date weekday : ℕ} → DateOf day year month date → weekday ≡ weekdayOf day →
+      Shows (instantOf day second) (record { year = year; month = month; day = date; hour = second / 3600; minute = second / 60 % 60; second = second % 60; weekday = weekday })
   shows p w =
       record {
         date = p .is;
@@ -84,7 +79,8 @@ module _ (day second : ℕ) (d : InDays day second) where
         minute = omega arith;
         second = omega arith;
         weekday = w ∙ ap weekdayOf (sym (p .numbered));
-        back = ap (λ (n : ℕ). instantOf n (3600 * (second / 3600) + 60 * (second / 60 % 60) + second % 60)) (p .numbered) ∙ ap (instantOf day) (let whole : 3600 * (second / 3600) + 60 * (second / 60 % 60) + second % 60 ≡ second = omega arith in whole);
+        back = ap (λ (n : ℕ). instantOf n (3600 * (second / 3600) + 60 * (second / 60 % 60) + second % 60)) (p .numbered) ∙
+            ap (instantOf day) (let whole : 3600 * (second / 3600) + 60 * (second / 60 % 60) + second % 60 ≡ second = omega arith in whole);
       }
 
 -- the two ways to the answer

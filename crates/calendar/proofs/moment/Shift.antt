@@ -1,10 +1,8 @@
 -- Instants counted from the year 1 instead of from 1970, so that none is below zero. Assumes nothing.
-use Prim.Native.Nat.{ℕ, suc, _+_, _-_, _*_, _/_, _%_, _<_}
-use borrow.Author.Tests.{ltb-true, ltb-false, lt-ltb, le-ltb}
-use lib.{Dec.{T}, IntN.{ℤ, pos, negsuc, natAbs, _+ℤ_, _-ℤ_, +ℤ-negℤ-cancel, -ℤ-+ℤ-cancel}, Signed.{ltZ, nonNeg}}
-use mathlib.Core.{Bool.{true, false}, Path.{_≡_, refl, ap, sym, subst, _∙_}}
-use mir.{Syntax.{w64}, Val.{Fits, SFits, toZ, ofZ}, ValLaws.{toZ-ofZ}}
-use native.Mathlib.Omega.{arith}
+use Rattle.numbers.proofs.Prelude.{ℕ, suc, _+_, _-_, _*_, _/_, _%_, _<_, lt-ltb, le-ltb, ltb-true, ltb-false, T, ℤ, pos, negsuc, _+ℤ_, _-ℤ_, natAbs, ltZ, true, false, _≡_, refl, sym, ap, subst, _∙_}
+use Rattle.numbers.proofs.Prelude.{w64, SFits, ofZ, toZ, toZ-ofZ, arith}
+use lib.{IntN.{+ℤ-negℤ-cancel, -ℤ-+ℤ-cancel}, Signed.{nonNeg}}
+use mir.Val.{Fits}
 use Rattle.calendar.proofs.Laws.{days-in-all, epoch}
 use Rattle.calendar.specs.{Moments.{secondsTo, instantOf, MomentOf}, declared.moment.Moment.the-variants.{At, Outside}}
 
@@ -36,7 +34,10 @@ shifted-short (negsuc n) h = omega arith
 -- the shifted instant tells day and second
 pub day-second : (z : ℤ) (n : ℕ) → n < 315537897600 → pos n -ℤ pos 62135596800 ≡ z → MomentOf z (At (n / 86400) (n % 86400))
 unfolding MomentOf
-day-second z n h e = (record { day-to = omega (arith, days-in-all); second-to = omega arith }, instant-plain (n / 86400) (n % 86400) ∙ ap (λ (s : ℕ). pos s -ℤ pos 62135596800) (let whole : 86400 * (n / 86400) + n % 86400 ≡ n = omega arith in whole) ∙ e)
+day-second z n h e = (
+  record { day-to = omega (arith, days-in-all); second-to = omega arith },
+  instant-plain (n / 86400) (n % 86400) ∙ ap (λ (s : ℕ). pos s -ℤ pos 62135596800) (let whole : 86400 * (n / 86400) + n % 86400 ≡ n = omega arith in whole) ∙ e,
+)
 
 -- what the machine works out, whose number reads back as itself
 module _ (z b : ℤ) (same : b ≡ z) (low : ltZ b (negsuc 62135596799) ≡ false) (high : ltZ (pos 253402300799) b ≡ false) where
@@ -59,9 +60,8 @@ seconds-of z day second e = ap (λ (s : ℤ). s +ℤ pos 62135596800) (sym e ∙
 -- no such instant is before the year 1
 not-before : (b : ℤ) (s : ℕ) → ltZ b (negsuc 62135596799) ≡ true → b +ℤ pos 62135596800 ≡ pos s → ⊥
 not-before (pos n) s h e = let z : _≡_ {A = ℕ} 0 1 = cc in omega arith
-not-before (negsuc n) s h e =
-    let below = simp (lt-ltb 62135596800 (suc n) (omega (arith, ltb-true 62135596799 n h))) at e in
-    let z : _≡_ {A = ℕ} 0 1 = cc in omega arith
+not-before (negsuc n) s h e = let below = simp (lt-ltb 62135596800 (suc n) (omega (arith, ltb-true 62135596799 n h))) at e in let z : _≡_ {A = ℕ} 0 1 = cc in
+    omega arith
 
 -- or after 9999
 not-after : (b : ℤ) (s : ℕ) → s < 315537897600 → ltZ (pos 253402300799) b ≡ true → b +ℤ pos 62135596800 ≡ pos s → ⊥

@@ -1,7 +1,5 @@
 -- The guess of a day's year by the mean year. Assumes nothing.
-use Prim.Native.Nat.{ℕ, zero, suc, _+_, _-_, _*_, _≤_, _<_}
-use mathlib.Core.Path.{_≡_, subst}
-use native.Mathlib.Omega.{arith}
+use Rattle.numbers.proofs.Prelude.{ℕ, zero, suc, _+_, _-_, _*_, _≤_, _<_, _≡_, subst, arith}
 use Rattle.calendar.proofs.Laws.{mean-low, mean-high}
 use Rattle.calendar.specs.Calendar.{daysOfYears, InYear}
 
@@ -21,4 +19,9 @@ module _ (day n : ℕ) (short : day < 3652059) (low : 146097 * n ≤ 400 * day) 
 
   -- it is a year early
   pub early : daysOfYears (n + 1) ≤ day → InYear (n + 1 + 1) day
-  early h = record { range = omega (arith, mean-low (n + 1)); begun = subst (λ (x : ℕ). daysOfYears x ≤ day) (let e : n + 1 ≡ n + 1 + 1 - 1 = omega arith in e) h; lasts = omega (arith, mean-low (n + 1 + 1)) }
+  early h = record {
+    range = omega (arith, mean-low (n + 1));
+    begun = subst (λ (x : ℕ). daysOfYears x ≤ day) (let e : n + 1 ≡ n + 1 + 1 - 1 = omega arith in
+        e) h;
+    lasts = omega (arith, mean-low (n + 1 + 1));
+  }

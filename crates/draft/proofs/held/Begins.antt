@@ -1,16 +1,11 @@
 -- Where the records begin with one more of them, and how long the section is, where the step is sure. Assumes nothing.
-use Prim.Native.Nat.{ℕ, suc, _+_, _≤_, _<_}
-use borrow.Author.Tests.{eqb-false}
-use lib.{Dec.{eqb}, ListN.{length, length-append}}
-use mathlib.Core.{Bool.{Bool, true, false, _||_}, List.{List, [], _∷_, _++_, map, flatMap, append-nil}, Path.{_≡_, refl, ap, sym, subst, _∙_}}
-use native.Mathlib.Omega.{arith}
-use Rattle.builder.proofs.Shortest.{wordOf, inlineOf, records-size, layout-least}
-use Rattle.builder.specs.{Metadata.{fieldsOf, inlined, isRemote, remotes, offsetOf, written, layoutOf, startOf, metadataOf}, Sharing.{sameText, sameTexts, isIn, firstsAfter, goodOnes, sizeBefore}, Yards.{Text}}
-use Rattle.builder.proofs.grouping.{Keyed.{text-equal}, Meant.{text-itself, texts-itself}}
+use Rattle.numbers.proofs.Prelude.{ℕ, suc, _+_, _≤_, eqb-false, eqb, length, length-append, Bool, true, false, _||_, List, [], _∷_, _++_, map, append-nil, flatMap, _≡_, refl, sym, ap, _∙_, arith}
+use Rattle.numbers.specs.{Answer.{if_then_else_}, Spelling.{varintOf}}
+use Rattle.builder.{proofs.{Shortest.{wordOf, inlineOf, records-size, layout-least}, grouping.{Keyed.{text-equal}, Meant.{text-itself, texts-itself}}}, specs.Metadata.{fieldsOf, inlined, isRemote}}
+use Rattle.builder.specs.{Metadata.{remotes, offsetOf, written, layoutOf, startOf, metadataOf}, Sharing.{sameText, sameTexts, isIn, firstsAfter, goodOnes, sizeBefore}, Yards.{Text}}
 use Rattle.layout.{proofs.{Everyone.{Every}, Sizes.{size-rises, size-least}}, specs.inner.Layout.{wordSize, wordsSize, next, Fits}}
 use Rattle.build.proofs.metadata.{Offsets.{total, old-place}, Shared.{fields-more, fields-one, flat-more, map-more}}
 use Rattle.header.specs.Utf8.{unmasked}
-use Rattle.numbers.specs.{Answer.{if_then_else_}, Spelling.{varintOf}}
 use Rattle.draft.proofs.held.Sure.{Sure, sure-layout, same-remotes, words-same, inline-same, in-fields}
 
 -- ---- sizes before one
@@ -22,42 +17,40 @@ module _ {A : Type 0} (same : A → A → Bool) where
   before-old : (size : A → ℕ) (x : A) (ys zs : List A) → isIn same x ys ≡ true → sizeBefore same size x (ys ++ zs) ≡ sizeBefore same size x ys
   unfolding sizeBefore isIn
   before-old size x [] zs e = let z : _≡_ {A = ℕ} 0 1 = cc in absurd (omega arith)
-  before-old size x (y ∷ ys) zs e = go (same x y) e (before-old size x ys zs)
-    where
-      go : (b : Bool) → (b || isIn same x ys) ≡ true → (isIn same x ys ≡ true → sizeBefore same size x (ys ++ zs) ≡ sizeBefore same size x ys)
-          → (if b then 0 else (size y + sizeBefore same size x (ys ++ zs))) ≡ (if b then 0 else (size y + sizeBefore same size x ys))
-      go true e k = refl
-      go false e k = ap (λ (n : ℕ). size y + n) (k e)
+  before-old size x (y ∷ ys) zs e = go (same x y) e (before-old size x ys zs) where
+    go : (b : Bool) → (b || isIn same x ys) ≡ true → (isIn same x ys ≡ true → sizeBefore same size x (ys ++ zs) ≡ sizeBefore same size x ys)
+        → (if b then 0 else (size y + sizeBefore same size x (ys ++ zs))) ≡ (if b then 0 else (size y + sizeBefore same size x ys))
+    go true e k = refl
+    go false e k = ap (λ (n : ℕ). size y + n) (k e)
 
   before-new : (size : A → ℕ) (x : A) (ys : List A) → isIn same x ys ≡ false → same x x ≡ true → sizeBefore same size x (ys ++ (x ∷ [])) ≡ sumBy size ys
   unfolding sizeBefore isIn sumBy
   before-new size x [] e own = ap (λ (b : Bool). if b then 0 else (size x + 0)) own
-  before-new size x (y ∷ ys) e own = go (same x y) e (before-new size x ys)
-    where
-      go : (b : Bool) → (b || isIn same x ys) ≡ false → (isIn same x ys ≡ false → same x x ≡ true → sizeBefore same size x (ys ++ (x ∷ [])) ≡ sumBy size ys)
-          → (if b then 0 else (size y + sizeBefore same size x (ys ++ (x ∷ [])))) ≡ size y + sumBy size ys
-      go true e k = let z : _≡_ {A = ℕ} 0 1 = cc in absurd (omega arith)
-      go false e k = ap (λ (n : ℕ). size y + n) (k e own)
+  before-new size x (y ∷ ys) e own = go (same x y) e (before-new size x ys) where
+    go : (b : Bool) → (b || isIn same x ys) ≡ false → (isIn same x ys ≡ false → same x x ≡ true → sizeBefore same size x (ys ++ (x ∷ [])) ≡ sumBy size ys)
+        → (if b then 0 else (size y + sizeBefore same size x (ys ++ (x ∷ [])))) ≡ size y + sumBy size ys
+    go true e k = let z : _≡_ {A = ℕ} 0 1 = cc in absurd (omega arith)
+    go false e k = ap (λ (n : ℕ). size y + n) (k e own)
 
   before-same : (size other : A → ℕ) (x : A) (ys : List A) → ((y : A) → size y ≡ other y) → sizeBefore same size x ys ≡ sizeBefore same other x ys
   unfolding sizeBefore
   before-same size other x [] h = refl
   before-same size other x (y ∷ ys) h = rw (h y, before-same size other x ys h) refl
 
-  sum-same : (size other : A → ℕ) (ys : List A) → ((y : A) → size y ≡ other y) → sumBy size ys ≡ sumBy other ys
-  unfolding sumBy
-  sum-same size other [] h = refl
-  sum-same size other (y ∷ ys) h = rw (h y, sum-same size other ys h) refl
-
 -- ---- words that keep their length
 word-kept : (records by remote : ℕ) → length (varintOf (256 + records)) ≡ length (varintOf (255 + records + by + remote)) → (w : ℕ) → w ≤ remote → wordSize w (records + by) ≡ wordSize w records
 unfolding wordSize
-word-kept records by remote e w h = go (eqb w 0) refl
-  where
-    go : (none : Bool) → eqb w 0 ≡ none → (if none then 0 else length (varintOf (255 + (records + by) + w))) ≡ (if none then 0 else length (varintOf (255 + records + w)))
-    go true z = refl
-    go false z =
-        omega (arith, e, size-rises (256 + records) (255 + records + w) (omega (arith, eqb-false w 0 z)), size-rises (255 + records + w) (255 + (records + by) + w) (omega arith), size-rises (255 + (records + by) + w) (255 + records + by + remote) (omega (arith, h)))
+word-kept records by remote e w h = go (eqb w 0) refl where
+  go : (none : Bool) → eqb w 0 ≡ none → (if none then 0 else length (varintOf (255 + (records + by) + w))) ≡ (if none then 0 else length (varintOf (255 + records + w)))
+  go true z = refl
+  go false z =
+      omega (
+        arith,
+        e,
+        size-rises (256 + records) (255 + records + w) (omega (arith, eqb-false w 0 z)),
+        size-rises (255 + records + w) (255 + (records + by) + w) (omega arith),
+        size-rises (255 + (records + by) + w) (255 + records + by + remote) (omega (arith, h)),
+      )
 
 module _ (fields : List Text) where
   total-flat : (ts : List Text) → total sameText text-equal text-itself (isRemote fields) (λ t. length (inlined t)) ts ≡ length (flatMap inlined ts)
@@ -77,20 +70,24 @@ module _ (fields : List Text) where
   unfolding offsetOf remotes isIn
   word-inside t e =
       let far = old-place sameText text-equal text-itself (isRemote fields) (λ t. length (inlined t)) [] fields t [] e refl (in-fields fields t e) in
-      omega (arith, far, inlined-some t, total-flat (firstsAfter sameText [] (goodOnes (isRemote fields) fields)), ap (λ (l : List Text). sizeBefore sameText (λ t. length (inlined t)) t (firstsAfter sameText [] (goodOnes (isRemote fields) l))) (append-nil fields))
+      omega (
+        arith,
+        far,
+        inlined-some t,
+        total-flat (firstsAfter sameText [] (goodOnes (isRemote fields) fields)),
+        ap (λ (l : List Text). sizeBefore sameText (λ t. length (inlined t)) t (firstsAfter sameText [] (goodOnes (isRemote fields) l))) (append-nil fields),
+      )
 
   word-most : (t : Text) → wordOf fields t ≤ remote
-  word-most t = go (isRemote fields t) refl
-    where
-      go : (far : Bool) → isRemote fields t ≡ far → (if far then suc (offsetOf fields t) else 0) ≤ length (flatMap inlined (remotes fields))
-      go true e = word-inside t e
-      go false e = omega arith
+  word-most t = go (isRemote fields t) refl where
+    go : (far : Bool) → isRemote fields t ≡ far → (if far then suc (offsetOf fields t) else 0) ≤ length (flatMap inlined (remotes fields))
+    go true e = word-inside t e
+    go false e = omega arith
 
 -- The section is the records and the texts behind them.
 pub section-size : (rs : List (List Text)) → length (metadataOf rs) ≡ layoutOf (fieldsOf rs) + length (flatMap inlined (remotes (fieldsOf rs)))
 unfolding metadataOf Fits
-section-size rs =
-    let fs : List Text = fieldsOf rs in
+section-size rs = let fs : List Text = fieldsOf rs in
     let whole : length (flatMap (written fs (layoutOf fs)) fs) ≡ layoutOf fs = records-size fs (layoutOf fs) fs ∙ layout-least fs .fits in
     length-append (flatMap (written fs (layoutOf fs)) fs) (flatMap inlined (remotes fs)) ∙ ap (λ (n : ℕ). n + length (flatMap inlined (remotes fs))) whole
 
@@ -115,21 +112,21 @@ module _ (records : List (List Text)) (r : List Text) where
 
     pub layout-on : layoutOf (fieldsOf records ++ r) ≡ layoutOf (fieldsOf records) + by
     layout-on =
-        sure-layout fields r sure by by-words
-        (ap (λ (ws : List ℕ). wordsSize ws (layout + by)) (sym (map-more (wordOf fields) fields r)) ∙ (all-kept (fields ++ r) ∙ ap (λ (ws : List ℕ). wordsSize ws layout) (map-more (wordOf fields) fields r)))
+        sure-layout fields r sure by by-words (ap (λ (ws : List ℕ). wordsSize ws (layout + by)) (sym (map-more (wordOf fields) fields r))
+        ∙ (all-kept (fields ++ r) ∙ ap (λ (ws : List ℕ). wordsSize ws layout) (map-more (wordOf fields) fields r)))
 
     pub fields-on : fieldsOf (records ++ (r ∷ [])) ≡ fieldsOf records ++ r
     fields-on = fields-more records (r ∷ []) ∙ ap (λ (l : List Text). fields ++ l) (fields-one r)
 
     -- a record keeps its length
-    record-kept : (ts : List Text) → length (flatMap (written (fieldsOf records ++ r) (layoutOf (fieldsOf records ++ r))) ts) ≡ length (flatMap (written (fieldsOf records) (layoutOf (fieldsOf records))) ts)
+    record-kept : (ts : List Text) →
+        length (flatMap (written (fieldsOf records ++ r) (layoutOf (fieldsOf records ++ r))) ts) ≡ length (flatMap (written (fieldsOf records) (layoutOf (fieldsOf records))) ts)
     unfolding next
     record-kept ts =
-        records-size (fields ++ r) (layoutOf (fields ++ r)) ts
-        ∙ (ap (λ (n : ℕ). inlineOf (fields ++ r) ts + wordsSize (map (wordOf (fields ++ r)) ts) n) layout-on
+        records-size (fields ++ r) (layoutOf (fields ++ r)) ts ∙ (ap (λ (n : ℕ). inlineOf (fields ++ r) ts + wordsSize (map (wordOf (fields ++ r)) ts) n) layout-on
         ∙ (ap (λ (n : ℕ). n + wordsSize (map (wordOf (fields ++ r)) ts) (layout + by)) (inline-same fields r sure ts)
-        ∙ (ap (λ (ws : List ℕ). inlineOf fields ts + wordsSize ws (layout + by)) (words-same fields r sure ts)
-        ∙ (ap (λ (n : ℕ). inlineOf fields ts + n) (all-kept ts) ∙ sym (records-size fields layout ts)))))
+        ∙ (ap (λ (ws : List ℕ). inlineOf fields ts + wordsSize ws (layout + by)) (words-same fields r sure ts) ∙ (ap (λ (n : ℕ). inlineOf fields ts + n) (all-kept ts)
+        ∙ sym (records-size fields layout ts)))))
 
     abbrev sizeNow : List Text → ℕ
     sizeNow ts = length (flatMap (written (fieldsOf records) (layoutOf (fieldsOf records))) ts)
@@ -137,10 +134,8 @@ module _ (records : List (List Text)) (r : List Text) where
     -- The metadata section grows by the record's bytes.
     pub sure-metadata : length (metadataOf (records ++ (r ∷ []))) ≡ length (metadataOf records) + by
     sure-metadata =
-        section-size (records ++ (r ∷ []))
-        ∙ (ap (λ (fs : List Text). layoutOf fs + length (flatMap inlined (remotes fs))) fields-on
-        ∙ (ap (λ (ts : List Text). layoutOf (fields ++ r) + length (flatMap inlined ts)) (same-remotes fields r sure)
-        ∙ omega (arith, layout-on, section-size records)))
+        section-size (records ++ (r ∷ [])) ∙ (ap (λ (fs : List Text). layoutOf fs + length (flatMap inlined (remotes fs))) fields-on
+        ∙ (ap (λ (ts : List Text). layoutOf (fields ++ r) + length (flatMap inlined ts)) (same-remotes fields r sure) ∙ omega (arith, layout-on, section-size records)))
 
     begin-on : (values : List Text) → startOf (records ++ (r ∷ [])) values ≡ sizeBefore sameTexts sizeNow values (records ++ (r ∷ []))
     unfolding startOf

@@ -1,12 +1,9 @@
 -- The totals of a builder are a fresh sum after every sequence of the definition's calls. Assumes nothing.
-use Prim.Native.Nat.{ℕ, _-_, min}
-use lib.{Dec.{ltb, leb, eqb}, ListN.{length, take}}
-use mathlib.Core.{Bool.{_&&_}, List.{List, [], _∷_}, Path.{_≡_, refl, subst}}
+use Rattle.numbers.{proofs.Prelude.{ℕ, _-_, min, eqb, ltb, leb, length, take, _&&_, List, [], _∷_, _≡_, refl, subst}, specs.Reply.{Reply, given, refused, plain, demand, _>>_}}
 use Rattle.writer.specs.Writer.{checks}
 use Rattle.builder.specs.{Borders.{withBorder}, File.{areTexts, headOf, isText, known, readable, upTo}, Yards.{Text, Plan}}
-use Rattle.numbers.specs.Reply.{Reply, given, refused, plain, demand, _>>_}
-use Rattle.draft.specs.Held.{Builder.{Builder, Offered, holding, yardOf, joined, changedAt, withValue, summed, fitting, begin, add, dropLast, replace, clear}, Calls.{Call, add-yard, drop-last}}
-use Rattle.draft.specs.Held.{Calls.{replace-value, clear-all, called, after, ran}, Space.{Space}, Totals.{dataOf, fileSize, totalsOf}}
+use Rattle.draft.specs.Held.Builder.{Builder, Offered, holding, yardOf, joined, changedAt, withValue, summed, fitting, begin, add, dropLast, replace, clear}
+use Rattle.draft.specs.Held.{Calls.{Call, add-yard, drop-last, replace-value, clear-all, called, after, ran}, Space.{Space}, Totals.{dataOf, fileSize, totalsOf}}
 
 abbrev Fresh : Builder → Type 0
 Fresh b = b .totals ≡ totalsOf (b .plan)
@@ -27,22 +24,21 @@ summed-fresh plan room = refl
 
 fitting-fresh : (space : Space) (plan : Plan) (room : ℕ) → Gives (fitting space (summed plan room))
 unfolding fitting
-fitting-fresh space plan room = past (demand (space .lists && leb (fileSize (length (headOf (summed plan room .plan))) (summed plan room .totals)) (upTo (summed plan room .room))) (plain 28)) (given (summed plan room)) (summed-fresh plan room)
+fitting-fresh space plan room =
+    past (demand (space .lists && leb (fileSize (length (headOf (summed plan room .plan))) (summed plan room .totals)) (upTo (summed plan room .room))) (plain 28)) (given (summed plan room))
+    (summed-fresh plan room)
 
 begin-fresh : (plan : Plan) (room : ℕ) (space : Space) → Gives (begin plan room space)
 unfolding begin
-begin-fresh plan room space =
-    let last : Reply Builder = given (summed (holding plan []) room) in
-    let lists : Reply (Unit {0}) = demand (space .lists) (plain 28) in
-    let form : Reply (Unit {0}) = demand (known plan) (plain 27) in
+begin-fresh plan room space = let last : Reply Builder = given (summed (holding plan []) room) in
+    let lists : Reply (Unit {0}) = demand (space .lists) (plain 28) in let form : Reply (Unit {0}) = demand (known plan) (plain 27) in
     let texts : Reply (Unit {0}) = demand (readable (holding plan [])) (plain 26) in
     past (demand (leb (length (plan .names)) 255 && plan .numbered) (plain 25)) (texts >> (form >> (lists >> last)))
     (past texts (form >> (lists >> last)) (past form (lists >> last) (past lists last (summed-fresh (holding plan []) room))))
 
 add-fresh : (b : Builder) (o : Offered) (space : Space) → Gives (add b o space)
 unfolding add
-add-fresh b o space =
-    let last : Reply Builder = fitting space (summed (joined (b .plan) o) (b .room)) in
+add-fresh b o space = let last : Reply Builder = fitting space (summed (joined (b .plan) o) (b .room)) in
     let border : Reply (List ℕ) = withBorder (b .plan .version) (upTo (min (b .room) (space .bytes))) (dataOf (b .plan) .bytes) (yardOf o) in
     let texts : Reply (Unit {0}) = demand (areTexts (o .lengths) (o .texts)) (plain 26) in
     let counts : Reply (Unit {0}) = demand (ltb (length (b .plan .yards)) 4096 && eqb (length (b .plan .names)) (length (o .lengths))) (plain 25) in
@@ -51,15 +47,13 @@ add-fresh b o space =
 
 drop-fresh : (b : Builder) (space : Space) → Gives (dropLast b space)
 unfolding dropLast
-drop-fresh b space =
-    let left : Plan = holding (b .plan) (take (length (b .plan .yards) - 1) (b .plan .yards)) in
+drop-fresh b space = let left : Plan = holding (b .plan) (take (length (b .plan .yards) - 1) (b .plan .yards)) in
     let lists : Reply (Unit {0}) = demand (space .lists) (plain 28) in
     past (demand (ltb 0 (length (b .plan .yards))) (plain 29)) (lists >> given (summed left (b .room))) (past lists (given (summed left (b .room))) (summed-fresh left (b .room)))
 
 replace-fresh : (b : Builder) (yard field : ℕ) (text : Text) (space : Space) → Gives (replace b yard field text space)
 unfolding replace
-replace-fresh b yard field text space =
-    let changed : Plan = holding (b .plan) (changedAt yard (withValue field text) (b .plan .yards)) in
+replace-fresh b yard field text space = let changed : Plan = holding (b .plan) (changedAt yard (withValue field text) (b .plan .yards)) in
     let last : Reply Builder = fitting space (summed changed (b .room)) in
     past (demand (ltb yard (length (b .plan .yards)) && ltb field (length (b .plan .names))) (plain 30)) (demand (isText text) (plain 26) >> last)
     (past (demand (isText text) (plain 26)) last (fitting-fresh space changed (b .room)))

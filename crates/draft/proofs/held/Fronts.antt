@@ -1,10 +1,8 @@
 -- A list that begins so, and has one item everywhere behind: what is read of it, put behind it, and cut off. Assumes nothing.
-use Prim.Native.Nat.{ℕ, zero, suc, _+_, _-_, _≤_, _<_}
-use lib.{ListN.{length, take, drop, set, replicate, length-append, length-drop, length-replicate, length-take, replicate-append-replicate, take-append-drop}, Seq.{sets, sets-eq, length-sets, drop-drop, set-append-left, take-all, take-at, drop-at, take-set-le}}
-use mathlib.Core.{List.{List, [], _∷_, _++_, append-assoc, append-nil}, Logic.{_⊎_, inl, inr}, Path.{_≡_, refl, sym, ap, _∙_}}
-use native.Mathlib.Omega.{arith}
+use Rattle.numbers.proofs.Prelude.{ℕ, zero, suc, _+_, _-_, _≤_, _<_, length, take, drop, set, replicate, length-append, length-drop, length-take, length-replicate, sets, take-at, drop-drop, take-all}
+use Rattle.numbers.proofs.Prelude.{drop-at, length-sets, sets-eq, List, [], _∷_, _++_, append-assoc, append-nil, _≡_, refl, sym, ap, _∙_, arith}
+use lib.Seq.{set-append-left, take-set-le}
 use Rattle.draft.specs.Held.State.{Front}
-use Rattle.writer.specs.inner.Stored.{Stored}
 
 module _ {A : Type 0} where
   -- what is stored from a place on leaves what is before it
@@ -28,11 +26,6 @@ module _ {A : Type 0} (none : A) where
   pub front-zero : (n : ℕ) → Front none [] (replicate n none)
   front-zero n = front-made [] (replicate n none) n refl
 
-  -- by its two parts
-  pub front-parts : (front list : List A) (n : ℕ) → take (length front) list ≡ front → drop (length front) list ≡ replicate n none → Front none front list
-  front-parts front list n t d =
-      front-made front list n (sym (take-append-drop (length front) list) ∙ (ap (λ (l : List A). l ++ drop (length front) list) t ∙ ap (λ (l : List A). front ++ l) d))
-
   module _ {front list : List A} (f : Front none front list) where
     -- ---- what is read of it
     pub front-take : take (length front) list ≡ front
@@ -43,8 +36,7 @@ module _ {A : Type 0} (none : A) where
 
     -- behind a place at or behind the front there is nothing
     pub front-behind : (n : ℕ) → drop (length front + n) list ≡ replicate (length list - (length front + n)) none
-    front-behind n =
-        let e : length list - length front - n ≡ length list - (length front + n) = omega arith in
+    front-behind n = let e : length list - length front - n ≡ length list - (length front + n) = omega arith in
         sym (drop-drop n (length front) list) ∙ (ap (drop n) front-rest ∙ (replicate-drop n (length list - length front) ∙ ap (λ (k : ℕ). replicate k none) e))
 
     -- its length alone makes it: two that begin so are one
@@ -54,74 +46,51 @@ module _ {A : Type 0} (none : A) where
     -- ---- what is changed in it
     pub front-put : (more after : List A) → length front + length more ≤ length list → after ≡ sets list (length front) more → Front none (front ++ more) after
     front-put more after h e =
-        front-made (front ++ more) after (length list - (length front + length more))
-        (e ∙ (sets-eq more list (length front) h
+        front-made (front ++ more) after (length list - (length front + length more)) (e ∙ (sets-eq more list (length front) h
         ∙ (ap (λ (l : List A). l ++ more ++ drop (length front + length more) list) front-take ∙ ap (λ (l : List A). front ++ more ++ l) (front-behind (length more)))))
 
     pub front-set : (i : ℕ) (x : A) → i < length front → Front none (set front i x) (set list i x)
     front-set i x h =
-        front-made (set front i x) (set list i x) (length list - length front)
-        (ap (λ (l : List A). set l i x) (f .is) ∙ set-append-left front (replicate (length list - length front) none) i x h)
+        front-made (set front i x) (set list i x) (length list - length front) (ap (λ (l : List A). set l i x) (f .is) ∙ set-append-left front (replicate (length list - length front) none) i x h)
 
     -- ---- a part of it, `&list[from..to]`
     pub front-part : (a b c : List A) → front ≡ a ++ (b ++ c) → (from to : ℕ) → from ≡ length a → to ≡ length a + length b → take (to - from) (drop from list) ≡ b
-    front-part a b c e from to at end =
-        let rest : List A = replicate (length list - length front) none in
+    front-part a b c e from to at end = let rest : List A = replicate (length list - length front) none in
         let size : length b ≡ to - from = omega (arith, at, end) in
         let all : list ≡ a ++ (b ++ (c ++ rest)) = f .is ∙ (ap (λ (l : List A). l ++ rest) e ∙ (append-assoc a (b ++ c) rest ∙ ap (λ (l : List A). a ++ l) (append-assoc b c rest))) in
-        ap (λ (l : List A). take (to - from) (drop from l)) all
-        ∙ (ap (take (to - from)) (drop-at a (b ++ (c ++ rest)) from (sym at)) ∙ take-at b (c ++ rest) (to - from) size)
+        ap (λ (l : List A). take (to - from) (drop from l)) all ∙ (ap (take (to - from)) (drop-at a (b ++ (c ++ rest)) from (sym at)) ∙ take-at b (c ++ rest) (to - from) size)
 
   pub front-slice : (a b : List A) {list : List A} → Front none (a ++ b) list → (from to : ℕ) → from ≡ length a → to ≡ length (a ++ b) → take (to - from) (drop from list) ≡ b
-  front-slice a b f from to at end =
-      front-part f a b [] (ap (λ (l : List A). a ++ l) (sym (append-nil b))) from to at (end ∙ length-append a b)
+  front-slice a b f from to at end = front-part f a b [] (ap (λ (l : List A). a ++ l) (sym (append-nil b))) from to at (end ∙ length-append a b)
 
   -- ---- what was cut off: `&mut list[at..]` with nothing written over it
   pub cleared : (list lent : List A) (at to : ℕ) → to ≡ length list → lent ≡ replicate (length (take (to - at) (drop at list))) none
       → take at list ++ (lent ++ drop (to - at) (drop at list)) ≡ take at list ++ replicate (length list - at) none
-  cleared list lent at to end e =
-      let size : length (drop at list) ≤ to - at = omega (arith, length-drop at list, end) in
+  cleared list lent at to end e = let size : length (drop at list) ≤ to - at = omega (arith, length-drop at list, end) in
       let gone : drop (to - at) (drop at list) ≡ [] = ended (drop at list) (to - at) size in
       let all : take (to - at) (drop at list) ≡ drop at list = take-all (to - at) (drop at list) size in
       let lies : lent ≡ replicate (length list - at) none = e ∙ (ap (λ (l : List A). replicate (length l) none) all ∙ ap (λ (n : ℕ). replicate n none) (length-drop at list)) in
-      ap (λ (l : List A). take at list ++ (lent ++ l)) gone ∙ (ap (λ (l : List A). take at list ++ l) (append-nil lent) ∙ ap (λ (l : List A). take at list ++ l) lies)
-    where
-      ended : (l : List A) (n : ℕ) → length l ≤ n → drop n l ≡ []
-      ended [] zero h = refl
-      ended [] (suc n) h = refl
-      ended (x ∷ l) zero h = absurd (omega arith)
-      ended (x ∷ l) (suc n) h = ended l n (omega arith)
+      ap (λ (l : List A). take at list ++ (lent ++ l)) gone ∙ (ap (λ (l : List A). take at list ++ l) (append-nil lent) ∙ ap (λ (l : List A). take at list ++ l) lies) where
+        ended : (l : List A) (n : ℕ) → length l ≤ n → drop n l ≡ []
+        ended [] zero h = refl
+        ended [] (suc n) h = refl
+        ended (x ∷ l) zero h = absurd (omega arith)
+        ended (x ∷ l) (suc n) h = ended l n (omega arith)
 
   -- from the end of the front on
-  pub front-cut : (front list : List A) (at : ℕ) → at ≡ length front → take (length front) list ≡ front → (after : List A) → after ≡ take at list ++ replicate (length list - at) none → Front none front after
+  pub front-cut : (front list : List A) (at : ℕ) → at ≡ length front → take (length front) list ≡ front → (after : List A) → after ≡ take at list ++ replicate (length list - at) none →
+      Front none front after
   front-cut front list at same t after e =
       front-made front after (length list - at) (e ∙ ap (λ (l : List A). l ++ replicate (length list - at) none) (ap (λ (n : ℕ). take n list) same ∙ t))
 
   -- of a list with more behind the front
   pub front-of-more : (front more : List A) {list : List A} → Front none (front ++ more) list → take (length front) list ≡ front
-  front-of-more front more {list} f =
-      let rest : List A = replicate (length list - length (front ++ more)) none in
+  front-of-more front more {list} f = let rest : List A = replicate (length list - length (front ++ more)) none in
       ap (take (length front)) (f .is ∙ append-assoc front more rest) ∙ take-at front (more ++ rest) (length front) refl
 
-  -- the same of what is lent to be cleared, up to the end of what is used or of the list
-  pub front-cut-lent : (front more : List A) {list : List A} → Front none (front ++ more) list → (lent : List A) (at to : ℕ) → at ≡ length front → (to ≡ length list) ⊎ (to ≡ length (front ++ more))
-      → lent ≡ replicate (length (take (to - at) (drop at list))) none → Front none front (take at list ++ (lent ++ drop (to - at) (drop at list)))
-  front-cut-lent front more {list} f lent at to same (inl end) e =
-      front-cut front list at same (front-of-more front more f) (take at list ++ (lent ++ drop (to - at) (drop at list))) (cleared list lent at to end e)
-  front-cut-lent front more {list} f lent at to same (inr end) e =
-      let n : ℕ = length list - length (front ++ more) in
-      let size : length more ≡ to - at = omega (arith, same, end, length-append front more) in
-      let behind : drop at list ≡ more ++ replicate n none = ap (drop at) (f .is ∙ append-assoc front more (replicate n none)) ∙ drop-at front (more ++ replicate n none) at (sym same) in
-      let here : take (to - at) (drop at list) ≡ more = ap (take (to - at)) behind ∙ take-at more (replicate n none) (to - at) size in
-      let there : drop (to - at) (drop at list) ≡ replicate n none = ap (drop (to - at)) behind ∙ drop-at more (replicate n none) (to - at) size in
-      let all : take at list ++ (lent ++ drop (to - at) (drop at list)) ≡ front ++ (replicate (length more) none ++ replicate n none) =
-      ap (λ (k : ℕ). take k list ++ (lent ++ drop (to - at) (drop at list))) same
-      ∙ (ap (λ (l : List A). l ++ (lent ++ drop (to - at) (drop at list))) (front-of-more front more f)
-      ∙ (ap (λ (l : List A). front ++ (lent ++ l)) there ∙ ap (λ (l : List A). front ++ (l ++ replicate n none)) (e ∙ ap (λ (l : List A). replicate (length l) none) here))) in
-      front-made front (take at list ++ (lent ++ drop (to - at) (drop at list))) (length more + n) (all ∙ ap (λ (l : List A). front ++ l) (replicate-append-replicate (length more) n none))
-
   -- ---- what was put behind the front, fitting or not, and cleared again
-  pub front-back : {front list : List A} → Front none front list → (more after again : List A) (at : ℕ) → at ≡ length front → after ≡ sets list at more → again ≡ take at after ++ replicate (length after - at) none → again ≡ list
+  pub front-back : {front list : List A} → Front none front list → (more after again : List A) (at : ℕ) → at ≡ length front → after ≡ sets list at more →
+      again ≡ take at after ++ replicate (length after - at) none → again ≡ list
   front-back {front} {list} f more after again at same put e =
       let size : length after ≡ length list = ap length put ∙ length-sets list at more in
       let kept : take (length front) after ≡ front =
@@ -129,16 +98,3 @@ module _ {A : Type 0} (none : A) where
       let long : length again ≡ length list =
       ap length e ∙ (length-append (take at after) (replicate (length after - at) none) ∙ omega (arith, length-take at after, length-replicate (length after - at) none, size, same, f .room)) in
       front-one f (front-cut front after at same kept again e) long
-
-  pub front-back-lent : {front list : List A} → Front none front list → (more after lent : List A) (at to : ℕ) → at ≡ length front → to ≡ length after → after ≡ sets list at more
-      → lent ≡ replicate (length (take (to - at) (drop at after))) none → take at after ++ (lent ++ drop (to - at) (drop at after)) ≡ list
-  front-back-lent f more after lent at to same end put e =
-      front-back f more after (take at after ++ (lent ++ drop (to - at) (drop at after))) at same put (cleared after lent at to end e)
-
--- ---- as functions say it that store words or bytes
-module _ {front list : List ℕ} (f : Front 0 front list) (more after : List ℕ) (at next : ℕ) (same : at ≡ length front) (s : Stored list at more after next) where
-  pub front-stored : at + length more ≤ length list → Front 0 (front ++ more) after
-  front-stored h = front-put 0 f more after (omega (arith, h, same)) (s .stored ∙ ap (λ (n : ℕ). sets list n more) same)
-
-  pub front-stored-end : next ≡ length (front ++ more)
-  front-stored-end = omega (arith, s .place-after, same, length-append front more)

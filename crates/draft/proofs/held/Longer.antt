@@ -1,10 +1,6 @@
 -- The records with one more, where no word changes its length: the least layout is longer by the record. Assumes nothing.
-use Prim.Native.Nat.{ℕ, zero, suc, _+_, _*_, _≤_, _<_}
-use borrow.Author.Tests.{leb-true, leb-false}
-use lib.{Dec.{leb}, ListN.{length}}
-use mathlib.Core.{Bool.{Bool, true, false}, List.{List, [], _∷_, _++_}, Path.{_≡_, refl, ap, sym, _∙_}}
-use native.Mathlib.Omega.{arith}
-use Rattle.layout.{proofs.Steps.{words-rise, next-rises, inline-first, least-layout, least-unique}, specs.inner.Layout.{wordSize, wordsSize, next, Fits, Least, after}}
+use Rattle.numbers.proofs.Prelude.{ℕ, zero, suc, _+_, _*_, _≤_, _<_, leb-true, leb-false, leb, length, Bool, true, false, List, [], _∷_, _++_, _≡_, refl, arith}
+use Rattle.layout.{proofs.Steps.{words-rise, next-rises, inline-first, least-layout, least-unique}, specs.inner.Layout.{wordsSize, next, Fits, Least, after}}
 
 module _ (inline : ℕ) (words : List ℕ) where
   under : (other : ℕ) → next inline words other ≤ other → (n : ℕ) → after inline words n ≤ other
@@ -21,25 +17,23 @@ unfolding wordsSize
 words-more [] new a = omega arith
 words-more (w ∷ words) new a = omega (arith, words-more words new a)
 
-module _ (inline more : ℕ) (words new : List ℕ) (records by : ℕ) (l : Least inline words records) (size : by ≡ more + wordsSize new records) (steady : wordsSize (words ++ new) (records + by) ≡ wordsSize (words ++ new) records) where
+module _ (inline more : ℕ) (words new : List ℕ) (records by : ℕ) (l : Least inline words records) (size : by ≡ more + wordsSize new records)
+    (steady : wordsSize (words ++ new) (records + by) ≡ wordsSize (words ++ new) records) where
   longer-fits : next (inline + more) (words ++ new) (records + by) ≡ records + by
   unfolding next Fits
   longer-fits = omega (arith, steady, words-more words new records, l .fits, size)
 
   not-less : (other : ℕ) → next (inline + more) (words ++ new) other ≡ other → other < records + by → ⊥
   unfolding next
-  not-less other fits h = go (leb records other) refl
-    where
-      go : (t : Bool) → leb records other ≡ t → ⊥
-      go true e =
-          let k = leb-true records other e in
-          omega (arith, fits, h, k, words-rise (words ++ new) records other k, words-rise (words ++ new) other (records + by) (omega (arith, h)), steady, longer-fits)
-      go false e = omega (arith, goes-up inline words records l other (omega (arith, fits, words-more words new other)), leb-false records other e)
+  not-less other fits h = go (leb records other) refl where
+    go : (t : Bool) → leb records other ≡ t → ⊥
+    go true e = let k = leb-true records other e in
+        omega (arith, fits, h, k, words-rise (words ++ new) records other k, words-rise (words ++ new) other (records + by) (omega (arith, h)), steady, longer-fits)
+    go false e = omega (arith, goes-up inline words records l other (omega (arith, fits, words-more words new other)), leb-false records other e)
 
   pub longer : Least (inline + more) (words ++ new) (records + by)
   unfolding Fits
-  longer = record { fits = longer-fits; least = λ other fits. go other fits (leb (records + by) other) refl }
-    where
-      go : (other : ℕ) → next (inline + more) (words ++ new) other ≡ other → (t : Bool) → leb (records + by) other ≡ t → records + by ≤ other
-      go other fits true e = leb-true (records + by) other e
-      go other fits false e = absurd (not-less other fits (leb-false (records + by) other e))
+  longer = record { fits = longer-fits; least = λ other fits. go other fits (leb (records + by) other) refl } where
+    go : (other : ℕ) → next (inline + more) (words ++ new) other ≡ other → (t : Bool) → leb (records + by) other ≡ t → records + by ≤ other
+    go other fits true e = leb-true (records + by) other e
+    go other fits false e = absurd (not-less other fits (leb-false (records + by) other e))

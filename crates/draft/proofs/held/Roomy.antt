@@ -1,8 +1,5 @@
 -- The room that is lent with a builder, list by list. Assumes nothing.
-use Prim.Native.Nat.{ℕ, _+_, _-_, _*_, _^_, _≤_, _<_}
-use borrow.Author.Tests.{le-leb, lt-leb}
-use lib.Dec.{leb}
-use mathlib.Core.{Bool.{Bool, true, false, _&&_}, Path.{_≡_, refl, ap, _∙_}}
+use Rattle.numbers.proofs.Prelude.{ℕ, _+_, _-_, _*_, _^_, _≤_, _<_, le-leb, lt-leb, leb, Bool, true, false, _&&_, _≡_, refl, ap, _∙_}
 use Rattle.build.specs.Room.{enough, workOf}
 use Rattle.draft.specs.{Held.Space.{ownEnough, longEnough, standing}, declared.held.{room.Rooms.{Rooms}, state.Held.{Held}}}
 
@@ -32,8 +29,8 @@ module _ (r : Rooms) (names yards strings : ℕ) where
         let work : Bool = enough (workOf (r .starts) (r .keys) (r .spare) (r .kept) (r .held) (r .words) (r .places) (r .boxes)) yards (names * yards) (strings - front) in
         ap (λ (b : Bool). b && work) e
 
-    pub own-and-work : true ≡ ownEnough r names yards strings → (b : Bool)
-        → b ≡ enough (workOf (r .starts) (r .keys) (r .spare) (r .kept) (r .held) (r .words) (r .places) (r .boxes)) yards (names * yards) (strings - front) → b ≡ longEnough r names yards front strings
+    pub own-and-work : true ≡ ownEnough r names yards strings → (b : Bool) → b ≡ enough (workOf (r .starts) (r .keys) (r .spare) (r .kept) (r .held) (r .words)
+        (r .places) (r .boxes)) yards (names * yards) (strings - front) → b ≡ longEnough r names yards front strings
     unfolding longEnough
     own-and-work e b is =
         let work : Bool = enough (workOf (r .starts) (r .keys) (r .spare) (r .kept) (r .held) (r .words) (r .places) (r .boxes)) yards (names * yards) (strings - front) in
@@ -69,9 +66,23 @@ module _ (held : Held) (r : Rooms) where
             pub no-bytes : r .bytes < held .bytes → false ≡ standing held r
             unfolding standing
             no-bytes h =
-                rw (le-leb (held .names) 255 h0, le-leb (held .yards) 4096 h1, le-leb (held .front) (held .strings) h2, le-leb 1 (held .bytes) h3, le-leb (held .bytes) (2 ^ 30) h4, lt-leb (held .bytes) (r .bytes) h) refl
+                rw (
+                  le-leb (held .names) 255 h0,
+                  le-leb (held .yards) 4096 h1,
+                  le-leb (held .front) (held .strings) h2,
+                  le-leb 1 (held .bytes) h3,
+                  le-leb (held .bytes) (2 ^ 30) h4,
+                  lt-leb (held .bytes) (r .bytes) h,
+                ) refl
 
             pub own-last : held .bytes ≤ r .bytes → (b : Bool) → b ≡ ownEnough r (held .names) (held .yards) (held .strings) → b ≡ standing held r
             unfolding standing
             own-last h b e =
-                rw (le-leb (held .names) 255 h0, le-leb (held .yards) 4096 h1, le-leb (held .front) (held .strings) h2, le-leb 1 (held .bytes) h3, le-leb (held .bytes) (2 ^ 30) h4, le-leb (held .bytes) (r .bytes) h) e
+                rw (
+                  le-leb (held .names) 255 h0,
+                  le-leb (held .yards) 4096 h1,
+                  le-leb (held .front) (held .strings) h2,
+                  le-leb 1 (held .bytes) h3,
+                  le-leb (held .bytes) (2 ^ 30) h4,
+                  le-leb (held .bytes) (r .bytes) h,
+                ) e

@@ -1,35 +1,23 @@
 -- A builder that calls have made fits its lists, and its sums may be taken of them. Assumes nothing.
-use Prim.Native.Nat.{ℕ, suc, _+_, _-_, _*_, _^_, _≤_}
-use borrow.Author.Tests.{eqb-true, le-leb, leb-true}
-use lib.{Dec.{eqb, leb}, IntN.{pos}, ListN.{length, take, drop, length-append, length-map}}
-use mathlib.Core.{Bool.{Bool, true, _&&_}, List.{List, [], _∷_, _++_, map, map-append}, Path.{_≡_, refl, sym, ap, subst, _∙_}}
-use native.Mathlib.{Nat.{mul-suc}, Omega.{arith}}
-use Rattle.numbers.proofs.Tests.{both}
+use Rattle.numbers.proofs.Prelude.{ℕ, _+_, _-_, _*_, _^_, _≤_, le-leb, leb-true, eqb-true, eqb, leb, pos, length, take, drop, length-append, length-map, Bool, true, _&&_, List, [], _∷_, _++_, map}
+use Rattle.numbers.proofs.{Prelude.{_≡_, sym, ap, subst, _∙_, mul-suc, arith}, Tests.{both}}
+use mathlib.Core.List.{map-append}
 use Rattle.builder.specs.{File.{isText, readable}, Metadata.{fieldsOf}, Yards.{Text, Plan, Yard, sumOf}}
-use Rattle.build.specs.Entries.Corners.{cornersOf}
-use Rattle.build.{proofs.metadata.Shared.{flat-more}, specs.Metadata.Kept.{joined}}
-use Rattle.build.proofs.recording.Fewer.{joined-sum}
+use Rattle.build.{proofs.{entries.Tabled.{corners-size}, metadata.Shared.{flat-more}, recording.Fewer.{joined-sum}}, specs.{Entries.Corners.{cornersOf}, Metadata.Kept.{joined}}}
 use Rattle.writer.specs.Writer.{every}
 use Rattle.draft.proofs.held.{Fronts.{front-slice, front-take}, Redrawn.{data-few, data-many, data-some}, Roomy.{boxes-last, own-last}}
-use Rattle.draft.specs.Held.{Builder.{Builder}, Sound.{Sound}, Space.{ownEnough, standing}, State.{Front, Holds, Lies, Lists, Stands, frontOf, textsOf, valuesOf}, Totals.{Totals, dataOf}}
-use Rattle.draft.specs.Held.Totals.{totalsFor, totalsOf}
-use Rattle.draft.specs.declared.held.{room.Rooms.{Rooms}, state.Held.{Held}}
+use Rattle.draft.specs.Held.{Builder.{Builder}, Sound.{Sound}, Space.{ownEnough, standing}, State.{Front, Holds, Lies, Lists, Stands, frontOf, textsOf, valuesOf}}
+use Rattle.draft.specs.{Held.Totals.{Totals, dataOf, totalsFor, totalsOf}, declared.held.{room.Rooms.{Rooms}, state.Held.{Held}}}
 
 -- ---- how many numbers and texts there are
-pub corners-many : (yards : List Yard) → length (cornersOf yards) ≡ 4 * length yards
-unfolding cornersOf
-corners-many [] = refl
-corners-many (y ∷ ys) = let e : 4 * suc (length ys) ≡ suc (suc (suc (suc (4 * length ys)))) = omega arith in ap (λ (n : ℕ). suc (suc (suc (suc n)))) (corners-many ys) ∙ sym e
-
 pub fields-many : (names : ℕ) (yards : List Yard) → every (λ y. eqb names (length (y .values))) yards ≡ true → length (fieldsOf (map (λ y. y .values) yards)) ≡ names * length yards
 unfolding every fieldsOf
 fields-many names [] e = omega arith
-fields-many names (y ∷ ys) e =
-    let two = both (eqb names (length (y .values))) (every (λ y. eqb names (length (y .values))) ys) e in
+fields-many names (y ∷ ys) e = let two = both (eqb names (length (y .values))) (every (λ y. eqb names (length (y .values))) ys) e in
     omega (arith, length-append (y .values) (fieldsOf (map (λ y. y .values) ys)), fields-many names ys (two .1), eqb-true names (length (y .values)) (two .0), mul-suc names (length ys))
 
 -- ---- no text is long
-text-short : (t : Text) → isText t ≡ true → length t ≤ 255
+pub text-short : (t : Text) → isText t ≡ true → length t ≤ 255
 unfolding isText
 text-short t e = leb-true (length t) 255 (both (leb (length t) 255) _ e .0)
 
@@ -38,23 +26,31 @@ unfolding every sumOf
 values-short [] e = omega arith
 values-short (t ∷ ts) e = let two = both (isText t) (every isText ts) e in omega (arith, text-short t (two .0), values-short ts (two .1))
 
-pub fields-short : (yards : List Yard) → every (λ y. every isText (y .values)) yards ≡ true → sumOf (map length (fieldsOf (map (λ y. y .values) yards))) ≤ 255 * length (fieldsOf (map (λ y. y .values) yards))
+pub fields-short : (yards : List Yard) → every (λ y. every isText (y .values)) yards ≡ true →
+    sumOf (map length (fieldsOf (map (λ y. y .values) yards))) ≤ 255 * length (fieldsOf (map (λ y. y .values) yards))
 unfolding every fieldsOf sumOf
 fields-short [] e = omega arith
-fields-short (y ∷ ys) e =
-    let two = both (every isText (y .values)) (every (λ y. every isText (y .values)) ys) e in
+fields-short (y ∷ ys) e = let two = both (every isText (y .values)) (every (λ y. every isText (y .values)) ys) e in
     let rest : List Text = fieldsOf (map (λ y. y .values) ys) in
-    omega (arith, values-short (y .values) (two .0), fields-short ys (two .1), joined-sum (y .values), joined-sum rest, joined-sum (y .values ++ rest), ap length (flat-more (λ (t : Text). t) (y .values) rest), length-append (joined (y .values)) (joined rest), length-append (y .values) rest)
+    omega (
+      arith,
+      values-short (y .values) (two .0),
+      fields-short ys (two .1),
+      joined-sum (y .values),
+      joined-sum rest,
+      joined-sum (y .values ++ rest),
+      ap length (flat-more (λ (t : Text). t) (y .values) rest),
+      length-append (joined (y .values)) (joined rest),
+      length-append (y .values) rest,
+    )
 
 -- ---- what can be read
 pub readable-parts : (plan : Plan) → readable plan ≡ true
     → (plan .whole ≡ true) × ((every isText (plan .names) ≡ true) × ((isText (plan .notice) ≡ true) × (every (λ y. every isText (y .values)) (plan .yards) ≡ true)))
 unfolding readable
-readable-parts plan e =
-    let values : Bool = every (λ y. every isText (y .values)) (plan .yards) in
+readable-parts plan e = let values : Bool = every (λ y. every isText (y .values)) (plan .yards) in
     let one = both (plan .whole) (every isText (plan .names) && (isText (plan .notice) && values)) e in
-    let two = both (every isText (plan .names)) (isText (plan .notice) && values) (one .1) in
-    (one .0, (two .0, both (isText (plan .notice)) values (two .1)))
+    let two = both (every isText (plan .names)) (isText (plan .notice) && values) (one .1) in (one .0, (two .0, both (isText (plan .notice)) values (two .1)))
 
 -- ---- of a sound plan
 module _ (plan : Plan) (room : ℕ) (sound : Sound plan room) where
@@ -86,7 +82,7 @@ module _ (plan : Plan) (room : ℕ) (sound : Sound plan room) where
     lengths-room = omega (arith, lies .lengths-are .room, texts-many)
 
     pub boxes-room : 4 * length (plan .yards) ≤ length (lists .boxes)
-    boxes-room = omega (arith, lies .boxes-are .room, corners-many (plan .yards))
+    boxes-room = omega (arith, lies .boxes-are .room, corners-size (plan .yards))
 
     -- the sums may be taken of what is lent: `lengths[from..to]` and `texts[front..strings]`, of the values alone
     pub stands-more : (names count from to front strings : ℕ) → names ≡ length (plan .names) → count ≡ length (plan .yards) → from ≡ names + 1 → to ≡ names + 1 + names * count
@@ -96,7 +92,7 @@ module _ (plan : Plan) (room : ℕ) (sound : Sound plan room) where
         let fields : List Text = valuesOf plan in
         let lengths-front : Front 0 (map length (frontOf plan) ++ map length fields) (lists .lengths) = subst (λ (l : List ℕ). Front 0 l (lists .lengths)) lengths-split (lies .lengths-are) in
         let texts-front : Front 0 (joined (frontOf plan) ++ joined fields) (lists .texts) = subst (λ (l : List ℕ). Front 0 l (lists .texts)) texts-split (lies .texts-are) in
-        let boxes-many : 4 * count ≡ length (cornersOf (plan .yards)) = omega (arith, ec, corners-many (plan .yards)) in
+        let boxes-many : 4 * count ≡ length (cornersOf (plan .yards)) = omega (arith, ec, corners-size (plan .yards)) in
         let places-many : count ≡ length (dataOf plan .places) = ec ∙ sym (data-many plan room sound) in
         let size : length (map length (frontOf plan)) ≡ length (plan .names) + 1 = length-map (frontOf plan) length ∙ front-many in
         let times : names * count ≡ length (plan .names) * length (plan .yards) = ap (λ (n : ℕ). n * count) en ∙ ap (λ (n : ℕ). length (plan .names) * n) ec in
@@ -159,8 +155,8 @@ module _ (b : Builder) (held : Held) (lists : Lists) (h : Holds b held lists) wh
   strings-inside = omega (arith, held-strings, h .lies .texts-are .room)
 
   -- a builder that calls have made is not refused for its numbers
-  pub holds-standing : (rooms : Rooms) → rooms .boxes ≡ length (lists .boxes) → rooms .borders ≡ length (lists .borders) → rooms .lengths ≡ length (lists .lengths) → rooms .texts ≡ length (lists .texts) → rooms .bytes ≡ length (lists .bytes)
-      → standing held rooms ≡ true
+  pub holds-standing : (rooms : Rooms) → rooms .boxes ≡ length (lists .boxes) → rooms .borders ≡ length (lists .borders) → rooms .lengths ≡ length (lists .lengths)
+      → rooms .texts ≡ length (lists .texts) → rooms .bytes ≡ length (lists .bytes) → standing held rooms ≡ true
   holds-standing r boxes borders lengths texts bytes =
       let plan : Plan = b .plan in
       let times : held .names * held .yards ≡ length (plan .names) * length (plan .yards) = ap (λ (n : ℕ). n * held .yards) held-names ∙ ap (λ (n : ℕ). length (plan .names) * n) held-yards in
@@ -172,7 +168,7 @@ module _ (b : Builder) (held : Held) (lists : Lists) (h : Holds b held lists) wh
       (sym (le-leb (4 * held .yards) (r .boxes) (omega (arith, held-yards, boxes, boxes-room plan (b .room) (h .sound) lists (h .lies))))) in
       sym (own-last held r few-names few-yards front-first some-bytes few-bytes (omega (arith, bytes, bytes-inside)) true own)
 
-  pub holds-stands : (from to : ℕ) → from ≡ held .names + 1 → to ≡ held .names + 1 + held .names * held .yards
-      → Stands (b .plan .yards) (dataOf (b .plan)) (held .names) (held .yards) (lists .boxes) (lists .borders) (take (to - from) (drop from (lists .lengths))) (take (held .strings - held .front) (drop (held .front) (lists .texts)))
+  pub holds-stands : (from to : ℕ) → from ≡ held .names + 1 → to ≡ held .names + 1 + held .names * held .yards → Stands (b .plan .yards) (dataOf (b .plan))
+      (held .names) (held .yards) (lists .boxes) (lists .borders) (take (to - from) (drop from (lists .lengths))) (take (held .strings - held .front) (drop (held .front) (lists .texts)))
   holds-stands from to ef et =
       stands-more (b .plan) (b .room) (h .sound) lists (h .lies) (held .names) (held .yards) from to (held .front) (held .strings) held-names held-yards ef et held-front held-strings

@@ -1,9 +1,5 @@
 -- What it says that a builder's numbers fit its lists. Assumes nothing.
-use Prim.Native.Nat.{ℕ, _+_, _-_, _*_, _^_, _≤_}
-use borrow.Author.Tests.{leb-true}
-use lib.Dec.{leb}
-use mathlib.Core.{Bool.{Bool, true, _&&_}, Path.{_≡_}}
-use Rattle.numbers.proofs.Tests.{both}
+use Rattle.numbers.proofs.{Prelude.{ℕ, _+_, _-_, _*_, _^_, _≤_, leb-true, leb, Bool, true, _&&_, _≡_}, Tests.{both}}
 use Rattle.build.specs.Room.{enough, workOf}
 use Rattle.draft.specs.{Held.Space.{longEnough, ownEnough, standing}, declared.held.{room.Rooms.{Rooms}, state.Held.{Held}}}
 
@@ -18,8 +14,7 @@ unfolding ownEnough
 own-parts r names yards strings e =
     let a = both (leb yards (r .borders)) (leb (names + 1 + names * yards) (r .lengths) && (leb strings (r .texts) && leb (4 * yards) (r .boxes))) e in
     let b = both (leb (names + 1 + names * yards) (r .lengths)) (leb strings (r .texts) && leb (4 * yards) (r .boxes)) (a .1) in
-    let c = both (leb strings (r .texts)) (leb (4 * yards) (r .boxes)) (b .1) in
-    record {
+    let c = both (leb strings (r .texts)) (leb (4 * yards) (r .boxes)) (b .1) in record {
       borders-room = leb-true yards (r .borders) (a .0);
       lengths-all = leb-true (names + 1 + names * yards) (r .lengths) (b .0);
       texts-room = leb-true strings (r .texts) (c .0);
@@ -37,16 +32,12 @@ pub record Stood (held : Held) (r : Rooms) : Type 0 where
 
 pub stood : (held : Held) (r : Rooms) → standing held r ≡ true → Stood held r
 unfolding standing
-stood held r e =
-    let own : Bool = ownEnough r (held .names) (held .yards) (held .strings) in
+stood held r e = let own : Bool = ownEnough r (held .names) (held .yards) (held .strings) in
     let from-bytes : Bool = leb (held .bytes) (2 ^ 30) && (leb (held .bytes) (r .bytes) && own) in
     let a = both (leb (held .names) 255) (leb (held .yards) 4096 && (leb (held .front) (held .strings) && (leb 1 (held .bytes) && from-bytes))) e in
     let b = both (leb (held .yards) 4096) (leb (held .front) (held .strings) && (leb 1 (held .bytes) && from-bytes)) (a .1) in
-    let c = both (leb (held .front) (held .strings)) (leb 1 (held .bytes) && from-bytes) (b .1) in
-    let d = both (leb 1 (held .bytes)) from-bytes (c .1) in
-    let f = both (leb (held .bytes) (2 ^ 30)) (leb (held .bytes) (r .bytes) && own) (d .1) in
-    let g = both (leb (held .bytes) (r .bytes)) own (f .1) in
-    record {
+    let c = both (leb (held .front) (held .strings)) (leb 1 (held .bytes) && from-bytes) (b .1) in let d = both (leb 1 (held .bytes)) from-bytes (c .1) in
+    let f = both (leb (held .bytes) (2 ^ 30)) (leb (held .bytes) (r .bytes) && own) (d .1) in let g = both (leb (held .bytes) (r .bytes)) own (f .1) in record {
       few-names = leb-true (held .names) 255 (a .0);
       few-yards = leb-true (held .yards) 4096 (b .0);
       front-first = leb-true (held .front) (held .strings) (c .0);

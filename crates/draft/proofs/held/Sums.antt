@@ -1,20 +1,22 @@
 -- The length of a file from the totals alone. Assumes nothing.
-use Prim.Native.Nat.{ℕ, _+_}
-use lib.ListN.{length, length-append}
-use mathlib.Core.{List.{List, _++_, zipWith}, Path.{_≡_}}
-use native.Mathlib.Omega.{arith}
+use Rattle.numbers.{proofs.Prelude.{ℕ, _+_, length, length-append, List, _++_, zipWith, _≡_, arith}, specs.Spelling.{varintOf}}
 use Rattle.builder.specs.{Borders.{Drawn}, Entries.{tableOf}, File.{assembled, entryOf, fileOf, headOf}, Metadata.{metadataOf, recordsOf}, Yards.{Plan}}
-use Rattle.numbers.specs.Spelling.{varintOf}
 use Rattle.draft.specs.Held.Totals.{fileSize, totalsFor}
 
-assembled-size : (head table metadata bytes : List ℕ)
-    → length head + (length (varintOf (length table)) + (length (varintOf (length metadata)) + (length (varintOf (length bytes)) + (length table + (length metadata + length bytes))))) ≡ length (assembled head table metadata bytes)
+assembled-size : (head table metadata bytes : List ℕ) → length head + (length (varintOf (length table)) + (length (varintOf (length metadata)) +
+    (length (varintOf (length bytes)) + (length table + (length metadata + length bytes))))) ≡ length (assembled head table metadata bytes)
 unfolding assembled
-assembled-size head table metadata bytes =
-    let a : List ℕ = varintOf (length table) in
-    let b : List ℕ = varintOf (length metadata) in
+assembled-size head table metadata bytes = let a : List ℕ = varintOf (length table) in let b : List ℕ = varintOf (length metadata) in
     let c : List ℕ = varintOf (length bytes) in
-    omega (arith, length-append head (a ++ (b ++ (c ++ (table ++ (metadata ++ bytes))))), length-append a (b ++ (c ++ (table ++ (metadata ++ bytes)))), length-append b (c ++ (table ++ (metadata ++ bytes))), length-append c (table ++ (metadata ++ bytes)), length-append table (metadata ++ bytes), length-append metadata bytes)
+    omega (
+      arith,
+      length-append head (a ++ (b ++ (c ++ (table ++ (metadata ++ bytes))))),
+      length-append a (b ++ (c ++ (table ++ (metadata ++ bytes)))),
+      length-append b (c ++ (table ++ (metadata ++ bytes))),
+      length-append c (table ++ (metadata ++ bytes)),
+      length-append table (metadata ++ bytes),
+      length-append metadata bytes,
+    )
 
 -- what fits is asked of the sums alone
 pub size-is : (plan : Plan) (drawn : Drawn) → fileSize (length (headOf plan)) (totalsFor (plan .yards) drawn) ≡ length (fileOf plan drawn)

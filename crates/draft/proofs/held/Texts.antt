@@ -1,24 +1,18 @@
 -- What each call leaves of the boxes and the texts of a plan: longer, cut, changed at an index, or none. Assumes nothing.
-use Prim.Native.Nat.{ℕ, zero, suc, _+_, _*_, _≤_, _<_}
-use borrow.Author.Tests.{eqb-true, leb-true}
-use lib.{Dec.{eqb, leb}, IntN.{ℤ}, ListN.{length, take, drop, getD, set, length-append, take-append-drop}, Seq.{set-append-left, set-split, split-at, take-add}}
-use mathlib.Core.{Bool.{true}, List.{List, [], _∷_, _++_, map, flatMap, append-assoc, append-nil}, Path.{_≡_, refl, sym, ap, _∙_}}
-use native.Mathlib.{Nat.{mul-comm, suc-mul}, Omega.{arith}}
-use Rattle.numbers.proofs.Tests.{both}
-use Rattle.builder.specs.{Entries.{boxOf}, File.{areTexts, headOf, isText}, Metadata.{fieldsOf}, Yards.{Text, Plan, Yard, cutBy, sumOf}}
-use Rattle.build.specs.Entries.Corners.{cornersOf}
-use Rattle.builder.proofs.grouping.Walks.{item-among}
-use Rattle.build.proofs.metadata.{Itemed.{cut-lengths}, Shared.{fields-more, flat-more, map-more}}
-use Rattle.build.specs.Metadata.Kept as Words
+use Rattle.numbers.proofs.Prelude.{ℕ, zero, suc, _+_, _*_, _≤_, _<_, leb-true, eqb-true, eqb, leb, ℤ, length, take, drop, getD, set, length-append, take-append-drop, take-add, true, List, [], _∷_}
+use Rattle.numbers.proofs.{Prelude.{_++_, map, append-assoc, append-nil, flatMap, _≡_, refl, sym, ap, _∙_, mul-comm, suc-mul, arith}, Tests.{both}}
+use lib.Seq.{set-append-left, set-split, split-at}
+use Rattle.builder.{proofs.grouping.Walks.{item-among}, specs.{Entries.{boxOf}, File.{areTexts, headOf, isText}, Metadata.{fieldsOf}, Yards.{Text, Plan, Yard, cutBy, sumOf}}}
+use Rattle.build.{proofs.metadata.{Itemed.{cut-lengths}, Shared.{fields-more, flat-more, map-more}}, specs.Entries.Corners.{cornersOf}}
 use Rattle.writer.specs.Writer.{every}
 use Rattle.draft.proofs.held.{Everyone.{changed-set}, Standing.{fields-many}}
 use Rattle.draft.specs.Held.{Builder.{Offered, holding, joined, yardOf, changedAt, withValue}, Sound.{Sound}, State.{frontOf, textsOf, valuesOf}}
+use Rattle.build.specs.Metadata.Kept as Words
 
 -- ---- lists
 set-append-right : {A : Type 0} (xs ys : List A) (i : ℕ) (x : A) → set (xs ++ ys) (length xs + i) x ≡ xs ++ set ys i x
 set-append-right [] ys i x = let e : 0 + i ≡ i = omega arith in ap (λ (n : ℕ). set ys n x) e
-set-append-right {A} (y ∷ xs) ys i x =
-    let e : suc (length xs) + i ≡ suc (length xs + i) = omega arith in
+set-append-right {A} (y ∷ xs) ys i x = let e : suc (length xs) + i ≡ suc (length xs + i) = omega arith in
     ap (λ (n : ℕ). set (y ∷ (xs ++ ys)) n x) e ∙ ap (λ (l : List A). y ∷ l) (set-append-right xs ys i x)
 
 pub map-set : {A B : Type 0} (f : A → B) (xs : List A) (i : ℕ) (x : A) → map f (set xs i x) ≡ set (map f xs) i (f x)
@@ -36,9 +30,7 @@ joined-cut (n ∷ ns) texts = ap (λ (l : List ℕ). take n texts ++ l) (joined-
 pub corners-more : (xs ys : List Yard) → cornersOf (xs ++ ys) ≡ cornersOf xs ++ cornersOf ys
 unfolding cornersOf
 corners-more [] ys = refl
-corners-more (x ∷ xs) ys =
-    let box = boxOf (x .lats) (x .lons) in
-    ap (λ (l : List ℤ). box .south ∷ box .west ∷ box .north ∷ box .east ∷ l) (corners-more xs ys)
+corners-more (x ∷ xs) ys = let box = boxOf (x .lats) (x .lons) in ap (λ (l : List ℤ). box .south ∷ box .west ∷ box .north ∷ box .east ∷ l) (corners-more xs ys)
 
 pub corners-split : (n : ℕ) (ys : List Yard) → cornersOf ys ≡ cornersOf (take n ys) ++ cornersOf (drop n ys)
 corners-split n ys = ap cornersOf (sym (take-append-drop n ys)) ∙ corners-more (take n ys) (drop n ys)
@@ -52,8 +44,7 @@ pub corners-changed : (field : ℕ) (text : Text) (n : ℕ) (ys : List Yard) →
 unfolding cornersOf changedAt
 corners-changed field text n [] = refl
 corners-changed field text zero (y ∷ ys) = refl
-corners-changed field text (suc n) (y ∷ ys) =
-    let box = boxOf (y .lats) (y .lons) in
+corners-changed field text (suc n) (y ∷ ys) = let box = boxOf (y .lats) (y .lons) in
     ap (λ (l : List ℤ). box .south ∷ box .west ∷ box .north ∷ box .east ∷ l) (corners-changed field text n ys)
 
 -- ---- their values
@@ -71,14 +62,11 @@ values-changed : (names field : ℕ) (text : Text) → field < names → (n : �
     → valuesIn (changedAt n (withValue field text) ys) ≡ set (valuesIn ys) (n * names + field) text
 unfolding every fieldsOf changedAt
 values-changed names field text f n [] e h = absurd (omega arith)
-values-changed names field text f zero (y ∷ ys) e h =
-    let two = both (eqb names (length (y .values))) (every (λ y. eqb names (length (y .values))) ys) e in
+values-changed names field text f zero (y ∷ ys) e h = let two = both (eqb names (length (y .values))) (every (λ y. eqb names (length (y .values))) ys) e in
     let i : field ≡ 0 * names + field = omega arith in
-    ap (λ (l : List Text). l ++ valuesIn ys) (changed-set text field (y .values))
-    ∙ (sym (set-append-left (y .values) (valuesIn ys) field text (omega (arith, f, eqb-true names (length (y .values)) (two .0))))
-    ∙ ap (λ (n : ℕ). set (y .values ++ valuesIn ys) n text) i)
-values-changed names field text f (suc n) (y ∷ ys) e h =
-    let two = both (eqb names (length (y .values))) (every (λ y. eqb names (length (y .values))) ys) e in
+    ap (λ (l : List Text). l ++ valuesIn ys) (changed-set text field (y .values)) ∙ (sym (set-append-left (y .values) (valuesIn ys) field text
+    (omega (arith, f, eqb-true names (length (y .values)) (two .0)))) ∙ ap (λ (n : ℕ). set (y .values ++ valuesIn ys) n text) i)
+values-changed names field text f (suc n) (y ∷ ys) e h = let two = both (eqb names (length (y .values))) (every (λ y. eqb names (length (y .values))) ys) e in
     let i : length (y .values) + (n * names + field) ≡ suc n * names + field = omega (arith, eqb-true names (length (y .values)) (two .0), suc-mul n names) in
     ap (λ (l : List Text). y .values ++ l) (values-changed names field text f n ys (two .1) (omega arith))
     ∙ (sym (set-append-right (y .values) (valuesIn ys) (n * names + field) text) ∙ ap (λ (n : ℕ). set (y .values ++ valuesIn ys) n text) i)
@@ -115,11 +103,13 @@ module _ (plan : Plan) (o : Offered) where
 
   pub joined-lengths : areTexts (o .lengths) (o .texts) ≡ true → map length (textsOf (joined plan o)) ≡ map length (textsOf plan) ++ o .lengths
   joined-lengths e =
-      ap (map length) joined-texts ∙ (map-more length (textsOf plan) (cutBy (o .lengths) (o .texts)) ∙ ap (λ (l : List ℕ). map length (textsOf plan) ++ l) (cut-lengths (o .lengths) (o .texts) (whole-texts e)))
+      ap (map length) joined-texts ∙
+      (map-more length (textsOf plan) (cutBy (o .lengths) (o .texts)) ∙ ap (λ (l : List ℕ). map length (textsOf plan) ++ l) (cut-lengths (o .lengths) (o .texts) (whole-texts e)))
 
   pub joined-strings : Words.joined (textsOf (joined plan o)) ≡ Words.joined (textsOf plan) ++ take (sumOf (o .lengths)) (o .texts)
   joined-strings =
-      ap Words.joined joined-texts ∙ (flat-more (λ (t : Text). t) (textsOf plan) (cutBy (o .lengths) (o .texts)) ∙ ap (λ (l : List ℕ). Words.joined (textsOf plan) ++ l) (joined-cut (o .lengths) (o .texts)))
+      ap Words.joined joined-texts ∙
+      (flat-more (λ (t : Text). t) (textsOf plan) (cutBy (o .lengths) (o .texts)) ∙ ap (λ (l : List ℕ). Words.joined (textsOf plan) ++ l) (joined-cut (o .lengths) (o .texts)))
 
 -- ---- the first so many yards: what there was is theirs and then the rest's
 module _ (plan : Plan) (n : ℕ) where
@@ -141,23 +131,11 @@ module _ (plan : Plan) (n : ℕ) where
   pub dropped-strings : Words.joined (textsOf plan) ≡ Words.joined (textsOf fewer) ++ Words.joined restValues
   dropped-strings = ap Words.joined dropped-texts ∙ flat-more (λ (t : Text). t) (textsOf fewer) restValues
 
-  pub dropped-head : headOf fewer ≡ headOf plan
-  unfolding headOf
-  dropped-head = refl
-
 -- ---- none: the names and the notice are left
 module _ (plan : Plan) where
   pub cleared-texts : textsOf (holding plan []) ≡ frontOf plan
   unfolding fieldsOf
   cleared-texts = append-nil (frontOf plan)
-
-  pub cleared-corners : cornersOf (holding plan [] .yards) ≡ []
-  unfolding cornersOf
-  cleared-corners = refl
-
-  pub cleared-head : headOf (holding plan []) ≡ headOf plan
-  unfolding headOf
-  cleared-head = refl
 
 -- ---- one value another
 module _ (plan : Plan) (room : ℕ) (sound : Sound plan room) (yard field : ℕ) (text : Text) (y : yard < length (plan .yards)) (f : field < length (plan .names)) where
@@ -169,16 +147,24 @@ module _ (plan : Plan) (room : ℕ) (sound : Sound plan room) (yard field : ℕ)
   textIndex = length (plan .names) + 1 + (yard * length (plan .names) + field)
 
   pub index-inside : textIndex < length (textsOf plan)
-  index-inside =
-      let n : ℕ = length (plan .names) in
-      omega (arith, f, item-among yard (length (plan .yards)) n y, mul-comm (length (plan .yards)) n, length-append (frontOf plan) (valuesOf plan), length-append (plan .names) (plan .notice ∷ []), fields-many n (plan .yards) (sound .valued))
+  index-inside = let n : ℕ = length (plan .names) in
+      omega (
+        arith,
+        f,
+        item-among yard (length (plan .yards)) n y,
+        mul-comm (length (plan .yards)) n,
+        length-append (frontOf plan) (valuesOf plan),
+        length-append (plan .names) (plan .notice ∷ []),
+        fields-many n (plan .yards) (sound .valued),
+      )
 
   pub replaced-values : valuesOf changed ≡ set (valuesOf plan) (yard * length (plan .names) + field) text
   replaced-values = values-changed (length (plan .names)) field text f yard (plan .yards) (sound .valued) y
 
   pub replaced-texts : textsOf changed ≡ set (textsOf plan) textIndex text
   replaced-texts =
-      let i : length (frontOf plan) + (yard * length (plan .names) + field) ≡ textIndex = ap (λ (n : ℕ). n + (yard * length (plan .names) + field)) (length-append (plan .names) (plan .notice ∷ [])) in
+      let i : length (frontOf plan) + (yard * length (plan .names) + field) ≡ textIndex = ap (λ (n : ℕ). n + (yard * length (plan .names) + field))
+      (length-append (plan .names) (plan .notice ∷ [])) in
       ap (λ (l : List Text). frontOf plan ++ l) replaced-values
       ∙ (sym (set-append-right (frontOf plan) (valuesOf plan) (yard * length (plan .names) + field) text) ∙ ap (λ (n : ℕ). set (textsOf plan) n text) i)
 
@@ -201,7 +187,3 @@ module _ (plan : Plan) (room : ℕ) (sound : Sound plan room) (yard field : ℕ)
 
   pub strings-around : Words.joined (textsOf plan) ≡ beforeText ++ (getD (textsOf plan) textIndex [] ++ behindText)
   strings-around = ap Words.joined (split-at (textsOf plan) textIndex [] index-inside) ∙ around (getD (textsOf plan) textIndex [])
-
-  pub replaced-head : headOf changed ≡ headOf plan
-  unfolding headOf
-  replaced-head = refl

@@ -1,17 +1,10 @@
 -- Some yards that stand in lists: their values are the items of the texts, and of their boxes the first numbers are the lower latitudes. Assumes nothing.
-use Prim.Native.Nat.{ℕ, suc, _+_, _*_}
-use borrow.Author.Tests.{eqb-true}
-use lib.{Dec.{eqb}, IntN.{ℤ, pos}, ListN.{length, take, drop, getD, length-map, take-append-drop}, Seq.{take-at, drop-at, drop-drop, getD-drop}}
-use mathlib.Core.{Bool.{true}, List.{List, [], _∷_, _++_, map}, Path.{_≡_, refl, sym, ap, _∙_}}
-use native.Mathlib.{Nat.{mul-comm}, Omega.{arith}}
+use Rattle.numbers.proofs.Prelude.{ℕ, suc, _+_, _*_, eqb-true, eqb, ℤ, pos, length, take, drop, getD, length-map, take-append-drop, take-at, drop-drop, drop-at, getD-drop, true, List, [], _∷_, _++_}
+use Rattle.numbers.proofs.{Prelude.{map, _≡_, refl, sym, ap, _∙_, mul-comm, arith}, Tests.{both}}
 use Rattle.writer.specs.Writer.{every}
-use Rattle.builder.specs.{Borders.{Drawn}, Entries.{boxOf, lowestOf}, Metadata.{fieldsOf}, Yards.{Text, Yard, cutBy, sumOf}, declared.boxes.Bounds.{Bounds}}
-use Rattle.numbers.proofs.Tests.{both}
-use Rattle.build.proofs.Valued.{part, map-next, shift}
-use Rattle.build.specs.Entries.Corners.{cornersOf}
-use Rattle.builder.{proofs.grouping.{Meant.{item-part}, Walks.{item-among}}, specs.Grouping.{Items.{startsFrom, itemAt}, Keys.{numbersFrom}}}
-use Rattle.build.{proofs.metadata.Begun.{cut-join}, specs.Metadata.Kept.{valuesTo}}
-use Rattle.build.proofs.recording.Fewer.{joined-sum, map-same}
+use Rattle.builder.{proofs.grouping.{Meant.{item-part}, Walks.{item-among}}, specs.{Borders.{Drawn}, Entries.{boxOf, lowestOf}, Grouping.{Items.{startsFrom, itemAt}, Keys.{numbersFrom}}}}
+use Rattle.builder.specs.{Metadata.{fieldsOf}, Yards.{Text, Yard, cutBy, sumOf}, declared.boxes.Bounds.{Bounds}}
+use Rattle.build.{proofs.{Valued.{part, map-next, shift}, metadata.Begun.{cut-join}, recording.Fewer.{joined-sum, map-same}}, specs.{Entries.Corners.{cornersOf}, Metadata.Kept.{valuesTo}}}
 use Rattle.draft.proofs.held.Standing.{fields-many}
 use Rattle.draft.specs.Held.State.{Stands}
 
@@ -23,18 +16,13 @@ module _ (names : ℕ) where
   parts-are : (yards : List Yard) → every (λ y. eqb names (length (y .values))) yards ≡ true → map (part names (fieldsOf (values yards))) (numbersFrom 0 (length yards)) ≡ values yards
   unfolding every fieldsOf numbersFrom
   parts-are [] e = refl
-  parts-are (y ∷ ys) e =
-      let two = both (eqb names (length (y .values))) (every (λ y. eqb names (length (y .values))) ys) e in
-      let is : length (y .values) ≡ names = sym (eqb-true names (length (y .values)) (two .0)) in
-      let rest : List Text = fieldsOf (values ys) in
-      let none : 0 * names ≡ 0 = omega arith in
-      let n : ℕ = length ys in
+  parts-are (y ∷ ys) e = let two = both (eqb names (length (y .values))) (every (λ y. eqb names (length (y .values))) ys) e in
+      let is : length (y .values) ≡ names = sym (eqb-true names (length (y .values)) (two .0)) in let rest : List Text = fieldsOf (values ys) in
+      let none : 0 * names ≡ 0 = omega arith in let n : ℕ = length ys in
       let first : part names (y .values ++ rest) 0 ≡ y .values = ap (λ (k : ℕ). take names (drop k (y .values ++ rest))) none ∙ take-at (y .values) rest names is in
-      let more : map (part names (y .values ++ rest)) (numbersFrom 1 n) ≡ values ys =
-      map-next (part names (y .values ++ rest)) 0 n
-      ∙ (map-same (λ (k : ℕ). part names (y .values ++ rest) (suc k)) (part names rest) 0 n
-      (λ k a b. sym (shift names (y .values ++ rest) k) ∙ ap (λ (l : List Text). part names l k) (drop-at (y .values) rest names is))
-      ∙ parts-are ys (two .1)) in
+      let more : map (part names (y .values ++ rest)) (numbersFrom 1 n) ≡ values ys = map-next (part names (y .values ++ rest)) 0 n
+      ∙ (map-same (λ (k : ℕ). part names (y .values ++ rest) (suc k)) (part names rest) 0 n (λ k a b. sym (shift names (y .values ++ rest) k)
+      ∙ ap (λ (l : List Text). part names l k) (drop-at (y .values) rest names is)) ∙ parts-are ys (two .1)) in
       ap (λ (x : List Text). x ∷ map (part names (y .values ++ rest)) (numbersFrom 1 n)) first ∙ ap (λ (l : List (List Text)). y .values ∷ l) more
 
 -- ---- the lower latitudes
@@ -42,13 +30,12 @@ pub souths-from : (boxes : List ℤ) (i : ℕ) (yards : List Yard) (rest : List 
     → map (λ (yard : ℕ). getD boxes (4 * yard) (pos 0)) (numbersFrom i (length yards)) ≡ map (λ (y : Yard). lowestOf (y .lats)) yards
 unfolding numbersFrom cornersOf
 souths-from boxes i [] rest e = refl
-souths-from boxes i (y ∷ ys) rest e =
-    let box : Bounds = boxOf (y .lats) (y .lons) in
-    let none : 4 * i ≡ 4 * i + 0 = omega arith in
+souths-from boxes i (y ∷ ys) rest e = let box : Bounds = boxOf (y .lats) (y .lons) in let none : 4 * i ≡ 4 * i + 0 = omega arith in
     let four : 4 * suc i ≡ 4 * i + 4 = omega arith in
     let here : getD boxes (4 * i) (pos 0) ≡ lowestOf (y .lats) = ap (λ (n : ℕ). getD boxes n (pos 0)) none ∙ (sym (getD-drop (4 * i) boxes 0 (pos 0)) ∙ ap (λ (l : List ℤ). getD l 0 (pos 0)) e) in
     let onward : drop (4 * suc i) boxes ≡ cornersOf ys ++ rest = ap (λ (n : ℕ). drop n boxes) four ∙ (sym (drop-drop 4 (4 * i) boxes) ∙ ap (drop 4) e) in
-    ap (λ (z : ℤ). z ∷ map (λ (yard : ℕ). getD boxes (4 * yard) (pos 0)) (numbersFrom (suc i) (length ys))) here ∙ ap (λ (l : List ℤ). lowestOf (y .lats) ∷ l) (souths-from boxes (suc i) ys rest onward)
+    ap (λ (z : ℤ). z ∷ map (λ (yard : ℕ). getD boxes (4 * yard) (pos 0)) (numbersFrom (suc i) (length ys))) here ∙
+    ap (λ (l : List ℤ). lowestOf (y .lats) ∷ l) (souths-from boxes (suc i) ys rest onward)
 
 module _ (yards : List Yard) (drawn : Drawn) (names count : ℕ) (boxes : List ℤ) (borders lengths texts : List ℕ) (s : Stands yards drawn names count boxes borders lengths texts) where
   abbrev fields : List Text

@@ -1,17 +1,15 @@
 -- A builder's lists may grow between two calls: with zeros behind them it holds what it held. Assumes nothing.
-use Prim.Native.Nat.{ℕ, _+_, _-_}
-use lib.{IntN.{pos}, ListN.{length, replicate, replicate-append-replicate}}
-use mathlib.Core.{List.{List, _++_, append-assoc}, Path.{ap, _∙_}}
+use Rattle.numbers.proofs.Prelude.{ℕ, _+_, _-_, pos, length, replicate, List, _++_, append-assoc, ap, _∙_}
+use lib.ListN.{replicate-append-replicate}
 use Rattle.builder.specs.{Borders.{Drawn}, Yards.{Plan}}
 use Rattle.draft.proofs.held.Fronts.{front-made}
 use Rattle.draft.specs.{Held.{Builder.{Builder}, State.{Front, Holds, Lies, Lists, More, wider}}, declared.held.state.Held.{Held}}
 
 -- so many of an item more
 pub front-wider : {A : Type 0} (none : A) {front list : List A} (more : ℕ) → Front none front list → Front none front (list ++ replicate more none)
-front-wider none {front} {list} more f =
-    let left : ℕ = length list - length front in
-    front-made none front (list ++ replicate more none) (left + more)
-    (ap (λ (l : List _). l ++ replicate more none) (f .is) ∙ (append-assoc front (replicate left none) (replicate more none) ∙ ap (λ (l : List _). front ++ l) (replicate-append-replicate left more none)))
+front-wider none {front} {list} more f = let left : ℕ = length list - length front in
+    front-made none front (list ++ replicate more none) (left + more) (ap (λ (l : List _). l ++ replicate more none) (f .is)
+    ∙ (append-assoc front (replicate left none) (replicate more none) ∙ ap (λ (l : List _). front ++ l) (replicate-append-replicate left more none)))
 
 lies-wider : (more : More) (plan : Plan) (drawn : Drawn) (lists : Lists) → Lies plan drawn lists → Lies plan drawn (wider more lists)
 lies-wider more plan drawn lists l =

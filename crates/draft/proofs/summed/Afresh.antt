@@ -1,21 +1,13 @@
 -- What was laid out of the held yards gives their totals. Assumes nothing.
-use Prim.Native.Nat.{ℕ, _+_, _*_, _^_, _≤_, _<_}
-use borrow.Author.Tests.{eqb-false, not-true}
-use lib.{Dec.{eqb}, IntN.{ℤ}, ListN.{length, take, drop, getD}}
-use mathlib.Core.{Bool.{Bool, true, not}, List.{List, [], _++_, map, zipWith}, Path.{_≡_, sym, ap, _∙_}}
-use native.Mathlib.{Nat.{mul-comm}, Omega.{arith}}
-use Rattle.builder.proofs.Counting.{lengths-room}
-use Rattle.builder.specs.{Borders.{Drawn}, Entries.{entryOfWord, highestOf, lowestOf, tableFrom, tableOf, wordOfYard}, File.{entryOf}}
-use Rattle.builder.specs.{Metadata.{fieldsOf, layoutOf, metadataOf, recordsOf}, Sharing.{firsts, sameTexts}, Yards.{Text, Yard, sumOf}}
-use Rattle.builder.specs.inner.Drawing.Section.{spread}
-use Rattle.build.{proofs.entries.Tabled.{begins-are, table-over}, specs.Entries.Corners.{cornersOf}}
-use Rattle.builder.specs.Grouping.Keys.{numbersFrom}
-use Rattle.draft.proofs.held.Valued.{souths-from, held-all, held-boxes, held-values, held-whole}
-use Rattle.draft.specs.Held.{State.{Stands}, Totals.{totalsFor}}
-use Rattle.layout.specs.Order.{keyOf, sortedBy}
+use Rattle.numbers.proofs.Prelude.{ℕ, _+_, _*_, _^_, _≤_, _<_, not-true, eqb-false, eqb, ℤ, length, take, drop, getD, Bool, true, not, List, [], _++_, map, zipWith, _≡_, sym, ap, _∙_, mul-comm}
+use Rattle.numbers.proofs.Prelude.{arith}
+use Rattle.builder.{proofs.Counting.{lengths-room}, specs.{Borders.{Drawn}, Entries.{entryOfWord, highestOf, lowestOf, tableFrom, tableOf, wordOfYard}, File.{entryOf}, Grouping.Keys.{numbersFrom}}}
+use Rattle.builder.specs.{Metadata.{fieldsOf, layoutOf, metadataOf, recordsOf}, Sharing.{firsts, sameTexts}, Yards.{Text, Yard, sumOf}, inner.Drawing.Section.{spread}}
+use Rattle.build.{proofs.{entries.Tabled.{begins-are, table-over}, recording.{Fewer.{map-same}, Spreading.{spread-read, spread-size}, Written.{recorded-size}}}, specs.Entries.Corners.{cornersOf}}
 use Rattle.build.specs.Metadata.Kept.{beginOf, valuesTo}
-use Rattle.build.proofs.recording.{Fewer.{map-same}, Spreading.{spread-read, spread-size}, Written.{recorded-size}}
-use Rattle.draft.specs.inner.Summed.Sums.{Arranged, SumsUp, beginsOf, southsOf}
+use Rattle.draft.proofs.held.Valued.{souths-from, held-all, held-boxes, held-values, held-whole}
+use Rattle.draft.specs.{Held.{State.{Stands}, Totals.{totalsFor}}, inner.Summed.Sums.{Arranged, SumsUp, beginsOf, southsOf}}
+use Rattle.layout.specs.Order.{keyOf, sortedBy}
 use Rattle.draft.specs.declared.summed.sums.Summed.the-variants as S
 
 module _ (yards : List Yard) (drawn : Drawn) (names count : ℕ) (boxes : List ℤ) (borders lengths texts : List ℕ) (s : Stands yards drawn names count boxes borders lengths texts) where
@@ -32,14 +24,15 @@ module _ (yards : List Yard) (drawn : Drawn) (names count : ℕ) (boxes : List �
   unfolding southsOf
   held-greatest = ap (λ (n : ℕ). highestOf (southsOf boxes n)) (s .many) ∙ ap highestOf (souths-from boxes 0 yards (drop (4 * count) boxes) own-boxes)
 
-  module _ (before keys kept held words places : List ℕ) (records remote sizes bytes : ℕ) (a : Arranged names count boxes borders lengths texts before keys kept held words places records remote sizes bytes) where
+  module _ (before keys kept held words places : List ℕ) (records remote sizes bytes : ℕ)
+      (a : Arranged names count boxes borders lengths texts before keys kept held words places records remote sizes bytes) where
     pub held-table : 2 * count ≤ length before → tableFrom 0 0 (map (entryOfWord boxes places) (take count keys)) ≡ tableOf (zipWith (entryOf yards) yards (drawn .places))
     unfolding spread
     held-table room =
-        table-over yards boxes (drop (4 * count) boxes) (take count keys) (omega (arith, s .few, s .many)) own-boxes (a .order ∙ ap (λ (n : ℕ). sortedBy keyOf (map (wordOfYard boxes) (numbersFrom 0 n))) (s .many))
-        before (drawn .places) [] (map (beginOf names lengths texts count) (numbersFrom 0 count)) places (s .drawn-many) (omega (arith, room, s .many))
-        (begins-are yards names lengths texts count own-values)
-        (a .recorded .placed ∙ ap (λ (l : List ℕ). spread 0 (map (beginOf names lengths texts count) (numbersFrom 0 count)) (spread 1 l before)) (s .borders-are))
+        table-over yards boxes (drop (4 * count) boxes) (take count keys) (omega (arith, s .few, s .many)) own-boxes (a .order
+        ∙ ap (λ (n : ℕ). sortedBy keyOf (map (wordOfYard boxes) (numbersFrom 0 n))) (s .many)) before (drawn .places) [] (map (beginOf names lengths texts count)
+        (numbersFrom 0 count)) places (s .drawn-many) (omega (arith, room, s .many)) (begins-are yards names lengths texts count own-values) (a .recorded .placed
+        ∙ ap (λ (l : List ℕ). spread 0 (map (beginOf names lengths texts count) (numbersFrom 0 count)) (spread 1 l before)) (s .borders-are))
 
     pub held-metadata : length (metadataOf (recordsOf yards)) ≡ records + remote
     held-metadata =
@@ -50,23 +43,18 @@ module _ (yards : List Yard) (drawn : Drawn) (names count : ℕ) (boxes : List �
     held-records = a .recorded .records-are ∙ ap (λ (vs : List (List Text)). layoutOf (fieldsOf (firsts sameTexts vs))) (sym own-values)
 
     held-begins : 2 * count ≤ length before → map (λ (yard : ℕ). getD places (2 * yard) 0) (numbersFrom 0 (length yards)) ≡ beginsOf yards
-    held-begins room =
-        let begin : ℕ → ℕ = beginOf names lengths texts count in
-        let first : List ℕ = spread 1 (take count borders) before in
+    held-begins room = let begin : ℕ → ℕ = beginOf names lengths texts count in let first : List ℕ = spread 1 (take count borders) before in
         let wide : 2 * count ≤ length first = omega (arith, room, spread-size 1 (take count borders) before) in
-        ap (λ (n : ℕ). map (λ (yard : ℕ). getD places (2 * yard) 0) (numbersFrom 0 n)) (sym (s .many))
-        ∙ (map-same (λ (yard : ℕ). getD places (2 * yard) 0) begin 0 count
-        (λ yard least most. ap (λ (l : List ℕ). getD l (2 * yard) 0) (a .recorded .placed) ∙ spread-read begin count first yard (omega (arith, most)) wide)
+        ap (λ (n : ℕ). map (λ (yard : ℕ). getD places (2 * yard) 0) (numbersFrom 0 n)) (sym (s .many)) ∙ (map-same (λ (yard : ℕ). getD places (2 * yard) 0)
+        begin 0 count (λ yard least most. ap (λ (l : List ℕ). getD l (2 * yard) 0) (a .recorded .placed) ∙ spread-read begin count first yard (omega (arith, most)) wide)
         ∙ begins-are yards names lengths texts count own-values)
 
     pub sums-are : 2 * count ≤ length before → (table metadata : ℕ) (greatest : ℤ) (laid : ℕ) → table ≡ length (tableFrom 0 0 (map (entryOfWord boxes places) (take count keys)))
         → metadata ≡ records + remote → greatest ≡ highestOf (southsOf boxes count) → laid ≡ records
         → SumsUp yards drawn places (S.Sums (record { table = table; metadata = metadata; greatest = greatest; records = laid }))
     unfolding totalsFor
-    sums-are room table metadata greatest laid et em eg el =
-        let whole : ℕ = length (tableOf (zipWith (entryOf yards) yards (drawn .places))) in
-        let texts-too : ℕ = length (metadataOf (recordsOf yards)) in
-        record {
+    sums-are room table metadata greatest laid et em eg el = let whole : ℕ = length (tableOf (zipWith (entryOf yards) yards (drawn .places))) in
+        let texts-too : ℕ = length (metadataOf (recordsOf yards)) in record {
           sums =
               ap (λ (n : ℕ). S.Sums (record { table = n; metadata = metadata; greatest = greatest; records = laid })) (et ∙ ap length (held-table room))
               ∙ (ap (λ (n : ℕ). S.Sums (record { table = whole; metadata = n; greatest = greatest; records = laid })) (em ∙ sym held-metadata)

@@ -1,30 +1,22 @@
 -- The end of a builder: each way out of it, and how it is settled. Assumes nothing.
-use Prim.Native.Nat.{ℕ, _≤_, _<_}
-use borrow.Author.Tests.{le-ltb, lt-ltb, not-false, not-true}
-use lib.{Dec.{leb}, IntN.{ℤ}, ListN.{length}}
-use mathlib.Core.{Bool.{Bool, true, false, not, _&&_}, List.{List, []}, Path.{_≡_, refl, sym, ap, subst, _∙_}}
-use native.Mathlib.Omega.{arith}
+use Rattle.numbers.proofs.Prelude.{ℕ, _≤_, _<_, lt-ltb, le-ltb, not-false, not-true, leb, ℤ, length, Bool, true, false, _&&_, not, List, [], _≡_, refl, sym, ap, subst, _∙_, arith}
+use Rattle.numbers.specs.{Lists.{zeros}, Reply.{Reply, given, refused, plain, demand, _>>_}, declared.refusal.Refusal.{Refusal}}
 use Rattle.writer.specs.inner.Stored.{Stored}
 use Rattle.builder.specs.{File.{fileOf, headOf, upTo}, Yards.{Plan}}
-use Rattle.build.proofs.Ending.{long-fills, settled-fits, short-fills, whole-fills}
-use Rattle.build.specs.{Room.{workOf}, inner.Whole.{Fills, Settles, endsAs}, declared.file.Built.{Built}}
-use Rattle.build.specs.declared.file.Built.the-variants as W
-use Rattle.draft.proofs.held.{Standing.{held-yards, holds-standing}, Stood.{stood, work-enough}, Sums.{size-is}}
+use Rattle.build.{proofs.Ending.{long-fills, settled-fits, short-fills, whole-fills}, specs.{Room.{workOf}, declared.file.Built.{Built}, inner.Whole.{Fills, Settles, endsAs}}}
+use Rattle.draft.proofs.{held.{Standing.{held-yards, holds-standing}, Stood.{stood, work-enough}, Sums.{size-is}}, summed.Wholes.{holds-whole}}
 use Rattle.draft.specs.Held.{Builder.{Builder, finish}, Space.{Space, longEnough, roomsOf, standing}, State.{Holds, Idle, Lists, listsAs}, Totals.{dataOf, fileSize, totalsOf}}
-use Rattle.draft.specs.declared.held.{room.Rooms.{Rooms}, state.Held.{Held}}
-use Rattle.numbers.specs.{Lists.{zeros}, Reply.{Reply, given, refused, plain, demand, _>>_}, declared.refusal.Refusal.{Refusal}}
-use Rattle.draft.proofs.summed.Wholes.{holds-whole}
-use Rattle.draft.specs.Summed.Ends.{Finishes, Putting, Texts, spaceOf, textsWhole}
+use Rattle.draft.specs.{Summed.Ends.{Finishes, Putting, Texts, spaceOf, textsWhole}, declared.held.{room.Rooms.{Rooms}, state.Held.{Held}}}
+use Rattle.build.specs.declared.file.Built.the-variants as W
 
 differ : (b : Bool) → b ≡ true → b ≡ false → ⊥
-differ b t f = let z : _≡_ {A = Bool} true false = sym t ∙ f in clash z
-  where
-    flag : Bool → ℕ
-    flag true = 1
-    flag false = 0
+differ b t f = let z : _≡_ {A = Bool} true false = sym t ∙ f in clash z where
+  flag : Bool → ℕ
+  flag true = 1
+  flag false = 0
 
-    clash : _≡_ {A = Bool} true false → ⊥
-    clash e = let z : _≡_ {A = ℕ} 1 0 = ap flag e in omega (arith, z)
+  clash : _≡_ {A = Bool} true false → ⊥
+  clash e = let z : _≡_ {A = ℕ} 1 0 = ap flag e in omega (arith, z)
 
 -- ---- the end as the last steps of a build
 module _ (b : Builder) (held : Held) (lists : Lists) (h : Holds b held lists) (out : ℕ) (space : Space) where
@@ -79,8 +71,10 @@ module _ (held : Held) (boxes : List ℤ) (borders lengths texts bytes : List �
 
     module _ (some : held .yards ≡ 0 → ⊥) (w : Bool) (ew : w ≡ longEnough rooms (held .names) (held .yards) (held .front) (held .strings)) where
       said : (after : List ℕ) (r : Built) → ((b : Builder) → Holds b held lists → Fills (endsAs (spaceOf held rooms .lists) out (fileOf (b .plan) (dataOf (b .plan)))) out after r) → Said after r
-      said after r fills =
-          (λ b h. subst (λ (reply : Reply (List ℕ)). Fills reply out after r) (sym (finish-some b held lists h out (spaceOf held rooms) some)) (fills b h), λ f. absurd (differ (standing held rooms) good f))
+      said after r fills = (
+        λ b h. subst (λ (reply : Reply (List ℕ)). Fills reply out after r) (sym (finish-some b held lists h out (spaceOf held rooms) some)) (fills b h),
+        λ f. absurd (differ (standing held rooms) good f),
+      )
 
       pub no-space : not w ≡ true → (after : List ℕ) (r : Built) → r ≡ W.Refused (plain 28) → Said after r
       no-space nw after r er = said after r (λ b h. short-fills (spaceOf held rooms .lists) out (fileOf (b .plan) (dataOf (b .plan))) after (sym ew ∙ not-true w nw) r er)
@@ -92,18 +86,17 @@ module _ (held : Held) (boxes : List ℤ) (borders lengths texts bytes : List �
         pub not-whole : (v : Bool) → v ≡ textsWhole held lengths → not v ≡ true → (after : List ℕ) (r : Built) → r ≡ W.Refused (plain 28) → Said after r
         not-whole v ev nv after r er = said after r (λ b h. absurd (differ (textsWhole held lengths) (holds-whole b held lists h) (sym ev ∙ not-true v nv)))
 
-        pub putting : (v : Bool) → v ≡ textsWhole held lengths → not v ≡ false → Putting held lengths (length texts) (length borders) (length bytes) (workOf starts keys spare kept store words places (length boxes))
-        putting v ev nv =
-            let s = stood held rooms good in
-            record {
-              fits = texts-asked;
-              whole = sym ev ∙ not-false v nv;
-              strings = s .own .texts-room;
-              bordered = s .own .borders-room;
-              data-in = s .bytes-room;
-              data-few = s .few-bytes;
-              room = work-enough rooms (held .names) (held .yards) (held .front) (held .strings) enough-space;
-            }
+        pub putting : (v : Bool) → v ≡ textsWhole held lengths → not v ≡ false →
+            Putting held lengths (length texts) (length borders) (length bytes) (workOf starts keys spare kept store words places (length boxes))
+        putting v ev nv = let s = stood held rooms good in record {
+          fits = texts-asked;
+          whole = sym ev ∙ not-false v nv;
+          strings = s .own .texts-room;
+          bordered = s .own .borders-room;
+          data-in = s .bytes-room;
+          data-few = s .few-bytes;
+          room = work-enough rooms (held .names) (held .yards) (held .front) (held .strings) enough-space;
+        }
 
         module _ (after : List ℕ) (end : ℕ) (s : (b : Builder) → Holds b held lists → Stored (zeros out) 0 (fileOf (b .plan) (dataOf (b .plan))) after end) where
           pub too-long : upTo out < end → (r : Built) → r ≡ W.Refused (plain 28) → Said after r
@@ -116,7 +109,8 @@ module _ (held : Held) (boxes : List ℤ) (borders lengths texts bytes : List �
 never-length : (n : ℕ) (why : Refusal) → _≡_ {A = Built} (W.Length n) (W.Refused why) → ⊥
 never-length n why e = let z : _≡_ {A = ℕ} 0 1 = cc in omega (arith, z)
 
-pub settled-ends : (reply : Reply (List ℕ)) (room : ℕ) (before after : List ℕ) (built r : Built) → length before ≡ room → Fills reply room before built → Settles built before after r → Finishes reply room after r
+pub settled-ends : (reply : Reply (List ℕ)) (room : ℕ) (before after : List ℕ) (built r : Built) → length before ≡ room → Fills reply room before built → Settles built before after r →
+    Finishes reply room after r
 unfolding Finishes
 settled-ends reply room before after built r size f s = settled-fits reply room before after built r size f s
 

@@ -1,13 +1,7 @@
 -- Whether a file of these sizes fits. Assumes nothing.
-use Prim.Native.Nat.{ℕ, _+_, _^_, _<_}
-use borrow.Author.Tests.{lt-leb}
-use lib.{Dec.{leb}, ListN.{length}}
-use mathlib.Core.{Bool.{false}, Path.{_≡_, sym, ap, _∙_}}
-use native.Mathlib.Omega.{arith}
+use Rattle.numbers.{proofs.Prelude.{ℕ, _+_, _^_, _<_, lt-leb, leb, length, false, _≡_, sym, ap, _∙_, arith}, specs.Spelling.{varintOf}}
 use Rattle.builder.specs.File.{upTo}
-use Rattle.draft.specs.Held.Totals.{fileSize}
-use Rattle.numbers.specs.Spelling.{varintOf}
-use Rattle.draft.specs.inner.Summed.Sums.{sized}
+use Rattle.draft.specs.{Held.Totals.{fileSize}, inner.Summed.Sums.{sized}}
 
 module _ (head table metadata bytes room : ℕ) where
   over : 2 ^ 30 < fileSize head (sized table metadata bytes) → false ≡ leb (fileSize head (sized table metadata bytes)) (upTo room)
@@ -45,5 +39,6 @@ module _ (head table metadata bytes room : ℕ) where
       → leb (head + (a + b + c) + table + metadata + bytes) most ≡ leb (fileSize head (sized table metadata bytes)) (upTo room)
   unfolding fileSize
   size-adds a b c ea eb ec most em =
-      let s : head + (a + b + c) + table + metadata + bytes ≡ head + (length (varintOf table) + (length (varintOf metadata) + (length (varintOf bytes) + (table + (metadata + bytes))))) = omega (arith, ea, eb, ec) in
+      let s : head + (a + b + c) + table + metadata + bytes ≡ head + (length (varintOf table) + (length (varintOf metadata) + (length (varintOf bytes) + (table + (metadata + bytes))))) =
+      omega (arith, ea, eb, ec) in
       ap (λ (n : ℕ). leb n most) s ∙ ap (leb (head + (length (varintOf table) + (length (varintOf metadata) + (length (varintOf bytes) + (table + (metadata + bytes))))))) em

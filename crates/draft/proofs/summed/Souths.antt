@@ -1,11 +1,8 @@
 -- The lower latitudes of the yards, of their boxes. Assumes nothing.
-use Prim.Native.Nat.{ℕ, zero, suc, _+_, _*_, _≤_, _<_}
-use lib.{IntN.{ℤ, pos}, ListN.{length, getD, length-map}, Signed.{ltZ}}
-use mathlib.Core.{Bool.{true, false}, List.{List, map}, Path.{_≡_, refl, sym, ap, subst, _∙_}}
-use mir.{Facts.{toZ-ofZ}, Syntax.{w32}, Val.{SFits, toZ, ofZ}}
-use native.Mathlib.Omega.{arith}
-use Rattle.builder.{proofs.Bests.{Choosing, highest-none, highest-starts, read-back, choose-goes, choose-ends}, specs.Entries.{greater, highestOf}}
-use Rattle.builder.{proofs.grouping.Listed.{numbers-many}, specs.Grouping.Keys.{numbersFrom}}
+use Rattle.numbers.proofs.Prelude.{ℕ, zero, suc, _+_, _*_, _≤_, _<_, ℤ, pos, length, getD, length-map, ltZ, true, false, List, map, _≡_, refl, sym, ap, subst, _∙_, w32, SFits, ofZ, toZ, arith}
+use mir.Facts.{toZ-ofZ}
+use Rattle.builder.{proofs.{Bests.{Choosing, highest-none, highest-starts, read-back, choose-goes, choose-ends}, grouping.Listed.{numbers-many}}, specs.Entries.{greater, highestOf}}
+use Rattle.builder.specs.Grouping.Keys.{numbersFrom}
 use Rattle.draft.specs.inner.Summed.Sums.{southsOf}
 
 abbrev southAt : List ℤ → ℕ → ℤ
@@ -35,31 +32,26 @@ module _ (boxes : List ℤ) (count : ℕ) where
   none-greatest e = highest-none (southsOf boxes count) (souths-many boxes count ∙ e)
 
   pub seek-starts : (count ≡ 0 → ⊥) → SFits w32 (getD boxes 0 (pos 0)) → Seeking (toZ w32 (ofZ w32 (getD boxes 0 (pos 0)))) 1
-  seek-starts some h =
-      let first : getD boxes 0 (pos 0) ≡ getD (southsOf boxes count) 0 (pos 0) = south-at boxes count 0 (more some) in
+  seek-starts some h = let first : getD boxes 0 (pos 0) ≡ getD (southsOf boxes count) 0 (pos 0) = south-at boxes count 0 (more some) in
       read-back greater (highestOf (southsOf boxes count)) (southsOf boxes count) (getD boxes 0 (pos 0)) 1 h
-      (subst (λ (z : ℤ). Seeking z 1) (sym first) (highest-starts (southsOf boxes count) (λ e. some (sym (souths-many boxes count) ∙ e))))
-    where
-      more : (count ≡ 0 → ⊥) → 0 < count
-      more some = omega (arith, some)
+      (subst (λ (z : ℤ). Seeking z 1) (sym first) (highest-starts (southsOf boxes count) (λ e. some (sym (souths-many boxes count) ∙ e)))) where
+        more : (count ≡ 0 → ⊥) → 0 < count
+        more some = omega (arith, some)
 
   module _ (so : ℤ) (yard : ℕ) (s : Seeking so yard) where
     pub seek-goes : yard < count → (later : ℤ) → later ≡ greater so (getD boxes (4 * yard) (pos 0)) → Seeking later (yard + 1)
     seek-goes h later e =
         choose-goes greater (highestOf (southsOf boxes count)) (southsOf boxes count) so yard s (omega (arith, h, souths-many boxes count)) later (e ∙ ap (greater so) (south-at boxes count yard h))
 
-    pub seek-up : yard < count → SFits w32 (getD boxes (4 * yard) (pos 0)) → ltZ so (toZ w32 (ofZ w32 (getD boxes (4 * yard) (pos 0)))) ≡ true → Seeking (toZ w32 (ofZ w32 (getD boxes (4 * yard) (pos 0)))) (yard + 1)
+    pub seek-up : yard < count → SFits w32 (getD boxes (4 * yard) (pos 0)) → ltZ so (toZ w32 (ofZ w32 (getD boxes (4 * yard) (pos 0)))) ≡ true →
+        Seeking (toZ w32 (ofZ w32 (getD boxes (4 * yard) (pos 0)))) (yard + 1)
     unfolding greater
-    seek-up h k e =
-        let south : ℤ = getD boxes (4 * yard) (pos 0) in
-        let f : ltZ so (getD boxes (4 * yard) (pos 0)) ≡ true = ap (ltZ so) (sym (toZ-ofZ k)) ∙ e in
-        seek-goes h (toZ w32 (ofZ w32 south)) (rw f (toZ-ofZ k))
+    seek-up h k e = let south : ℤ = getD boxes (4 * yard) (pos 0) in
+        let f : ltZ so (getD boxes (4 * yard) (pos 0)) ≡ true = ap (ltZ so) (sym (toZ-ofZ k)) ∙ e in seek-goes h (toZ w32 (ofZ w32 south)) (rw f (toZ-ofZ k))
 
     pub seek-on : yard < count → SFits w32 (getD boxes (4 * yard) (pos 0)) → ltZ so (toZ w32 (ofZ w32 (getD boxes (4 * yard) (pos 0)))) ≡ false → Seeking so (yard + 1)
     unfolding greater
-    seek-on h k e =
-        let f : ltZ so (getD boxes (4 * yard) (pos 0)) ≡ false = ap (ltZ so) (sym (toZ-ofZ k)) ∙ e in
-        seek-goes h so (rw f refl)
+    seek-on h k e = let f : ltZ so (getD boxes (4 * yard) (pos 0)) ≡ false = ap (ltZ so) (sym (toZ-ofZ k)) ∙ e in seek-goes h so (rw f refl)
 
     pub seek-ends : count ≤ yard → so ≡ highestOf (southsOf boxes count)
     seek-ends h = choose-ends greater (highestOf (southsOf boxes count)) (southsOf boxes count) so yard s (omega (arith, h, souths-many boxes count))

@@ -1,14 +1,8 @@
 -- Borders' places at every second place, and the yards in the order of the table. Assumes nothing.
-use Prim.Native.Nat.{ℕ, suc, _+_, _*_, _≤_, _<_}
-use borrow.Author.Tests.{le-leb}
-use lib.{IntN.{ℤ}, ListN.{length, drop, getD, set, length-set, length-map}, Seq.{drop-cons, drop-length}}
-use mathlib.Core.{Bool.{Bool, true}, List.{List, map}, Path.{_≡_, refl, sym, ap, _∙_}}
-use native.Mathlib.{Numerals.{add-one}, Omega.{arith}}
-use Rattle.builder.specs.Entries.{wordOfYard}
-use Rattle.builder.specs.inner.Drawing.Section.{spread}
-use Rattle.builder.{proofs.grouping.Listed.{numbers-many}, specs.Grouping.Keys.{numbersFrom}}
-use Rattle.layout.specs.{inner.Answers.{Sorted}, Order.{keyOf, sortedBy}}
-use Rattle.numbers.specs.Answer.{if_then_else_}
+use Rattle.numbers.proofs.Prelude.{ℕ, suc, _+_, _*_, _≤_, _<_, le-leb, ℤ, length, drop, getD, set, length-map, length-set, drop-cons, drop-length, Bool, true, List, map, _≡_, refl, sym, ap, _∙_}
+use Rattle.numbers.{proofs.Prelude.{add-one, arith}, specs.Answer.{if_then_else_}}
+use Rattle.builder.{proofs.grouping.Listed.{numbers-many}, specs.{Entries.{wordOfYard}, Grouping.Keys.{numbersFrom}, inner.Drawing.Section.{spread}}}
+use Rattle.layout.specs.{Order.{keyOf, sortedBy}, inner.Answers.{Sorted}}
 
 -- the loop's invariant
 pub record Spreading (borders before places : List ℕ) (i : ℕ) : Type 0 where
@@ -25,9 +19,7 @@ module _ (borders before places : List ℕ) (i : ℕ) (s : Spreading borders bef
 
   pub spread-goes : i < length borders → Spreading borders before (set places (2 * i + 1) (getD borders i 0)) (i + 1)
   unfolding spread
-  spread-goes h =
-      let next : 2 * suc i + 1 ≡ 2 * i + 1 + 2 = omega arith in
-      let n : ℕ = getD borders i 0 in
+  spread-goes h = let next : 2 * suc i + 1 ≡ 2 * i + 1 + 2 = omega arith in let n : ℕ = getD borders i 0 in
       rw (add-one i) (record {
         index = omega (arith, h);
         size = length-set places (2 * i + 1) n ∙ s .size;
@@ -36,8 +28,7 @@ module _ (borders before places : List ℕ) (i : ℕ) (s : Spreading borders bef
 
   pub spread-ends : length borders ≤ i → places ≡ spread 1 borders before
   unfolding spread
-  spread-ends h =
-      let e : i ≡ length borders = omega (arith, s .index, h) in
+  spread-ends h = let e : i ≡ length borders = omega (arith, s .index, h) in
       sym (ap (λ (l : List ℕ). spread (2 * i + 1) l places) (ap (λ (k : ℕ). drop k borders) e ∙ drop-length borders)) ∙ s .same
 
 -- the yards' words, sorted

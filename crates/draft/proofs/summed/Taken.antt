@@ -1,10 +1,6 @@
 -- Lengths taken away from a sum, one by one. Assumes nothing.
-use Prim.Native.Nat.{ℕ, suc, _+_, _-_, _≤_, _<_}
-use borrow.Author.Tests.{eq-eqb, ne-eqb, eqb-true, eqb-false}
-use lib.{Dec.{eqb}, ListN.{length, drop, getD}, Seq.{drop-cons, drop-length}}
-use mathlib.Core.{Bool.{Bool, true, false}, List.{List}, Path.{_≡_, refl, sym, ap, _∙_}}
-use native.Mathlib.{Numerals.{add-one}, Omega.{arith}}
-use Rattle.builder.specs.Yards.{sumOf}
+use Rattle.numbers.proofs.Prelude.{ℕ, _+_, _-_, _≤_, _<_, eq-eqb, ne-eqb, eqb-true, eqb-false, eqb, length, drop, getD, drop-length, Bool, true, false, List, _≡_, refl, sym, ap, _∙_, add-one, arith}
+use Rattle.builder.{proofs.Sums.{sum-next}, specs.Yards.{sumOf}}
 
 -- the loop's invariant
 pub record Taking (lengths : List ℕ) (sum left i : ℕ) : Type 0 where
@@ -16,23 +12,16 @@ take-starts lengths sum = record { index = omega arith; same = omega arith }
 
 module _ (lengths : List ℕ) (sum left i : ℕ) (t : Taking lengths sum left i) where
   module _ (more : i < length lengths) where
-    next : sumOf (drop i lengths) ≡ getD lengths i 0 + sumOf (drop (suc i) lengths)
-    unfolding sumOf
-    next = ap sumOf (drop-cons lengths i 0 more)
-
     pub take-goes : getD lengths i 0 ≤ left → Taking lengths sum (left - getD lengths i 0) (i + 1)
-    take-goes h = rw (add-one i) (record { index = omega (arith, more); same = omega (arith, h, next, t .same) })
+    take-goes h = rw (add-one i) (record { index = omega (arith, more); same = omega (arith, h, sum-next lengths i more, t .same) })
 
     pub take-stops : left < getD lengths i 0 → false ≡ eqb (sumOf lengths) sum
-    take-stops h = sym (ne-eqb (sumOf lengths) sum (λ e. omega (arith, h, next, t .same, e)))
+    take-stops h = sym (ne-eqb (sumOf lengths) sum (λ e. omega (arith, h, sum-next lengths i more, t .same, e)))
 
   pub take-ends : length lengths ≤ i → eqb left 0 ≡ eqb (sumOf lengths) sum
   unfolding sumOf
-  take-ends h =
-      let e : i ≡ length lengths = omega (arith, t .index, h) in
-      let none : sumOf (drop i lengths) ≡ 0 = ap sumOf (ap (λ (k : ℕ). drop k lengths) e ∙ drop-length lengths) in
-      go (eqb left 0) refl none
-    where
-      go : (b : Bool) → eqb left 0 ≡ b → sumOf (drop i lengths) ≡ 0 → b ≡ eqb (sumOf lengths) sum
-      go true f none = sym (eq-eqb (sumOf lengths) sum (omega (arith, eqb-true left 0 f, none, t .same)))
-      go false f none = sym (ne-eqb (sumOf lengths) sum (λ e. eqb-false left 0 f (omega (arith, none, t .same, e))))
+  take-ends h = let e : i ≡ length lengths = omega (arith, t .index, h) in
+      let none : sumOf (drop i lengths) ≡ 0 = ap sumOf (ap (λ (k : ℕ). drop k lengths) e ∙ drop-length lengths) in go (eqb left 0) refl none where
+        go : (b : Bool) → eqb left 0 ≡ b → sumOf (drop i lengths) ≡ 0 → b ≡ eqb (sumOf lengths) sum
+        go true f none = sym (eq-eqb (sumOf lengths) sum (omega (arith, eqb-true left 0 f, none, t .same)))
+        go false f none = sym (ne-eqb (sumOf lengths) sum (λ e. eqb-false left 0 f (omega (arith, none, t .same, e))))

@@ -1,20 +1,12 @@
 -- The lengths of a builder's texts, tested against the texts. Assumes nothing.
-use Prim.Native.Nat.{ℕ, _+_, _-_, _*_, _^_, _≤_, _<_}
-use borrow.Author.Tests.{eq-eqb, eqb-true, le-leb, leb-true, lt-leb, not-false, not-true}
-use lib.{Dec.{eqb, leb}, ListN.{length, take, drop, length-drop, length-map}, Seq.{length-take-le}}
-use mathlib.Core.{Bool.{Bool, true, false, not, _&&_}, List.{List, _++_, map}, Path.{_≡_, refl, sym, ap, subst, _∙_}}
-use native.Mathlib.Omega.{arith}
+use Rattle.numbers.proofs.Prelude.{ℕ, _+_, _-_, _*_, _^_, _≤_, _<_, eq-eqb, le-leb, leb-true, not-false, lt-leb, not-true, eqb-true, eqb, leb, length, take, drop, length-drop, length-map}
+use Rattle.numbers.proofs.{Prelude.{length-take-le, Bool, true, false, _&&_, not, List, _++_, map, _≡_, refl, sym, ap, subst, _∙_, arith}, Tests.{both}}
 use Rattle.writer.specs.Writer.{every}
 use Rattle.builder.specs.{File.{isText}, Yards.{Text, Plan, cutBy, sumOf}}
-use Rattle.numbers.proofs.Tests.{both}
-use Rattle.build.proofs.Slices.{texts-few}
-use Rattle.draft.proofs.held.{Everyone.{every-more}, Fronts.{front-of-more}, Valued.{held-whole}}
-use Rattle.draft.proofs.held.Standing.{few-names, front-first, front-many, held-front, held-names, holds-stands, lengths-split, names-few, readable-parts, strings-inside, texts-split}
-use Rattle.draft.specs.{Held.{Builder.{Builder}, State.{Front, Holds, Lists, frontOf, valuesOf}, Totals.{dataOf}}, declared.held.state.Held.{Held}}
-use Rattle.build.{proofs.metadata.Begun.{cut-join}, specs.Metadata.Kept.{joined}}
-use Rattle.build.proofs.recording.Fewer.{joined-sum}
-use Rattle.draft.proofs.summed.Afresh.{held-small}
-use Rattle.draft.specs.Summed.Ends.{Texts, textsWhole}
+use Rattle.build.{proofs.{Slices.{texts-few}, metadata.Begun.{cut-join}, recording.Fewer.{joined-sum}}, specs.Metadata.Kept.{joined}}
+use Rattle.draft.proofs.held.{Everyone.{every-more}, Fronts.{front-of-more}, Standing.{few-names, front-first, front-many, held-front, held-names, holds-stands, lengths-split, names-few}}
+use Rattle.draft.proofs.{held.{Standing.{readable-parts, strings-inside, texts-split}, Valued.{held-whole}}, summed.Afresh.{held-small}}
+use Rattle.draft.specs.{Held.{Builder.{Builder}, State.{Front, Holds, Lists, frontOf, valuesOf}, Totals.{dataOf}}, Summed.Ends.{Texts, textsWhole}, declared.held.state.Held.{Held}}
 
 module _ (held : Held) (lengths : List ℕ) where
   abbrev front : Bool
@@ -39,10 +31,7 @@ module _ (held : Held) (lengths : List ℕ) where
   module _ (w : textsWhole held lengths ≡ true) where
     told : (leb (held .strings) (2 ^ 29) ≡ true) × (front ≡ true) × (values ≡ true)
     unfolding textsWhole
-    told =
-        let one = both (leb (held .strings) (2 ^ 29)) (front && values) w in
-        let two = both front values (one .1) in
-        (one .0, two .0, two .1)
+    told = let one = both (leb (held .strings) (2 ^ 29)) (front && values) w in let two = both front values (one .1) in (one .0, two .0, two .1)
 
     pub strings-small : held .strings ≤ 2 ^ 29
     strings-small = leb-true (held .strings) (2 ^ 29) (told .0)
@@ -52,9 +41,6 @@ module _ (held : Held) (lengths : List ℕ) where
 
     pub values-sum : sumOf (take (held .names + 1 + held .names * held .yards - (held .names + 1)) (drop (held .names + 1) lengths)) ≡ held .strings - held .front
     values-sum = eqb-true (sumOf (take (held .names + 1 + held .names * held .yards - (held .names + 1)) (drop (held .names + 1) lengths))) (held .strings - held .front) (told .2)
-
-  pub slice-order : held .names + 1 ≤ held .names + 1 + held .names * held .yards
-  slice-order = omega arith
 
   pub slice-inside : Texts held (length lengths) → held .names + 1 ≤ length lengths
   slice-inside t = omega (arith, t .all)
@@ -73,25 +59,26 @@ module _ (b : Builder) (held : Held) (lists : Lists) (h : Holds b held lists) wh
   -- the names and the notice
   pub front-lengths : take (held .names + 1) (lists .lengths) ≡ map length (frontOf (b .plan))
   front-lengths =
-      let lies : Front 0 (map length (frontOf plan) ++ map length (valuesOf plan)) (lists .lengths) = subst (λ (l : List ℕ). Front 0 l (lists .lengths)) (lengths-split plan (b .room) (h .sound)) (h .lies .lengths-are) in
+      let lies : Front 0 (map length (frontOf plan) ++ map length (valuesOf plan)) (lists .lengths) =
+      subst (λ (l : List ℕ). Front 0 l (lists .lengths)) (lengths-split plan (b .room) (h .sound)) (h .lies .lengths-are) in
       let size : held .names + 1 ≡ length (map length (frontOf plan)) = omega (arith, held-names b held lists h, length-map (frontOf plan) length, front-many plan (b .room) (h .sound)) in
       ap (λ (n : ℕ). take n (lists .lengths)) size ∙ front-of-more 0 (map length (frontOf plan)) (map length (valuesOf plan)) lies
 
   pub front-texts : take (held .front) (lists .texts) ≡ joined (frontOf (b .plan))
   front-texts =
-      let lies : Front 0 (joined (frontOf plan) ++ joined (valuesOf plan)) (lists .texts) = subst (λ (l : List ℕ). Front 0 l (lists .texts)) (texts-split plan (b .room) (h .sound)) (h .lies .texts-are) in
+      let lies : Front 0 (joined (frontOf plan) ++ joined (valuesOf plan)) (lists .texts) =
+      subst (λ (l : List ℕ). Front 0 l (lists .texts)) (texts-split plan (b .room) (h .sound)) (h .lies .texts-are) in
       ap (λ (n : ℕ). take n (lists .texts)) (held-front b held lists h) ∙ front-of-more 0 (joined (frontOf plan)) (joined (valuesOf plan)) lies
 
   front-short : sumOf (map length (frontOf (b .plan))) ≤ 65280
-  front-short =
-      let fs : List Text = frontOf plan in
-      let parts = readable-parts plan (h .sound .texts) in
+  front-short = let fs : List Text = frontOf plan in let parts = readable-parts plan (h .sound .texts) in
       let texts : every isText (cutBy (map length fs) (joined fs)) ≡ true = ap (every isText) (cut-join fs) ∙ (every-more isText (plan .names) (plan .notice) (parts .1 .0) ∙ parts .1 .1 .0) in
       let few = texts-few (map length fs) (joined fs) (omega (arith, joined-sum fs)) texts in
       omega (arith, few, length-map fs length, front-many plan (b .room) (h .sound), names-few plan (b .room) (h .sound))
 
   values-size : length (take (held .strings - held .front) (drop (held .front) (lists .texts))) ≡ held .strings - held .front
-  values-size = length-take-le (held .strings - held .front) (drop (held .front) (lists .texts)) (omega (arith, length-drop (held .front) (lists .texts), strings-inside b held lists h, front-first b held lists h))
+  values-size = length-take-le (held .strings - held .front) (drop (held .front) (lists .texts))
+      (omega (arith, length-drop (held .front) (lists .texts), strings-inside b held lists h, front-first b held lists h))
 
   pub holds-whole : textsWhole held (lists .lengths) ≡ true
   holds-whole =
@@ -101,6 +88,15 @@ module _ (b : Builder) (held : Held) (lists : Lists) (h : Holds b held lists) wh
       let first : sumOf (take (held .names + 1) (lists .lengths)) ≡ held .front = ap sumOf front-lengths ∙ (sym (joined-sum (frontOf plan)) ∙ sym (held-front b held lists h)) in
       let second : sumOf (take (held .names + 1 + held .names * held .yards - (held .names + 1)) (drop (held .names + 1) (lists .lengths))) ≡ held .strings - held .front =
       sym (held-whole (plan .yards) (dataOf plan) (held .names) (held .yards) (lists .boxes) (lists .borders) ls ts s) ∙ values-size in
-      let short : held .strings ≤ 536870912 = omega (arith, first, ap sumOf front-lengths, front-short, front-first b held lists h, values-size, held-small (plan .yards) (dataOf plan) (held .names) (held .yards) (lists .boxes) (lists .borders) ls ts s (few-names b held lists h)) in
+      let short : held .strings ≤ 536870912 =
+      omega (
+        arith,
+        first,
+        ap sumOf front-lengths,
+        front-short,
+        front-first b held lists h,
+        values-size,
+        held-small (plan .yards) (dataOf plan) (held .names) (held .yards) (lists .boxes) (lists .borders) ls ts s (few-names b held lists h),
+      ) in
       sym (front-then held (lists .lengths) short true (sym (eq-eqb (sumOf (take (held .names + 1) (lists .lengths))) (held .front) first)) refl true
       (sym (eq-eqb (sumOf (take (held .names + 1 + held .names * held .yards - (held .names + 1)) (drop (held .names + 1) (lists .lengths)))) (held .strings - held .front) second)))

@@ -1,10 +1,7 @@
 -- A builder, and what its calls do: document 02, Q-5. A call that is refused changes nothing: it gives no other builder.
-use Prim.Native.Nat.{ℕ, zero, suc, _-_, min}
-use lib.{Dec.{ltb, leb, eqb}, IntN.{ℤ}, ListN.{length, take}}
-use mathlib.Core.{Bool.{false, _&&_}, List.{List, [], _∷_, _++_}}
+use Rattle.numbers.specs.{Prelude.{ℕ, zero, suc, _-_, min, eqb, ltb, leb, ℤ, length, take, false, _&&_, List, [], _∷_, _++_}, Reply.{Reply, given, plain, demand, _>>=_, _>>_}}
 use Rattle.writer.specs.{Pieces.{piecesOf}, Writer.{checks}}
 use Rattle.builder.specs.{Borders.{withBorder}, File.{areTexts, fileOf, headOf, isText, known, readable, upTo}, Yards.{Text, Yard, Plan, cutBy, sumOf}}
-use Rattle.numbers.specs.Reply.{Reply, given, plain, demand, _>>=_, _>>_}
 use Rattle.draft.specs.Held.{Space.{Space}, Totals.{Totals, dataOf, totalsOf, fileSize}}
 
 -- the held yards, with names, notice, type, version and precision; the room of the file to come; the totals
@@ -15,7 +12,8 @@ pub record Builder : Type 0 where
 
 -- the same plan with other yards
 abbrev pub holding : Plan → List Yard → Plan
-holding plan yards = record { kind = plan .kind; version = plan .version; precision = plan .precision; names = plan .names; notice = plan .notice; yards = yards; numbered = plan .numbered; whole = plan .whole }
+holding plan yards =
+    record { kind = plan .kind; version = plan .version; precision = plan .precision; names = plan .names; notice = plan .notice; yards = yards; numbered = plan .numbered; whole = plan .whole }
 
 -- its totals are a fresh sum
 unfoldable pub summed : Plan → ℕ → Builder

@@ -1,8 +1,6 @@
 -- One call after another.
-use Prim.Native.Nat.{ℕ}
-use mathlib.Core.List.{List, [], _∷_}
+use Rattle.numbers.specs.{Prelude.{ℕ, List, [], _∷_}, Reply.{Reply, given, refused}}
 use Rattle.builder.specs.Yards.{Text}
-use Rattle.numbers.specs.Reply.{Reply, given, refused}
 use Rattle.draft.specs.Held.{Builder.{Builder, Offered, add, dropLast, replace, clear}, Space.{Space}}
 
 pub data Call : Type 0 where

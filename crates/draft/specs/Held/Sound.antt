@@ -1,10 +1,7 @@
 -- What holds of a builder that calls have made: nothing that it holds is refused, but for the length of the whole file.
-use Prim.Native.Nat.{ℕ, _≤_}
-use lib.{Dec.{leb, eqb}, ListN.{length}}
-use mathlib.Core.{Bool.{true}, Path.{_≡_}}
+use Rattle.numbers.specs.{Prelude.{ℕ, _≤_, eqb, leb, length, true, _≡_}, Reply.{given}}
 use Rattle.builder.specs.{Borders.{Drawn, drawnOf}, File.{Room, bordersGood, known, readable, upTo}, Yards.{Plan}}
 use Rattle.writer.specs.Writer.{every}
-use Rattle.numbers.specs.Reply.{given}
 use Rattle.draft.specs.Held.Space.{Space}
 
 pub record Sound (plan : Plan) (room : ℕ) : Type 0 where

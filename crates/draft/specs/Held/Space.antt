@@ -1,7 +1,5 @@
 -- How much room is lent with a builder, and what it is asked for.
-use Prim.Native.Nat.{ℕ, _+_, _-_, _*_, _^_}
-use lib.Dec.{leb}
-use mathlib.Core.Bool.{Bool, _&&_}
+use Rattle.numbers.specs.Prelude.{ℕ, _+_, _-_, _*_, _^_, leb, Bool, _&&_}
 use Rattle.build.specs.Room.{enough, workOf}
 use Rattle.draft.specs.declared.held.{room.Rooms.{Rooms}, state.Held.{Held}}
 

@@ -1,14 +1,9 @@
 -- How a builder lies in its lists: each begins with what is held, and is zero behind it.
-use Prim.Native.Nat.{ℕ, _-_, _*_, _≤_}
-use lib.{Dec.{eqb}, IntN.{ℤ, pos}, ListN.{length, take, replicate}}
-use mathlib.Core.{Bool.{true}, List.{List, _∷_, [], _++_, map}, Path.{_≡_}}
+use Rattle.numbers.specs.{Lists.{zeros}, Prelude.{ℕ, _-_, _*_, _≤_, eqb, ℤ, pos, length, take, replicate, true, List, [], _∷_, _++_, map, _≡_}, Reply.{Reply, given, refused}}
 use Rattle.writer.specs.Writer.{every}
 use Rattle.builder.specs.{Borders.{Drawn}, File.{headOf}, Metadata.{fieldsOf}, Yards.{Text, Plan, Yard, sumOf}}
-use Rattle.build.specs.Entries.Corners.{cornersOf}
-use Rattle.build.specs.Metadata.Kept.{joined}
-use Rattle.numbers.specs.{Lists.{zeros}, Reply.{Reply, given, refused}}
-use Rattle.draft.specs.Held.{Builder.{Builder}, Sound.{Sound}, Totals.{Totals, dataOf, totalsOf}}
-use Rattle.draft.specs.declared.held.state.{Held.{Held}, Changed.{Changed}}
+use Rattle.build.specs.{Entries.Corners.{cornersOf}, Metadata.Kept.{joined}}
+use Rattle.draft.specs.{Held.{Builder.{Builder}, Sound.{Sound}, Totals.{Totals, dataOf, totalsOf}}, declared.held.state.{Changed.{Changed}, Held.{Held}}}
 use Rattle.draft.specs.declared.held.state.Changed.the-variants as C
 
 -- a list begins so, and has this item everywhere behind
@@ -37,7 +32,8 @@ pub record More : Type 0 where
 
 abbrev pub wider : More → Lists → Lists
 wider more l =
-    listsAs (l .boxes ++ replicate (more .boxes) (pos 0)) (l .borders ++ zeros (more .borders)) (l .lengths ++ zeros (more .lengths)) (l .texts ++ zeros (more .texts)) (l .bytes ++ zeros (more .bytes))
+    listsAs (l .boxes ++ replicate (more .boxes) (pos 0)) (l .borders ++ zeros (more .borders))
+    (l .lengths ++ zeros (more .lengths)) (l .texts ++ zeros (more .texts)) (l .bytes ++ zeros (more .bytes))
 
 -- the names and the notice; the values, yard by yard
 abbrev pub frontOf : Plan → List Text

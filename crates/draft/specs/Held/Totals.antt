@@ -1,9 +1,6 @@
 -- The totals of the yards that are held, as a fresh sum: document 02, Q-5, "the sizes, the yard count and the greatest lower latitude (0 if none)".
-use Prim.Native.Nat.{ℕ, _+_, _^_}
-use lib.{IntN.{ℤ}, ListN.{length}}
-use mathlib.Core.List.{List, [], _∷_, map, zipWith}
+use Rattle.numbers.specs.{Prelude.{ℕ, _+_, _^_, ℤ, length, List, [], _∷_, map, zipWith}, Reply.{Reply, given, refused}, Spelling.{varintOf}}
 use Rattle.builder.specs.{Borders.{Drawn, drawnOf}, Entries.{lowestOf, highestOf, tableOf}, File.{entryOf}, Metadata.{recordsOf, metadataOf}, Yards.{Yard, Plan}}
-use Rattle.numbers.specs.{Reply.{Reply, given, refused}, Spelling.{varintOf}}
 
 -- the sizes of the three sections, how many yards there are, their greatest lower latitude
 pub record Totals : Type 0 where

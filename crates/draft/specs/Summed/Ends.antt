@@ -1,11 +1,8 @@
 -- The end of a builder.
-use Prim.Native.Nat.{ℕ, _+_, _-_, _*_, _^_, _≤_}
-use lib.{Dec.{eqb, leb}, ListN.{length, take, drop}}
-use mathlib.Core.{Bool.{Bool, true, _&&_}, List.{List}, Path.{_≡_}}
+use Rattle.numbers.specs.{Prelude.{ℕ, _+_, _-_, _*_, _^_, _≤_, eqb, leb, length, take, drop, Bool, true, _&&_, List, _≡_}, Reply.{Reply}}
 use Rattle.builder.specs.{File.{fitted}, Yards.{sumOf}}
 use Rattle.build.specs.{Room.{enough}, Whole.{toldBuilt}, declared.{file.Built.{Built}, room.Work.{Work}}}
 use Rattle.draft.specs.{Held.Space.{Space, longEnough}, declared.held.{room.Rooms.{Rooms}, state.Held.{Held}}}
-use Rattle.numbers.specs.Reply.{Reply}
 
 -- what is asked of the lists that are lent with a builder
 abbrev pub spaceOf : Held → Rooms → Space

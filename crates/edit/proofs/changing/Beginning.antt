@@ -1,18 +1,15 @@
 -- A builder that begins: from zero lists to the names and the notice at their front. Assumes nothing.
-use Prim.Native.Nat.{ℕ, suc, _+_, _-_, _^_, _≤_, _<_}
-use lib.{IntN.{ℤ, pos}, ListN.{length, take, drop, replicate, length-replicate}, Seq.{length-take-le}}
-use mathlib.Core.{List.{List, [], _∷_, _++_, map}, Path.{_≡_, refl, sym, ap, subst, _∙_}}
-use native.Mathlib.Omega.{arith}
+use Rattle.numbers.proofs.{Lists.{zeros-drop}, Prelude.{ℕ, suc, _+_, _-_, _^_, _≤_, _<_, ℤ, pos, length, take, drop, replicate, length-replicate, length-take-le, List, [], _∷_, _++_, map, _≡_, refl}}
+use Rattle.numbers.{proofs.Prelude.{sym, ap, subst, _∙_, arith}, specs.{Lists.{over, zeros}, declared.refusal.Refusal.{Refusal}}}
 use Rattle.builder.specs.Yards.{Plan}
 use Rattle.header.proofs.Buffers.{over-length}
 use Rattle.draft.{proofs.held.{Fronts.{front-made, front-zero}, Texts.{joined-cut}}, specs.Held.{Builder.{holding, summed}, State.{Front, Holds, Lies, Lists, SameRooms, frontOf, listsAs}}}
 use Rattle.draft.specs.{Held.Totals.{dataOf}, declared.held.state.{Changed.{Changed}, Held.{Held}}}
-use Rattle.draft.specs.declared.held.state.Changed.the-variants as C
 use Rattle.build.{proofs.metadata.Itemed.{cut-lengths}, specs.Metadata.Kept.{joined}}
-use Rattle.numbers.{proofs.Lists.{zeros-drop}, specs.{Lists.{over, zeros}, declared.refusal.Refusal.{Refusal}}}
 use Rattle.writer.{proofs.Stores.{stored-front, stored-length}, specs.inner.Stored.{Stored}}
 use Rattle.edit.proofs.changing.{Cuts.{cut-all, lists-same}, Firsts.{front-is}, Nothing.{none-lies}}
-use Rattle.edit.specs.{Changing.Begun.{Begins, Checked, Checks, blank, firstPlan, frontSpace}, inner.Changing.Cut.{cutTo}, declared.changing.cut.Ends.{Ends}}
+use Rattle.edit.specs.{Changing.Begun.{Begins, Checked, Checks, blank, firstPlan, frontSpace}, declared.changing.cut.Ends.{Ends}, inner.Changing.Cut.{cutTo}}
+use Rattle.draft.specs.declared.held.state.Changed.the-variants as C
 
 -- nothing of any list
 abbrev pub noEnds : Ends
@@ -23,9 +20,8 @@ module _ (kind version precision names room : ℕ) (sizes strings : List ℕ) wh
   checks-as : (l l′ t t′ b b′ : ℕ) → l ≡ l′ → t ≡ t′ → b ≡ b′ → (r : Changed) → Checks kind version precision names room sizes strings l t b r →
       Checks kind version precision names room sizes strings l′ t′ b′ r
   checks-as l l′ t t′ b b′ el et eb r c =
-      subst (λ (n : ℕ). Checks kind version precision names room sizes strings l′ t′ n r) eb
-      (subst (λ (n : ℕ). Checks kind version precision names room sizes strings l′ n b r) et
-      (subst (λ (n : ℕ). Checks kind version precision names room sizes strings n t b r) el c))
+      subst (λ (n : ℕ). Checks kind version precision names room sizes strings l′ t′ n r) eb (subst (λ (n : ℕ). Checks kind version precision names room sizes
+      strings l′ n b r) et (subst (λ (n : ℕ). Checks kind version precision names room sizes strings n t b r) el c))
 
   module _ (boxes : List ℤ) (borders lengths texts bytes : List ℕ) (boxes₁ : List ℤ) (borders₁ lengths₁ texts₁ bytes₁ : List ℕ)
       (cut : listsAs boxes₁ borders₁ lengths₁ texts₁ bytes₁ ≡ cutTo noEnds (listsAs boxes borders lengths texts bytes)) where
@@ -70,9 +66,8 @@ module _ (kind version precision names room : ℕ) (sizes strings : List ℕ) wh
       checks : Checks kind version precision names room sizes strings (length lengths) (length texts) (length bytes) r
       checks = checks-as (length lengths₁) (length lengths) (length texts₁) (length texts) (length bytes₁) (length bytes) lengths-same texts-same bytes-same r c
 
-      pub begin-refused : (why : Refusal) → r ≡ C.Refused why →
-          Begins (firstPlan kind version precision names sizes strings) room (frontSpace names sizes (length lengths) (length texts) (length bytes)) before
-          (listsAs boxes₁ borders₁ lengths₁ texts₁ bytes₁) (C.Refused why)
+      pub begin-refused : (why : Refusal) → r ≡ C.Refused why → Begins (firstPlan kind version precision names sizes strings) room (frontSpace names sizes (length lengths)
+          (length texts) (length bytes)) before (listsAs boxes₁ borders₁ lengths₁ texts₁ bytes₁) (C.Refused why)
       unfolding Begins Checks
       begin-refused why e = (subst (Checks kind version precision names room sizes strings (length lengths) (length texts) (length bytes)) e checks, blanked)
 
@@ -115,20 +110,17 @@ module _ (kind version precision names room : ℕ) (sizes strings : List ℕ) wh
 
           lengths-are : Front 0 (map length (frontOf plan)) lengths₂
           lengths-are =
-              subst (λ (l : List ℕ). Front 0 l lengths₂)
-              (sym (ap (map length) (front-is kind version precision names sizes strings names-fit) ∙ cut-lengths (take (names + 1) sizes) strings (checked .whole)))
-              (behind (take (names + 1) sizes) lengths₁ lengths₂ (length lengths) lengths-none words)
+              subst (λ (l : List ℕ). Front 0 l lengths₂) (sym (ap (map length) (front-is kind version precision names sizes strings names-fit) ∙ cut-lengths
+              (take (names + 1) sizes) strings (checked .whole))) (behind (take (names + 1) sizes) lengths₁ lengths₂ (length lengths) lengths-none words)
 
           texts-are : Front 0 (joined (frontOf plan)) texts₂
           texts-are =
-              subst (λ (l : List ℕ). Front 0 l texts₂)
-              (ap (λ (n : ℕ). take n strings) (checked .front-is) ∙
-              (sym (joined-cut (take (names + 1) sizes) strings) ∙ ap joined (sym (front-is kind version precision names sizes strings names-fit))))
-              (behind (take (held .front) strings) texts₁ texts₂ (length texts) texts-none (stored-front texts₁ (take (held .front) strings) texts₂ next put texts-fit))
+              subst (λ (l : List ℕ). Front 0 l texts₂) (ap (λ (n : ℕ). take n strings) (checked .front-is) ∙ (sym (joined-cut (take (names + 1) sizes) strings)
+              ∙ ap joined (sym (front-is kind version precision names sizes strings names-fit)))) (behind (take (held .front) strings) texts₁ texts₂
+              (length texts) texts-none (stored-front texts₁ (take (held .front) strings) texts₂ next put texts-fit))
 
           bytes-are : Front 0 (0 ∷ []) bytes₁
-          bytes-are =
-              let e : length bytes ≡ suc (length bytes - 1) = omega (arith, checked .bytes-room) in
+          bytes-are = let e : length bytes ≡ suc (length bytes - 1) = omega (arith, checked .bytes-room) in
               front-made 0 (0 ∷ []) bytes₁ (length bytes - 1) (bytes-none ∙ ap zeros e)
 
           lies : Lies (holding plan []) (dataOf (holding plan [])) after

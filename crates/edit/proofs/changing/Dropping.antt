@@ -1,29 +1,20 @@
 -- A builder whose last yard is dropped: the sums of what is left, and the lists cut. Assumes nothing.
-use Prim.Native.Nat.{ℕ, _+_, _-_, _*_, _≤_, _<_}
-use borrow.Author.Tests.{lt-ltb}
-use denote.Enum.Declared.{tagOf, declared}
-use lib.{Dec.{eqb}, IntN.{ℤ, pos}, ListN.{length, take, drop, getD, length-append, length-drop, length-map}, Seq.{length-take-le}}
-use mathlib.Core.{Bool.{Bool, true, false, false≢true}, List.{List, [], _++_, map}, Path.{_≡_, refl, sym, ap, subst, _∙_}}
-use native.Mathlib.Omega.{arith}
-use Rattle.build.specs.Room.{enough, workOf}
-use Rattle.builder.proofs.Counting.{lengths-room}
-use Rattle.builder.specs.{Borders.{Drawn}, File.{isText}, Yards.{Plan, Text, Yard, sumOf}}
-use Rattle.build.specs.Entries.Corners.{cornersOf}
+use Rattle.numbers.proofs.Prelude.{ℕ, _+_, _-_, _*_, _≤_, _<_, lt-ltb, tagOf, declared, eqb, ℤ, pos, length, take, drop, getD, length-append, length-drop, length-map, length-take-le, Bool, true}
+use Rattle.numbers.{proofs.Prelude.{List, [], _++_, map, _≡_, refl, sym, ap, subst, _∙_, arith}, specs.{Lists.{zeros}, Reply.{Reply, given, plain, demand, _>>_}, declared.refusal.Refusal.{Refusal}}}
+use mathlib.Core.Bool.{false≢true}
+use Rattle.build.{proofs.metadata.Shared.{flat-more, map-more}, specs.{Entries.Corners.{cornersOf}, Metadata.Kept.{joined}, Room.{enough, workOf}}}
+use Rattle.builder.{proofs.Counting.{lengths-room}, specs.{Borders.{Drawn}, File.{isText}, Yards.{Plan, Text, Yard, sumOf}}}
 use Rattle.draft.proofs.held.{Everyone.{every-take}, Fronts.{front-of-more, front-part}, Kept.{dropped-data}, Lying.{Splits, boxes-end, borders-end, bytes-end, holds-other, lengths-end}}
-use Rattle.draft.specs.Held.State.{heldWith}
 use Rattle.draft.proofs.held.{Lying.{lies-dropped, lies-splits}, Redrawn.{drawnTo}, Standing.{fields-short, front-many, held-front, held-names, readable-parts}, Stood.{Stood, stood, work-enough}}
-use Rattle.draft.proofs.held.Texts.{dropped-values, restValues, valuesIn}
-use Rattle.draft.specs.Held.{Builder.{Builder, dropLast, holding, summed}, Space.{longEnough, roomsOf}, State.{Answers, Holds, Idle, Lies, Lists, SameRooms, Stands, frontOf, listsAs, textsOf}}
-use Rattle.draft.specs.{Held.{State.{valuesOf}, Totals.{Totals, dataOf, totalsFor, totalsOf}}, declared.held.{room.Rooms.{Rooms}, state.{Changed.{Changed}, Held.{Held}}}}
-use Rattle.draft.specs.declared.held.state.Changed.the-variants as C
-use Rattle.build.{proofs.metadata.Shared.{flat-more, map-more}, specs.Metadata.Kept.{joined}}
-use Rattle.numbers.specs.{Lists.{zeros}, Reply.{Reply, given, plain, demand, _>>_}, declared.refusal.Refusal.{Refusal}}
-use Rattle.draft.specs.{inner.Summed.Sums.{Summing, SumsUp, sumsOf}, declared.summed.sums.{Summed.{Summed}, Sums.{Sums}}}
-use Rattle.draft.proofs.summed.sums.Summed as K
-use Rattle.draft.specs.declared.summed.sums.Summed.the-variants as S
+use Rattle.draft.{proofs.held.Texts.{dropped-values, restValues, valuesIn}, specs.Held.{Builder.{Builder, dropLast, holding, summed}, Space.{longEnough, roomsOf}, State.{heldWith, Answers, Holds}}}
+use Rattle.draft.specs.{Held.{State.{Idle, Lies, Lists, SameRooms, Stands, frontOf, listsAs, textsOf, valuesOf}, Totals.{Totals, dataOf, totalsFor, totalsOf}}, declared.held.room.Rooms.{Rooms}}
+use Rattle.draft.specs.{declared.{held.state.{Changed.{Changed}, Held.{Held}}, summed.sums.{Summed.{Summed}, Sums.{Sums}}}, inner.Summed.Sums.{Summing, SumsUp, sumsOf}}
 use Rattle.writer.specs.Writer.{every}
 use Rattle.edit.proofs.changing.{Cuts.{cut-front, cut-rooms}, Lasts.{fewer-sound, kept-many, last-place, left-is, left-less, left-many, left-strings}}
-use Rattle.edit.specs.{inner.Changing.{Cut.{Inside, cutTo}, Dropped.{Lent, Shortened, Shortens, endsOf, shortOf, withSums}}, Changing.Dropped.{Drops, lastSize, leftSpace}}
+use Rattle.edit.specs.{Changing.Dropped.{Drops, lastSize, leftSpace}, inner.Changing.{Cut.{Inside, cutTo}, Dropped.{Lent, Shortened, Shortens, endsOf, shortOf, withSums}}}
+use Rattle.draft.specs.declared.held.state.Changed.the-variants as C
+use Rattle.draft.proofs.summed.sums.Summed as K
+use Rattle.draft.specs.declared.summed.sums.Summed.the-variants as S
 
 -- the lists as they are lent
 pub lent-here : {boxes : List ℤ} {borders lengths texts bytes : List ℕ} {starts keys spare kept held words places : ℕ} →
@@ -90,8 +81,7 @@ module _ (builder : Held) (rooms : Rooms) (borders lengths : List ℕ) (held : H
   front-order = omega (arith, front-is, strings-is, s .last-in, all .front-first)
 
   product-less : held .names * held .yards ≤ builder .names * builder .yards
-  product-less =
-      let up : builder .yards ≡ builder .yards - 1 + 1 = omega (arith, s .some) in
+  product-less = let up : builder .yards ≡ builder .yards - 1 + 1 = omega (arith, s .some) in
       let times : builder .names * builder .yards ≡ builder .names * (builder .yards - 1 + 1) = ap (λ (k : ℕ). builder .names * k) up in
       let more : builder .names * (builder .yards - 1 + 1) ≡ builder .names * (builder .yards - 1) + builder .names = omega arith in
       let same : held .names * held .yards ≡ builder .names * (builder .yards - 1) = ap (λ (k : ℕ). k * held .yards) names-is ∙ ap (λ (k : ℕ). builder .names * k) yards-is in
@@ -122,9 +112,8 @@ module _ (builder : Held) (rooms : Rooms) (borders lengths : List ℕ) (held : H
     borders-in = left-inside .borders-in
 
     -- what the sums ask for, of `lengths[from..to]` and `texts[front..strings]`
-    pub left-summing : (from to : ℕ) → from ≡ held .names + 1 → to ≡ from + held .names * held .yards
-        → Summing (held .names) (held .yards) (length (take (to - from) (drop from (lists .lengths)))) (length (lists .borders))
-        (length (take (held .strings - held .front) (drop (held .front) (lists .texts))))
+    pub left-summing : (from to : ℕ) → from ≡ held .names + 1 → to ≡ from + held .names * held .yards → Summing (held .names) (held .yards)
+        (length (take (to - from) (drop from (lists .lengths)))) (length (lists .borders)) (length (take (held .strings - held .front) (drop (held .front) (lists .texts))))
         (workOf (rooms .starts) (rooms .keys) (rooms .spare) (rooms .kept) (rooms .held) (rooms .words) (rooms .places) (rooms .boxes))
     left-summing from to ef et =
         let size : length (take (held .strings - held .front) (drop (held .front) (lists .texts))) ≡ builder .strings - lastSize builder lengths - builder .front =
@@ -173,9 +162,8 @@ module _ (b : Builder) (builder : Held) (rooms : Rooms) (before : Lists) (h : Ho
   splits = lies-splits plan (b .room) (h .sound) n less before (h .lies)
 
   -- the sums may be taken of the lists as they are
-  left-stands : (from to : ℕ) → from ≡ held .names + 1 → to ≡ from + held .names * held .yards
-      → Stands (take n (plan .yards)) (drawnTo (dataOf plan) n) (held .names) (held .yards) (before .boxes) (before .borders) (take (to - from) (drop from (before .lengths)))
-      (take (held .strings - held .front) (drop (held .front) (before .texts)))
+  left-stands : (from to : ℕ) → from ≡ held .names + 1 → to ≡ from + held .names * held .yards → Stands (take n (plan .yards)) (drawnTo (dataOf plan) n)
+      (held .names) (held .yards) (before .boxes) (before .borders) (take (to - from) (drop from (before .lengths))) (take (held .strings - held .front) (drop (held .front) (before .texts)))
   left-stands from to ef et =
       let kept : List Text = valuesIn (take n (plan .yards)) in
       let gone : List Text = restValues plan n in
@@ -211,27 +199,24 @@ module _ (b : Builder) (builder : Held) (rooms : Rooms) (before : Lists) (h : Ho
           length-map kept length,
           fields-short (take n (plan .yards)) (every-take (λ (y : Yard). every isText (y .values)) n (plan .yards) (readable-parts plan (h .sound .texts) .1 .1 .1)),
         );
-      }
-    where
-      products : held .names * held .yards ≡ builder .names * (builder .yards - 1)
-      products = ap (λ (k : ℕ). k * held .yards) (names-is builder rooms (before .borders) (before .lengths) held s) ∙
-          ap (λ (k : ℕ). builder .names * k) (yards-is builder rooms (before .borders) (before .lengths) held s)
+      } where
+        products : held .names * held .yards ≡ builder .names * (builder .yards - 1)
+        products = ap (λ (k : ℕ). k * held .yards) (names-is builder rooms (before .borders) (before .lengths) held s) ∙
+            ap (λ (k : ℕ). builder .names * k) (yards-is builder rooms (before .borders) (before .lengths) held s)
 
   -- the lists, cut
   left-lies : Lies (holding plan (take n (plan .yards))) (dataOf (holding plan (take n (plan .yards)))) (cutTo (endsOf held) before)
   unfolding cutTo endsOf
   left-lies =
       let product : held .names * held .yards ≡ length (plan .names) * n = ap (λ (k : ℕ). k * held .yards) names-are ∙ ap (λ (k : ℕ). length (plan .names) * k) yards-are in
-      lies-dropped plan (b .room) (h .sound) n less (cutTo (endsOf held) before)
-      (cut-front (pos 0) (cornersOf (take n (plan .yards))) (cornersOf (drop n (plan .yards))) _ (before .boxes) refl (splits .boxes-are) (4 * held .yards)
-      (ap (λ (k : ℕ). 4 * k) yards-are ∙ boxes-end plan (b .room) (h .sound) n less))
-      (cut-front 0 (take n (dataOf plan .places)) (drop n (dataOf plan .places)) _ (before .borders) refl (splits .borders-are) (held .yards)
-      (yards-are ∙ borders-end plan (b .room) (h .sound) n less))
-      (cut-front 0 (map length (textsOf (holding plan (take n (plan .yards))))) (map length (restValues plan n)) _ (before .lengths) refl (splits .lengths-are)
-      (held .names + 1 + held .names * held .yards) (omega (arith, names-are, product, lengths-end plan (b .room) (h .sound) n less)))
-      (cut-front 0 (joined (textsOf (holding plan (take n (plan .yards))))) (joined (restValues plan n)) _ (before .texts) refl (splits .texts-are) (held .strings) strings-are)
-      (cut-front 0 (take (getD (dataOf plan .places) n 0) (dataOf plan .bytes)) (drop (getD (dataOf plan .places) n 0) (dataOf plan .bytes)) _ (before .bytes) refl (splits .bytes-are)
-      (held .bytes) (bytes-are ∙ bytes-end plan (b .room) (h .sound) n less))
+      lies-dropped plan (b .room) (h .sound) n less (cutTo (endsOf held) before) (cut-front (pos 0) (cornersOf (take n (plan .yards))) (cornersOf (drop n (plan .yards))) _
+      (before .boxes) refl (splits .boxes-are) (4 * held .yards) (ap (λ (k : ℕ). 4 * k) yards-are ∙ boxes-end plan (b .room) (h .sound) n less))
+      (cut-front 0 (take n (dataOf plan .places)) (drop n (dataOf plan .places)) _ (before .borders) refl (splits .borders-are) (held .yards) (yards-are
+      ∙ borders-end plan (b .room) (h .sound) n less)) (cut-front 0 (map length (textsOf (holding plan (take n (plan .yards))))) (map length (restValues plan n)) _
+      (before .lengths) refl (splits .lengths-are) (held .names + 1 + held .names * held .yards) (omega (arith, names-are, product, lengths-end plan (b .room) (h .sound) n less)))
+      (cut-front 0 (joined (textsOf (holding plan (take n (plan .yards))))) (joined (restValues plan n)) _ (before .texts) refl (splits .texts-are)
+      (held .strings) strings-are) (cut-front 0 (take (getD (dataOf plan .places) n 0) (dataOf plan .bytes)) (drop (getD (dataOf plan .places) n 0) (dataOf plan .bytes)) _
+      (before .bytes) refl (splits .bytes-are) (held .bytes) (bytes-are ∙ bytes-end plan (b .room) (h .sound) n less))
 
   -- the numbers
   left-totals : totalsOf (holding plan (take n (plan .yards))) ≡ totalsFor (take n (plan .yards)) (drawnTo (dataOf plan) n)
@@ -254,8 +239,7 @@ module _ (b : Builder) (builder : Held) (rooms : Rooms) (before : Lists) (h : Ho
 
   left-numbers : withSums held (totals .table) (totals .metadata) (totals .greatest) ≡ heldWith builder (held .strings) (totalsOf (holding plan (take n (plan .yards))))
   unfolding withSums shortOf
-  left-numbers =
-      let t : Totals = totals in
+  left-numbers = let t : Totals = totals in
       ap (λ (x : Held). withSums x (t .table) (t .metadata) (t .greatest)) (s .is)
       ∙ (ap (λ (k : ℕ). heldWith builder k
       (record { table = t .table; metadata = t .metadata; bytes = getD (before .borders) (builder .yards - 1) 0; yards = builder .yards - 1; greatest = t .greatest }))
@@ -273,12 +257,9 @@ module _ (b : Builder) (builder : Held) (rooms : Rooms) (before : Lists) (h : Ho
 
   left-given : dropLast b (leftSpace builder rooms (before .lengths)) ≡ given (summed (holding plan (take n (plan .yards))) (b .room))
   unfolding dropLast leftSpace
-  left-given =
-      let last : Reply Builder = given (summed (holding plan (take n (plan .yards))) (b .room)) in
-      ap (λ (x : Bool). demand x (plain 29) >>
-      (demand (longEnough rooms (builder .names) (builder .yards - 1) (builder .front) (builder .strings - lastSize builder (before .lengths))) (plain 28) >> last))
-      (lt-ltb 0 (length (plan .yards)) (omega (arith, less)))
-      ∙ ap (λ (x : Bool). demand x (plain 28) >> last) (s .room)
+  left-given = let last : Reply Builder = given (summed (holding plan (take n (plan .yards))) (b .room)) in
+      ap (λ (x : Bool). demand x (plain 29) >> (demand (longEnough rooms (builder .names) (builder .yards - 1) (builder .front) (builder .strings - lastSize builder (before .lengths)))
+      (plain 28) >> last)) (lt-ltb 0 (length (plan .yards)) (omega (arith, less))) ∙ ap (λ (x : Bool). demand x (plain 28) >> last) (s .room)
 
 -- ---- `drop_yard`
 module _ (builder : Held) (rooms : Rooms) (before : Lists) (l : Lent rooms before) (r : Changed) (c : Shortens builder rooms (before .borders) (before .lengths) r) where
@@ -286,10 +267,7 @@ module _ (builder : Held) (rooms : Rooms) (before : Lists) (l : Lent rooms befor
   unfolding Shortens Answers
   drop-refused why e =
       let told : Shortens builder rooms (before .borders) (before .lengths) (C.Refused why) = subst (Shortens builder rooms (before .borders) (before .lengths)) e c in
-      record {
-        answers = λ b h. (told .1 b before refl refl l h, refl);
-        broken = λ f. (ap C.Refused (told .0 f), refl);
-      }
+      record { answers = λ b h. (told .1 b before refl refl l h, refl); broken = λ f. (ap C.Refused (told .0 f), refl) }
 
   module _ (held : Held) (is : r ≡ C.Into held) where
     pub short-is : Shortened builder rooms (before .borders) (before .lengths) held
@@ -298,10 +276,8 @@ module _ (builder : Held) (rooms : Rooms) (before : Lists) (l : Lent rooms befor
 
     abbrev Summed-of : Summed → List ℕ → ℕ → ℕ → Type 0
     Summed-of summed places from to =
-        (yards : List Yard) (drawn : Drawn) →
-        Stands yards drawn (held .names) (held .yards) (before .boxes) (before .borders) (take (to - from) (drop from (before .lengths)))
-        (take (held .strings - held .front) (drop (held .front) (before .texts)))
-        → SumsUp yards drawn places summed
+        (yards : List Yard) (drawn : Drawn) → Stands yards drawn (held .names) (held .yards) (before .boxes) (before .borders) (take (to - from) (drop from (before .lengths)))
+        (take (held .strings - held .front) (drop (held .front) (before .texts))) → SumsUp yards drawn places summed
 
     module _ (summed′ : Summed) {places : List ℕ} (from to : ℕ) (ef : from ≡ held .names + 1) (et : to ≡ from + held .names * held .yards) (sums : Summed-of summed′ places from to) where
       told-sums : (b : Builder) (h : Holds b builder before) → summed′ ≡ S.Sums (left-sums b builder rooms before h held short-is)
@@ -317,8 +293,7 @@ module _ (builder : Held) (rooms : Rooms) (before : Lists) (l : Lent rooms befor
       module _ (x : Sums) (given-sums : summed′ ≡ S.Sums x) (after : Lists) (cut : after ≡ cutTo (endsOf held) before) (next : Held)
           (numbers : next ≡ withSums held (x .table) (x .metadata) (x .greatest)) where
         drop-holds : (b : Builder) (h : Holds b builder before) → Holds (summed (holding (b .plan) (take (length (b .plan .yards) - 1) (b .plan .yards))) (b .room)) next after
-        drop-holds b h =
-            let t : Totals = totals b builder rooms before h held short-is in
+        drop-holds b h = let t : Totals = totals b builder rooms before h held short-is in
             let both : S.Sums x ≡ S.Sums (left-sums b builder rooms before h held short-is) = sym given-sums ∙ told-sums b h in
             let same : x ≡ left-sums b builder rooms before h held short-is = cc in
             let is : next ≡ withSums held (t .table) (t .metadata) (t .greatest) = numbers ∙ ap (λ (y : Sums). withSums held (y .table) (y .metadata) (y .greatest)) same in

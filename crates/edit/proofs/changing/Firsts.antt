@@ -1,35 +1,24 @@
 -- The names and the notice as they are lent: what they make of a plan, and when beginning is refused. Assumes nothing.
-use Prim.Native.Nat.{ℕ, suc, min, _+_, _*_, _^_, _≤_, _<_}
-use borrow.Author.Tests.{le-leb, lt-leb, leb-true, not-true, not-false}
-use lib.{Dec.{leb, ltb}, ListN.{length, take, getD, length-take}, Seq.{length-take-le, take-suc}}
-use mathlib.Core.{Bool.{Bool, true, false, not, _&&_}, List.{List, [], _∷_, _++_}, Path.{_≡_, refl, sym, ap, subst, _∙_}}
-use native.Mathlib.Omega.{arith}
+use Rattle.numbers.proofs.Prelude.{ℕ, suc, _+_, _*_, _^_, _≤_, _<_, min, le-leb, leb-true, not-false, lt-leb, not-true, ltb, leb, length, take, getD, length-take, length-take-le, take-suc, Bool}
+use Rattle.numbers.proofs.Prelude.{true, false, _&&_, not, List, [], _∷_, _++_, _≡_, refl, sym, ap, subst, _∙_, arith}
+use Rattle.numbers.{proofs.Tests.{both}, specs.{Reply.{Reply, given, refused, plain, demand, _>>_}, declared.refusal.Refusal.{Refusal}}}
 use Rattle.writer.specs.Writer.{every}
-use Rattle.numbers.proofs.Tests.{both}
-use Rattle.build.proofs.{Slices.{texts-few}, Valued.{cut-take}}
-use Rattle.builder.proofs.Counting.{cut-many}
-use Rattle.builder.specs.{File.{areTexts, headFrom, headOf, isText, known, readable}, Yards.{Plan, Text, countedLengths, cutBy, planOf, sumOf, valuesFrom}}
+use Rattle.build.{proofs.{Slices.{texts-few}, metadata.Itemed.{cut-lengths}, recording.Fewer.{joined-sum}}, specs.Metadata.Kept.{joined}}
+use Rattle.builder.{proofs.Counting.{cut-many, cut-take}, specs.{File.{areTexts, headFrom, headOf, isText, known, readable}, Yards.{Plan, Text, countedLengths, cutBy, planOf, sumOf, valuesFrom}}}
 use Rattle.header.specs.Header.{isKind}
 use Rattle.draft.specs.{Held.{Builder.{Builder, begin, holding, summed}, Sound.{Sound}, State.{frontOf, heldAs}}, declared.held.state.Changed.{Changed}}
-use Rattle.draft.specs.declared.held.state.Changed.the-variants as C
-use Rattle.build.{proofs.metadata.Itemed.{cut-lengths}, specs.Metadata.Kept.{joined}}
-use Rattle.numbers.specs.{Reply.{Reply, given, refused, plain, demand, _>>_}, declared.refusal.Refusal.{Refusal}}
-use Rattle.build.proofs.recording.Fewer.{joined-sum}
 use Rattle.edit.proofs.changing.Nothing.{heldNone, none-held, none-sound}
 use Rattle.edit.specs.Changing.Begun.{Checks, firstPlan, frontSpace}
-
-and-false : (b : Bool) → (b && false) ≡ false
-and-false true = refl
-and-false false = refl
+use mathlib.Core.Bool.{and-false}
+use Rattle.draft.specs.declared.held.state.Changed.the-variants as C
 
 every-last : {A : Type 0} (good : A → Bool) (xs : List A) (x : A) → every good (xs ++ (x ∷ [])) ≡ (every good xs && (good x && true))
 unfolding every
 every-last good [] x = refl
-every-last good (y ∷ ys) x = ap (λ (b : Bool). good y && b) (every-last good ys x) ∙ go (good y) (every good ys) (good x && true)
-  where
-    go : (a b c : Bool) → (a && (b && c)) ≡ ((a && b) && c)
-    go true b c = refl
-    go false b c = refl
+every-last good (y ∷ ys) x = ap (λ (b : Bool). good y && b) (every-last good ys x) ∙ go (good y) (every good ys) (good x && true) where
+  go : (a b c : Bool) → (a && (b && c)) ≡ ((a && b) && c)
+  go true b c = refl
+  go false b c = refl
 
 -- where the lengths do not reach, the number of names is no matter
 counts-by : (names k : ℕ) (fit : Bool) → leb (names + 1) k ≡ fit → (leb (min names k) 255 && fit) ≡ (leb names 255 && fit)
@@ -50,8 +39,7 @@ module _ (kind version precision names : ℕ) (sizes strings : List ℕ) where
 
   counts-are : (leb (length (plan .names)) 255 && plan .numbered) ≡ (leb names 255 && leb (names + 1) (length sizes))
   unfolding planOf valuesFrom every
-  counts-are =
-      let size : length (take names cuts) ≡ min names (length sizes) = length-take names cuts ∙ ap (λ (n : ℕ). min names n) (cut-many sizes strings) in
+  counts-are = let size : length (take names cuts) ≡ min names (length sizes) = length-take names cuts ∙ ap (λ (n : ℕ). min names n) (cut-many sizes strings) in
       ap (λ (n : ℕ). leb (length (take names cuts)) 255 && leb n (length sizes)) counted
       ∙ (ap (λ (n : ℕ). leb n 255 && leb (names + 1) (length sizes)) size ∙ counts-by names (length sizes) (leb (names + 1) (length sizes)) refl)
 
@@ -59,10 +47,8 @@ module _ (kind version precision names : ℕ) (sizes strings : List ℕ) where
     -- the names and the notice, one after another
     pub front-is : frontOf plan ≡ cutBy (take (names + 1) sizes) strings
     unfolding planOf
-    front-is =
-        let up : suc names ≡ names + 1 = omega arith in
-        sym (take-suc cuts names [] (omega (arith, many, cut-many sizes strings)))
-        ∙ (ap (λ (n : ℕ). take n cuts) up ∙ sym (cut-take (names + 1) sizes strings))
+    front-is = let up : suc names ≡ names + 1 = omega arith in
+        sym (take-suc cuts names [] (omega (arith, many, cut-many sizes strings))) ∙ (ap (λ (n : ℕ). take n cuts) up ∙ sym (cut-take (names + 1) sizes strings))
 
     pub names-are : length (plan .names) ≡ names
     unfolding planOf
@@ -121,16 +107,14 @@ module _ (kind version precision names : ℕ) (sizes strings : List ℕ) where
 
           told : (sumOf (take (names + 1) sizes) ≤ length strings) × (every isText (cutBy (take (names + 1) sizes) strings) ≡ true)
           unfolding areTexts
-          told =
-              let two = both (leb (sumOf (take (names + 1) sizes)) (length strings)) (every isText (cutBy (take (names + 1) sizes) strings)) good-texts in
+          told = let two = both (leb (sumOf (take (names + 1) sizes)) (length strings)) (every isText (cutBy (take (names + 1) sizes) strings)) good-texts in
               (leb-true (sumOf (take (names + 1) sizes)) (length strings) (two .0), two .1)
 
           pub first-whole : sumOf (take (names + 1) sizes) ≤ length strings
           first-whole = told .0
 
           first-short : sumOf (take (names + 1) sizes) ≤ 65280
-          first-short =
-              let short = texts-few (take (names + 1) sizes) strings (told .0) (told .1) in
+          first-short = let short = texts-few (take (names + 1) sizes) strings (told .0) (told .1) in
               omega (arith, short, length-take-le (names + 1) sizes many, few)
 
           pub first-small : sumOf (take (names + 1) sizes) + 10 * length (take (names + 1) sizes) < 2 ^ 59
@@ -170,8 +154,7 @@ module _ (kind version precision names : ℕ) (sizes strings : List ℕ) where
                 no-bytes h = no-room (bytes-last ∙ lt-leb 1 bytes h)
 
                 sound : Sound (holding plan []) room
-                sound =
-                    let counts = both (leb (length (plan .names)) 255) (plan .numbered) good-counts in
+                sound = let counts = both (leb (length (plan .names)) 255) (plan .numbered) good-counts in
                     none-sound plan room (counts .0) (counts .1) (readable-is many ∙ good-texts) (known-is ∙ not-false k good)
 
                 module _ (c : 1 ≤ bytes) (head front : ℕ) (eh : head ≡ length (headFrom kind version precision names (cutBy (take (names + 1) sizes) strings)))
@@ -184,8 +167,7 @@ module _ (kind version precision names : ℕ) (sizes strings : List ℕ) where
                   head-is : head ≡ length (headOf plan)
                   unfolding headOf planOf
                   head-is =
-                      eh
-                      ∙ (ap (λ (l : List Text). length (headFrom kind version precision names l)) (sym (front-is many))
+                      eh ∙ (ap (λ (l : List Text). length (headFrom kind version precision names l)) (sym (front-is many))
                       ∙ ap (λ (n : ℕ). length (headFrom kind version precision n (frontOf plan))) (sym (names-are many)))
 
                   is-held : heldNone kind version precision names room head front ≡ heldAs (summed (holding plan []) room)

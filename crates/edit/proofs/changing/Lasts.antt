@@ -1,14 +1,11 @@
 -- The last yard of a builder that calls have made: where its values and its border lie. Assumes nothing.
-use Prim.Native.Nat.{ℕ, suc, _+_, _-_, _*_, _≤_, _<_}
-use lib.{ListN.{length, take, drop, getD, length-append, length-take}, Seq.{getD-take}}
-use mathlib.Core.{List.{List, [], _∷_, map}, Path.{_≡_, refl, sym, ap, subst, _∙_}}
-use native.Mathlib.{Nat.{mul-suc}, Omega.{arith}}
+use Rattle.numbers.proofs.Prelude.{ℕ, suc, _+_, _-_, _*_, _≤_, _<_, length, take, drop, getD, length-append, length-take, getD-take, List, [], _∷_, map, _≡_, refl, sym, ap, subst, _∙_, mul-suc}
+use Rattle.numbers.proofs.Prelude.{arith}
 use Rattle.builder.specs.{File.{upTo}, Yards.{Plan, sumOf}}
-use Rattle.draft.proofs.held.{Fronts.{front-slice, front-take}, Kept.{dropped-sound}, Redrawn.{data-many, drawn-behind, place-inside, sound-draws}, Standing.{held-bytes, held-front, held-names}}
-use Rattle.draft.proofs.held.{Standing.{held-strings, held-yards, texts-many, texts-split}, Texts.{dropped-lengths, dropped-strings, restValues}}
+use Rattle.draft.proofs.held.{Fronts.{front-slice, front-take}, Kept.{dropped-sound}, Redrawn.{data-many, drawn-behind, place-inside, sound-draws}}
+use Rattle.draft.proofs.held.{Standing.{held-bytes, held-front, held-names, held-strings, held-yards, texts-many, texts-split}, Texts.{dropped-lengths, dropped-strings, restValues}}
 use Rattle.draft.specs.{Held.{Builder.{Builder, holding}, Sound.{Sound}, State.{Front, Holds, Lists, frontOf, textsOf, valuesOf}, Totals.{dataOf}}, declared.held.state.Held.{Held}}
-use Rattle.build.specs.Metadata.Kept.{joined}
-use Rattle.build.proofs.recording.Fewer.{joined-sum}
+use Rattle.build.{proofs.recording.Fewer.{joined-sum}, specs.Metadata.Kept.{joined}}
 use Rattle.edit.specs.Changing.Dropped.{lastSize}
 
 longer : (sofar bytes : List ℕ) → take (length sofar) bytes ≡ sofar → length sofar ≤ length bytes
@@ -49,26 +46,22 @@ module _ (b : Builder) (builder : Held) (before : Lists) (h : Holds b builder be
       omega (arith, texts-many fewer (b .room) fewer-sound, times, held-names b builder before h)
 
   all-many : length (map length (textsOf plan)) ≡ builder .names + 1 + builder .names * (builder .yards - 1) + builder .names
-  all-many =
-      let up : length (plan .yards) ≡ suc (builder .yards - 1) = omega (arith, held-yards b builder before h, some) in
-      let times : length (plan .names) * length (plan .yards) ≡ builder .names * suc (builder .yards - 1) =
-      ap (λ (n : ℕ). length (plan .names) * n) up ∙ ap (λ (n : ℕ). n * suc (builder .yards - 1)) (sym (held-names b builder before h)) in
+  all-many = let up : length (plan .yards) ≡ suc (builder .yards - 1) = omega (arith, held-yards b builder before h, some) in
+      let times : length (plan .names) * length (plan .yards) ≡ builder .names * suc (builder .yards - 1) = ap (λ (n : ℕ). length (plan .names) * n) up
+      ∙ ap (λ (n : ℕ). n * suc (builder .yards - 1)) (sym (held-names b builder before h)) in
       omega (arith, texts-many plan (b .room) (h .sound), times, mul-suc (builder .names) (builder .yards - 1), held-names b builder before h)
 
   last-lengths : (from to : ℕ) → from ≡ builder .names + 1 + builder .names * (builder .yards - 1) → to ≡ from + builder .names →
       take (to - from) (drop from (before .lengths)) ≡ map length (restValues plan left)
   last-lengths from to ef et =
-      front-slice 0 (map length (textsOf fewer)) (map length (restValues plan left)) (subst (λ (l : List ℕ). Front 0 l (before .lengths)) (dropped-lengths plan left) (h .lies .lengths-are))
-      from to (ef ∙ sym kept-many)
-      (omega (arith, et, ef, all-many, ap length (dropped-lengths plan left)))
+      front-slice 0 (map length (textsOf fewer)) (map length (restValues plan left)) (subst (λ (l : List ℕ). Front 0 l (before .lengths)) (dropped-lengths plan left)
+      (h .lies .lengths-are)) from to (ef ∙ sym kept-many) (omega (arith, et, ef, all-many, ap length (dropped-lengths plan left)))
 
   last-size : lastSize builder (before .lengths) ≡ length (joined (restValues plan left))
   unfolding lastSize
-  last-size =
-      let from : ℕ = builder .names + 1 + builder .names * (builder .yards - 1) in
+  last-size = let from : ℕ = builder .names + 1 + builder .names * (builder .yards - 1) in
       let size : builder .names ≡ from + builder .names - from = omega arith in
-      ap (λ (n : ℕ). sumOf (take n (drop from (before .lengths)))) size
-      ∙ (ap sumOf (last-lengths from (from + builder .names) refl refl) ∙ sym (joined-sum (restValues plan left)))
+      ap (λ (n : ℕ). sumOf (take n (drop from (before .lengths)))) size ∙ (ap sumOf (last-lengths from (from + builder .names) refl refl) ∙ sym (joined-sum (restValues plan left)))
 
   all-size : builder .strings ≡ length (joined (textsOf fewer)) + lastSize builder (before .lengths)
   all-size = omega (arith, held-strings b builder before h, ap length (dropped-strings plan left), length-append (joined (textsOf fewer)) (joined (restValues plan left)), last-size)
@@ -83,8 +76,7 @@ module _ (b : Builder) (builder : Held) (before : Lists) (h : Holds b builder be
   -- the border
   pub last-place : getD (before .borders) (builder .yards - 1) 0 ≡ getD (dataOf plan .places) left 0
   last-place =
-      ap (λ (n : ℕ). getD (before .borders) n 0) left-is
-      ∙ (sym (getD-take (length (dataOf plan .places)) (before .borders) left 0 (omega (arith, data-many plan (b .room) (h .sound), left-less)))
+      ap (λ (n : ℕ). getD (before .borders) n 0) left-is ∙ (sym (getD-take (length (dataOf plan .places)) (before .borders) left 0 (omega (arith, data-many plan (b .room) (h .sound), left-less)))
       ∙ ap (λ (l : List ℕ). getD l left 0) (front-take 0 (h .lies .borders-are)))
 
   pub place-fits : getD (before .borders) (builder .yards - 1) 0 ≤ builder .bytes

@@ -1,17 +1,12 @@
 -- A plan without yards: its data, its totals, its numbers and its lists. Assumes nothing.
-use Prim.Native.Nat.{ℕ}
-use lib.{Dec.{leb}, IntN.{pos}, ListN.{length}}
-use mathlib.Core.{Bool.{true}, List.{List, [], _∷_, flatMap, map, zipWith}, Path.{_≡_, refl, sym, ap, subst, _∙_}}
+use Rattle.numbers.proofs.Prelude.{ℕ, leb, pos, length, true, List, [], _∷_, map, flatMap, zipWith, _≡_, refl, sym, ap, subst, _∙_, arith}
 use Rattle.builder.specs.{Borders.{drawnFrom, drawnOf}, Entries.{highestOf, tableFrom, tableOf}, File.{bordersGood, headOf, known, readable}, Metadata.{fieldsOf, metadataOf, remotes}}
 use Rattle.builder.specs.{Sharing.{firstsAfter, goodOnes}, Yards.{Plan, Text}}
-use Rattle.build.specs.Entries.Corners.{cornersOf}
-use Rattle.draft.proofs.held.Texts.{cleared-texts}
-use Rattle.draft.specs.Held.{Builder.{holding, summed}, Sound.{Sound}, State.{Front, Lies, Lists, frontOf, heldAs}, Totals.{Totals, dataOf, drawnOr, totalsFor, totalsOf}}
-use Rattle.draft.specs.declared.held.state.Held.{Held}
+use Rattle.build.specs.{Entries.Corners.{cornersOf}, Metadata.Kept.{joined}}
+use Rattle.draft.{proofs.held.Texts.{cleared-texts}, specs.Held.{Builder.{holding, summed}, Sound.{Sound}, State.{Front, Lies, Lists, frontOf, heldAs}}}
+use Rattle.draft.specs.{Held.Totals.{Totals, dataOf, drawnOr, totalsFor, totalsOf}, declared.held.state.Held.{Held}}
 use Rattle.layout.specs.Order.{sortedBy}
 use Rattle.writer.specs.Writer.{every}
-use native.Mathlib.Omega.{arith}
-use Rattle.build.specs.Metadata.Kept.{joined}
 
 abbrev pub noTotals : Totals
 noTotals = record { table = 0; metadata = 0; bytes = 1; yards = 0; greatest = pos 0 }
@@ -36,10 +31,6 @@ heldNone kind version precision names room head front =
     }
 
 module _ (plan : Plan) where
-  pub none-drawn : dataOf (holding plan []) ≡ record { bytes = 0 ∷ []; places = [] }
-  unfolding dataOf drawnOr drawnOf drawnFrom
-  none-drawn = refl
-
   pub none-totals : totalsOf (holding plan []) ≡ noTotals
   unfolding totalsOf totalsFor dataOf drawnOr drawnOf drawnFrom tableOf tableFrom sortedBy metadataOf remotes fieldsOf firstsAfter goodOnes highestOf zipWith flatMap
   none-totals = refl
@@ -67,8 +58,7 @@ module _ (plan : Plan) where
       (summed (holding plan []) room)
   unfolding summed headOf numbersOf
   none-is room =
-      ap (numbersOf room (length (joined (frontOf plan)))) (sym none-totals)
-      ∙ ap (λ (l : List Text). numbersOf room (length (joined l)) (totalsOf (holding plan []))) (sym (cleared-texts plan))
+      ap (numbersOf room (length (joined (frontOf plan)))) (sym none-totals) ∙ ap (λ (l : List Text). numbersOf room (length (joined l)) (totalsOf (holding plan []))) (sym (cleared-texts plan))
 
   pub none-held : (room names head front : ℕ) → names ≡ length (plan .names) → head ≡ length (headOf plan) → front ≡ length (joined (frontOf plan))
       → heldNone (plan .kind) (plan .version) (plan .precision) names room head front ≡ heldAs (summed (holding plan []) room)
@@ -93,9 +83,8 @@ module _ (plan : Plan) where
       }
 
   -- names and notice alone
-  pub none-lies : (lists : Lists) → Front (pos 0) [] (lists .boxes) → Front 0 [] (lists .borders) → Front 0 (map length (frontOf plan)) (lists .lengths) →
-      Front 0 (joined (frontOf plan)) (lists .texts) → Front 0 (0 ∷ []) (lists .bytes)
-      → Lies (holding plan []) (dataOf (holding plan [])) lists
+  pub none-lies : (lists : Lists) → Front (pos 0) [] (lists .boxes) → Front 0 [] (lists .borders) → Front 0 (map length (frontOf plan)) (lists .lengths)
+      → Front 0 (joined (frontOf plan)) (lists .texts) → Front 0 (0 ∷ []) (lists .bytes) → Lies (holding plan []) (dataOf (holding plan [])) lists
   unfolding dataOf drawnOr drawnOf drawnFrom cornersOf
   none-lies lists boxes borders lengths texts bytes =
       record {

@@ -1,17 +1,13 @@
 -- When a yard can be dropped, test by test. Assumes nothing.
-use Prim.Native.Nat.{ℕ, _+_, _-_, _*_, _≤_, _<_}
-use borrow.Author.Tests.{le-ltb, lt-ltb, not-true, not-false}
-use lib.{IntN.{ℤ}, ListN.{length, take, drop, getD}}
-use mathlib.Core.{Bool.{Bool, true, false, not, false≢true}, List.{List}, Path.{_≡_, refl, sym, ap, subst, _∙_}}
-use native.Mathlib.Omega.{arith}
-use Rattle.builder.{proofs.Counting.{lengths-room}, specs.Yards.{sumOf}}
-use Rattle.draft.proofs.held.{Standing.{held-yards, holds-standing}, Stood.{Stood, stood}}
-use Rattle.draft.specs.{Held.{Builder.{Builder, dropLast, holding, summed}, Space.{longEnough, standing}, State.{Holds, Lists}}, declared.held.{room.Rooms.{Rooms}, state.Changed.{Changed}}}
-use Rattle.draft.specs.declared.held.state.Held.{Held}
-use Rattle.draft.specs.declared.held.state.Changed.the-variants as C
+use Rattle.numbers.proofs.Prelude.{ℕ, _+_, _-_, _*_, _≤_, _<_, lt-ltb, le-ltb, not-false, not-true, ℤ, length, take, drop, getD, Bool, true, false, not, List, _≡_, refl, sym, ap, subst, _∙_, arith}
 use Rattle.numbers.specs.{Reply.{Reply, given, refused, plain, demand, _>>_}, declared.refusal.Refusal.{Refusal}}
+use mathlib.Core.Bool.{false≢true}
+use Rattle.builder.{proofs.Counting.{lengths-room}, specs.Yards.{sumOf}}
+use Rattle.draft.{proofs.held.{Standing.{held-yards, holds-standing}, Stood.{Stood, stood}}, specs.Held.{Builder.{Builder, dropLast, holding, summed}, Space.{longEnough, standing}}}
+use Rattle.draft.specs.{Held.State.{Holds, Lists}, declared.held.{room.Rooms.{Rooms}, state.{Changed.{Changed}, Held.{Held}}}}
 use Rattle.edit.proofs.changing.Lasts.{last-fits, place-fits}
-use Rattle.edit.specs.{inner.Changing.Dropped.{Lent, Shortens, shortOf, withSums}, Changing.Dropped.{lastSize, leftSpace}}
+use Rattle.edit.specs.{Changing.Dropped.{lastSize, leftSpace}, inner.Changing.Dropped.{Lent, Shortens, shortOf, withSums}}
+use Rattle.draft.specs.declared.held.state.Changed.the-variants as C
 
 module _ (builder : Held) (rooms : Rooms) (borders lengths : List ℕ) where
   abbrev Refuses : Refusal → Type 0
@@ -25,8 +21,7 @@ module _ (builder : Held) (rooms : Rooms) (borders lengths : List ℕ) where
   -- no yard
   none-left : (b : Builder) → length (b .plan .yards) ≡ 0 → dropLast b (leftSpace builder rooms lengths) ≡ refused (plain 29)
   unfolding dropLast
-  none-left b e =
-      let last : Reply Builder = given (summed (holding (b .plan) (take (length (b .plan .yards) - 1) (b .plan .yards))) (b .room)) in
+  none-left b e = let last : Reply Builder = given (summed (holding (b .plan) (take (length (b .plan .yards) - 1) (b .plan .yards))) (b .room)) in
       ap (λ (x : Bool). demand x (plain 29) >> (demand (leftSpace builder rooms lengths .lists) (plain 28) >> last)) (le-ltb 0 (length (b .plan .yards)) (omega (arith, e)))
 
   module _ (s : Bool) (is : s ≡ standing builder rooms) where
@@ -63,8 +58,7 @@ module _ (builder : Held) (rooms : Rooms) (borders lengths : List ℕ) where
         product-small = lengths-room (builder .names) (builder .yards - 1) (all .few-names) (omega (arith, all .few-yards))
 
         pub last-inside : from + builder .names ≤ length lengths
-        last-inside =
-            let up : builder .yards ≡ builder .yards - 1 + 1 = omega (arith, there) in
+        last-inside = let up : builder .yards ≡ builder .yards - 1 + 1 = omega (arith, there) in
             let times : builder .names * builder .yards ≡ builder .names * (builder .yards - 1 + 1) = ap (λ (k : ℕ). builder .names * k) up in
             let more : builder .names * (builder .yards - 1 + 1) ≡ builder .names * (builder .yards - 1) + builder .names = omega arith in
             omega (arith, all .own .lengths-all, lengths-lent, times, more)
@@ -113,15 +107,12 @@ module _ (builder : Held) (rooms : Rooms) (borders lengths : List ℕ) where
             unfolding dropLast leftSpace
             no-room b more none =
                 let last : Reply Builder = given (summed (holding (b .plan) (take (length (b .plan .yards) - 1) (b .plan .yards))) (b .room)) in
-                ap (λ (x : Bool). demand x (plain 29) >>
-                (demand (longEnough rooms (builder .names) (builder .yards - 1) (builder .front) (builder .strings - lastSize builder lengths)) (plain 28) >> last))
-                (lt-ltb 0 (length (b .plan .yards)) more)
-                ∙ ap (λ (x : Bool). demand x (plain 28) >> last) (room-is ∙ none)
+                ap (λ (x : Bool). demand x (plain 29) >> (demand (longEnough rooms (builder .names) (builder .yards - 1) (builder .front) (builder .strings - lastSize builder lengths))
+                (plain 28) >> last)) (lt-ltb 0 (length (b .plan .yards)) more) ∙ ap (λ (x : Bool). demand x (plain 28) >> last) (room-is ∙ none)
 
             pub room-bad : not w ≡ true → (r : Changed) → r ≡ C.Refused (plain 28) → Shortens builder rooms borders lengths r
             room-bad m r e =
-                refuses (plain 28) r e (standing-still (plain 28))
-                (λ b before eb el l h. no-room b (omega (arith, there, held-yards b builder before h)) (not-true w m))
+                refuses (plain 28) r e (standing-still (plain 28)) (λ b before eb el l h. no-room b (omega (arith, there, held-yards b builder before h)) (not-true w m))
 
             -- the greatest latitude comes as it is stored
             pub shortened : not w ≡ false → (greatest : ℤ) → greatest ≡ builder .greatest

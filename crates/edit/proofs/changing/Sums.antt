@@ -1,13 +1,9 @@
 -- A sum that stays within a bound, length by length. Assumes nothing.
-use Prim.Native.Nat.{ℕ, _+_, _-_, _≤_, _<_}
-use denote.Enum.Declared.{tagOf, declared}
-use lib.ListN.{length, getD}
-use mathlib.Core.{List.{List}, Path.{_≡_, subst}}
-use native.Mathlib.Omega.{arith}
+use Rattle.numbers.proofs.Prelude.{ℕ, _+_, _-_, _≤_, _<_, tagOf, declared, length, getD, List, _≡_, subst, arith}
 use Rattle.build.proofs.Rooms.{Summing, sum-starts, sum-room, sum-goes, sum-ends}
 use Rattle.builder.specs.Yards.{sumOf}
+use Rattle.edit.specs.{declared.changing.sum.Sum.{Sum}, inner.Changing.Sum.{SumsTo}}
 use Rattle.edit.proofs.changing.sum.Sum as K
-use Rattle.edit.specs.{inner.Changing.Sum.{SumsTo}, declared.changing.sum.Sum.{Sum}}
 use Rattle.edit.specs.declared.changing.sum.Sum.the-variants as S
 
 pub record Bounded (lengths : List ℕ) (most sum i : ℕ) : Type 0 where

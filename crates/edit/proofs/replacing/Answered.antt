@@ -1,23 +1,15 @@
 -- From the checks and the text that is put to what replacing promises. Assumes nothing.
-use Prim.Native.Nat.{ℕ, _+_, _-_, _*_, _^_, _≤_, _<_}
-use borrow.Author.Tests.{leb-true, ltb-true}
-use lib.{Dec.{ltb, leb}, IntN.{ℤ}, ListN.{length, take, drop, length-take}}
-use mathlib.Core.{Bool.{Bool, true, false, _&&_}, List.{List}, Path.{_≡_, refl, sym, ap, subst, _∙_}}
-use native.Mathlib.Omega.{arith}
-use Rattle.numbers.proofs.Tests.{both}
+use Rattle.numbers.proofs.Prelude.{ℕ, _+_, _-_, _*_, _≤_, _<_, leb-true, ltb-true, ltb, leb, length, take, drop, Bool, true, false, _&&_, List, _≡_, refl, sym, ap, subst, _∙_, arith}
+use Rattle.numbers.{proofs.{Replies.{demanded}, Tests.{both}}, specs.{Lists.{zeros}, Reply.{Reply, given, refused, plain, demand, _>>=_, _>>_}, declared.refusal.Refusal.{Refusal}}}
 use Rattle.build.specs.{Room.{enough, workOf}, declared.room.Work.{Work}}
 use Rattle.builder.specs.{File.{isText}, Yards.{Text}}
-use Rattle.draft.proofs.held.{Standing.{held-names, held-yards, holds-standing}, Stood.{Own, Stood, own-parts, stood}}
-use Rattle.draft.specs.{Held.{Builder.{Builder, fitting, replace, summed}, Space.{longEnough, ownEnough, standing}, State.{Answers, Holds, Idle, Lists, listsAs}}, declared.held.room.Rooms.{Rooms}}
-use Rattle.draft.specs.declared.held.state.{Changed.{Changed}, Held.{Held}}
-use Rattle.draft.specs.declared.held.state.Changed.the-variants as C
-use Rattle.numbers.{proofs.Replies.{demanded}, specs.{Lists.{zeros}, Reply.{Reply, given, refused, plain, demand, _>>=_, _>>_}, declared.refusal.Refusal.{Refusal}}}
+use Rattle.draft.{proofs.held.{Standing.{held-names, held-yards, holds-standing, text-short}, Stood.{Own, own-parts, stood}}, specs.Held.Builder.{Builder, fitting, replace, summed}}
+use Rattle.draft.specs.{Held.{Space.{longEnough, ownEnough, standing}, State.{Answers, Holds, Idle, Lists, listsAs}}, declared.held.{room.Rooms.{Rooms}, state.{Changed.{Changed}, Held.{Held}}}}
 use Rattle.writer.{proofs.Stores.{stored-length}, specs.inner.Stored.{Stored}}
-use Rattle.edit.proofs.replacing.{Agreed.{checked-as}, Found.{text-few}, Renewed.{renews}, Spots.{Within, fallen, index-inside, spot-ordered, within-parts}}
-use Rattle.edit.specs.inner.Replacing.{Exchange.{Exchanging}, Replaced.{PutIn, Putting, Renews, Resumming, Resums, TakenBack, afterChecks, spotUpTo}, Spot.{checkedOf}}
-use Rattle.edit.specs.Replacing.Replaced.{Replaces, replaced, spaceFor}
-use Rattle.edit.specs.inner.Replacing.Spot.{sizeWith, spotIn, textAt, told, within}
-use Rattle.edit.specs.declared.replacing.check.{Spot.{Spot}, Checked.{Checked}}
+use Rattle.edit.proofs.replacing.{Agreed.{checked-as}, Renewed.{renews}, Spots.{fallen, index-inside, spot-ordered, within-parts}}
+use Rattle.edit.specs.{Replacing.Replaced.{Replaces, replaced, spaceFor}, declared.replacing.check.{Checked.{Checked}, Spot.{Spot}}, inner.Replacing.Exchange.{Exchanging}}
+use Rattle.edit.specs.inner.Replacing.{Replaced.{PutIn, Putting, Renews, Resumming, Resums, TakenBack, afterChecks, spotUpTo}, Spot.{checkedOf, sizeWith, spotIn, textAt, told, within}}
+use Rattle.draft.specs.declared.held.state.Changed.the-variants as C
 use Rattle.edit.specs.declared.replacing.check.Checked.the-variants as D
 
 -- ---- taken back or not
@@ -26,9 +18,8 @@ pub back-into : (changed : Changed) (held : Held) → changed ≡ C.Into held �
 unfolding TakenBack
 back-into changed held e spot strings old lengths texts = subst (λ (x : Changed). TakenBack x spot strings old lengths texts lengths texts (C.Into held)) (sym e) (refl, (refl, refl))
 
-pub back-refused : (changed : Changed) (why : Refusal) → changed ≡ C.Refused why → (spot : Spot) (strings : ℕ) (old lengths texts lengths′ texts′ : List ℕ) (end : ℕ) →
-    PutIn spot strings old lengths texts lengths′ texts′ end
-    → TakenBack changed spot strings old lengths texts lengths′ texts′ (C.Refused why)
+pub back-refused : (changed : Changed) (why : Refusal) → changed ≡ C.Refused why → (spot : Spot) (strings : ℕ) (old lengths texts lengths′ texts′ : List ℕ) (end : ℕ)
+    → PutIn spot strings old lengths texts lengths′ texts′ end → TakenBack changed spot strings old lengths texts lengths′ texts′ (C.Refused why)
 unfolding TakenBack
 back-refused changed why e spot strings old lengths texts lengths′ texts′ end p =
     subst (λ (x : Changed). TakenBack x spot strings old lengths texts lengths′ texts′ (C.Refused why)) (sym e) (refl, (end, p))
@@ -50,10 +41,8 @@ module _ (held : Held) (spot : Spot) (size borders lengths texts out : ℕ) (wor
 
     pub back-room : (again : Spot) → again ≡ spotUpTo spot size → (old out′ : ℕ) → old ≡ spot .from - spot .place → out′ ≡ out →
         (again .index < lengths′) × Exchanging (again .place) (again .from) end old texts′ out′
-    back-room again e old out′ same wide =
-        let i : again .index ≡ spot .index = ap (λ (s : Spot). s .index) e in
-        let a : again .place ≡ spot .place = ap (λ (s : Spot). s .place) e in
-        let f : again .from ≡ spot .place + size = ap (λ (s : Spot). s .from) e in (
+    back-room again e old out′ same wide = let i : again .index ≡ spot .index = ap (λ (s : Spot). s .index) e in
+        let a : again .place ≡ spot .place = ap (λ (s : Spot). s .place) e in let f : again .from ≡ spot .place + size = ap (λ (s : Spot). s .from) e in (
           omega (arith, i, many, p .index-in),
           record {
             ordered = omega (arith, a, f);
@@ -93,40 +82,29 @@ module _ (held : Held) (rooms : Rooms) (out yard field : ℕ) (text : Text) (len
 
   passed : (spot : Spot) → given spot ≡ checkedOf held rooms out yard field text lengths → Passed held rooms out yard field text lengths spot
   unfolding checkedOf
-  passed spot e =
-      let room : Bool = leb (held .strings) out && longEnough rooms (held .names) (held .yards) (held .front) (sizeWith held here (length text)) in
-      let last : Reply Spot = demand room (plain 28) >> given here in
-      let in-it : Reply Spot = demand (within held here) (plain 28) >> last in
+  passed spot e = let room : Bool = leb (held .strings) out && longEnough rooms (held .names) (held .yards) (held .front) (sizeWith held here (length text)) in
+      let last : Reply Spot = demand room (plain 28) >> given here in let in-it : Reply Spot = demand (within held here) (plain 28) >> last in
       let a = demanded {rest = demand (ltb yard (held .yards) && ltb field (held .names)) (plain 30) >> (demand (isText text) (plain 26) >> in-it)} (standing held rooms) (plain 28) e in
       let b = demanded {rest = demand (isText text) (plain 26) >> in-it} (ltb yard (held .yards) && ltb field (held .names)) (plain 30) (a .1) in
-      let c = demanded {rest = in-it} (isText text) (plain 26) (b .1) in
-      let d = demanded {rest = last} (within held here) (plain 28) (c .1) in
-      let f = demanded {rest = given here} room (plain 28) (d .1) in
-      let onto = f .1 in
-      let same : spot ≡ here = cc in
+      let c = demanded {rest = in-it} (isText text) (plain 26) (b .1) in let d = demanded {rest = last} (within held here) (plain 28) (c .1) in
+      let f = demanded {rest = given here} room (plain 28) (d .1) in let onto = f .1 in let same : spot ≡ here = cc in
       record { stands = a .0; there = b .0; is-text = c .0; is = same; within′ = d .0; room = f .0 }
 
   long-parts : (strings : ℕ) → longEnough rooms (held .names) (held .yards) (held .front) strings ≡ true
-      → Own rooms (held .names) (held .yards) strings ×
-      (enough (workOf (rooms .starts) (rooms .keys) (rooms .spare) (rooms .kept) (rooms .held) (rooms .words) (rooms .places) (rooms .boxes)) (held .yards) (held .names * held .yards)
-      (strings - held .front) ≡ true)
+      → Own rooms (held .names) (held .yards) strings × (enough (workOf (rooms .starts) (rooms .keys) (rooms .spare) (rooms .kept) (rooms .held) (rooms .words)
+      (rooms .places) (rooms .boxes)) (held .yards) (held .names * held .yards) (strings - held .front) ≡ true)
   unfolding longEnough
   long-parts strings e =
-      let two = both (ownEnough rooms (held .names) (held .yards) strings)
-      (enough (workOf (rooms .starts) (rooms .keys) (rooms .spare) (rooms .kept) (rooms .held) (rooms .words) (rooms .places) (rooms .boxes)) (held .yards) (held .names * held .yards)
-      (strings - held .front)) e in
+      let two = both (ownEnough rooms (held .names) (held .yards) strings) (enough (workOf (rooms .starts) (rooms .keys) (rooms .spare) (rooms .kept)
+      (rooms .held) (rooms .words) (rooms .places) (rooms .boxes)) (held .yards) (held .names * held .yards) (strings - held .front)) e in
       (own-parts rooms (held .names) (held .yards) strings (two .0), two .1)
 
-  putting-here : Passed held rooms out yard field text lengths here
-      → Putting held here (length text) (rooms .borders) (rooms .lengths) (rooms .texts) out
-      (workOf (rooms .starts) (rooms .keys) (rooms .spare) (rooms .kept) (rooms .held) (rooms .words) (rooms .places) (rooms .boxes))
-  putting-here p =
-      let s = stood held rooms (p .stands) in
-      let w = within-parts held here (p .within′) in
+  putting-here : Passed held rooms out yard field text lengths here → Putting held here (length text) (rooms .borders) (rooms .lengths)
+      (rooms .texts) out (workOf (rooms .starts) (rooms .keys) (rooms .spare) (rooms .kept) (rooms .held) (rooms .words) (rooms .places) (rooms .boxes))
+  putting-here p = let s = stood held rooms (p .stands) in let w = within-parts held here (p .within′) in
       let t = both (ltb yard (held .yards)) (ltb field (held .names)) (p .there) in
       let r = both (leb (held .strings) out) (longEnough rooms (held .names) (held .yards) (held .front) (sizeWith held here (length text))) (p .room) in
-      let l = long-parts (sizeWith held here (length text)) (r .1) in
-      record {
+      let l = long-parts (sizeWith held here (length text)) (r .1) in record {
         index-in = omega (arith, s .own .lengths-all, index-inside (held .names) (held .yards) yard field (ltb-true yard (held .yards) (t .0)) (ltb-true field (held .names) (t .1)));
         ordered = spot-ordered (textAt (held .names) yard field) lengths here refl;
         inside = w .inside;
@@ -134,7 +112,7 @@ module _ (held : Held) (rooms : Rooms) (out yard field : ℕ) (text : Text) (len
         short = w .short;
         old-fits = s .own .texts-room;
         aside = leb-true (held .strings) out (r .0);
-        few = text-few text (p .is-text);
+        few = text-short text (p .is-text);
         resumming = record {
           few-names = s .few-names;
           few-yards = s .few-yards;
@@ -147,14 +125,11 @@ module _ (held : Held) (rooms : Rooms) (out yard field : ℕ) (text : Text) (len
       }
 
   module _ (checked : Checked) (e : told checked ≡ checkedOf held rooms out yard field text lengths) where
-    pub may-put : (spot : Spot) → checked ≡ D.At spot
-        → Putting held spot (length text) (rooms .borders) (rooms .lengths) (rooms .texts) out
-        (workOf (rooms .starts) (rooms .keys) (rooms .spare) (rooms .kept) (rooms .held) (rooms .words) (rooms .places) (rooms .boxes))
-    may-put spot at =
-        let p = passed spot (ap told (sym at) ∙ e) in
-        subst (λ (s : Spot). Putting held s (length text) (rooms .borders) (rooms .lengths) (rooms .texts) out
-        (workOf (rooms .starts) (rooms .keys) (rooms .spare) (rooms .kept) (rooms .held) (rooms .words) (rooms .places) (rooms .boxes))) (sym (p .is))
-        (putting-here (subst (Passed held rooms out yard field text lengths) (p .is) p))
+    pub may-put : (spot : Spot) → checked ≡ D.At spot → Putting held spot (length text) (rooms .borders) (rooms .lengths) (rooms .texts) out (workOf (rooms .starts)
+        (rooms .keys) (rooms .spare) (rooms .kept) (rooms .held) (rooms .words) (rooms .places) (rooms .boxes))
+    may-put spot at = let p = passed spot (ap told (sym at) ∙ e) in
+        subst (λ (s : Spot). Putting held s (length text) (rooms .borders) (rooms .lengths) (rooms .texts) out (workOf (rooms .starts) (rooms .keys)
+        (rooms .spare) (rooms .kept) (rooms .held) (rooms .words) (rooms .places) (rooms .boxes))) (sym (p .is)) (putting-here (subst (Passed held rooms out yard field text lengths) (p .is) p))
 
     module _ (lists : Lists) (same : lists .lengths ≡ lengths) (boxes : rooms .boxes ≡ length (lists .boxes)) (borders : rooms .borders ≡ length (lists .borders))
         (many : rooms .lengths ≡ length (lists .lengths)) (texts : rooms .texts ≡ length (lists .texts)) (bytes : rooms .bytes ≡ length (lists .bytes)) where
@@ -178,10 +153,8 @@ module _ (held : Held) (rooms : Rooms) (out yard field : ℕ) (text : Text) (len
 
       pub replace-put : (spot : Spot) → checked ≡ D.At spot → (after : Lists) (r : Changed) → Renews held spot text lists after r → Replaces held rooms out yard field text lists after r
       unfolding Renews
-      replace-put spot at after r renews =
-          let p = passed spot (ap told (sym at) ∙ e) in
-          let t = both (ltb yard (held .yards)) (ltb field (held .names)) (p .there) in
-          record {
+      replace-put spot at after r renews = let p = passed spot (ap told (sym at) ∙ e) in
+          let t = both (ltb yard (held .yards)) (ltb field (held .names)) (p .there) in record {
             answers = λ b h.
                 subst (λ (x : Reply Builder). Answers x lists after r)
                 (ap (λ (x : Checked). told x >>= λ s. fitting afterChecks (summed (replaced (b .plan) yard field text) (b .room))) (sym at) ∙ agreed b h)

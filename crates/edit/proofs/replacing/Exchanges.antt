@@ -1,25 +1,20 @@
 -- One text in the place of another, in a list that is zero behind its texts. Assumes nothing.
-use Prim.Native.Nat.{ℕ, _+_, _-_, _^_, _≤_, _<_}
-use lib.ListN.{length, take, drop, replicate, length-append, length-replicate, length-take, length-drop, replicate-append-replicate}
-use lib.Seq.{take-at, drop-at, sets-eq, drop-append-add, drop-drop, length-sets}
-use mathlib.Core.{List.{List, [], _∷_, _++_, append-assoc}, Path.{_≡_, refl, sym, ap, subst, _∙_}}
-use native.Mathlib.Omega.{arith}
-use Rattle.numbers.specs.Lists.{zeros}
-use Rattle.writer.{specs.inner.Stored.{Stored}, proofs.Stores.{stored-front, stored-length, stored-then}}
+use Rattle.numbers.proofs.Prelude.{ℕ, _+_, _-_, _^_, _≤_, _<_, length, take, drop, length-append, length-drop, length-take, length-replicate, take-at, drop-drop, drop-at, sets-eq, List, _++_}
+use Rattle.numbers.{proofs.Prelude.{append-assoc, _≡_, sym, ap, subst, _∙_, arith}, specs.Lists.{zeros}}
+use lib.{ListN.{replicate-append-replicate}, Seq.{drop-append-add}}
+use Rattle.writer.{proofs.Stores.{stored-front, stored-length, stored-then}, specs.inner.Stored.{Stored}}
 use Rattle.draft.{proofs.held.Fronts.{front-behind}, specs.Held.State.{Front}}
 use Rattle.edit.specs.inner.Replacing.Exchange.{Exchanging, Exchanged}
 
 -- behind its front a list is zero, from any place on
 front-drop : (front list : List ℕ) → Front 0 front list → (n : ℕ) → length front ≤ n → drop n list ≡ zeros (length list - n)
-front-drop front list f n h =
-    let e : length front + (n - length front) ≡ n = omega arith in
+front-drop front list f n h = let e : length front + (n - length front) ≡ n = omega arith in
     ap (λ (j : ℕ). drop j list) (sym e) ∙ (front-behind 0 f (n - length front) ∙ ap (λ (j : ℕ). zeros (length list - j)) e)
 
 -- a part that was put at the front of another list
 pub kept-part : (from to : ℕ) (texts out out′ : List ℕ) (next : ℕ) → from ≤ to → to ≤ length texts → to - from ≤ length out → Stored out 0 (take (to - from) (drop from texts)) out′ next
     → take (to - from) out′ ≡ take (to - from) (drop from texts)
-kept-part from to texts out out′ next a b c s =
-    let part : List ℕ = take (to - from) (drop from texts) in
+kept-part from to texts out out′ next a b c s = let part : List ℕ = take (to - from) (drop from texts) in
     let size : length part ≡ to - from = simp (length-take, length-drop) (omega arith) in
     ap (take (to - from)) (stored-front out part out′ next s (omega (arith, size))) ∙ take-at part (drop (length part) out) (to - from) size
 
@@ -59,9 +54,8 @@ module _ (place from strings : ℕ) (text texts out : List ℕ) (e : Exchanging 
 
       tail-is : tail ≡ behind
       tail-is =
-          ap (λ (l : List ℕ). take (strings - from) (drop from l)) from-is
-          ∙ (ap (take (strings - from)) (drop-at (before ++ old) (behind ++ rest) from (omega (arith, length-append before old)))
-          ∙ take-at behind rest (strings - from) (omega arith))
+          ap (λ (l : List ℕ). take (strings - from) (drop from l)) from-is ∙ (ap (take (strings - from)) (drop-at (before ++ old) (behind ++ rest) from
+          (omega (arith, length-append before old))) ∙ take-at behind rest (strings - from) (omega arith))
 
       before-is : take place texts ≡ before
       before-is = ap (take place) is ∙ take-at before (old ++ (behind ++ rest)) place p
@@ -77,10 +71,8 @@ module _ (place from strings : ℕ) (text texts out : List ℕ) (e : Exchanging 
 
       two-is : two ≡ new ++ drop end texts
       two-is =
-          both .stored
-          ∙ (sets-eq (text ++ tail) texts place (omega (arith, both .place-after, end-fits))
-          ∙ (ap (λ (l : List ℕ). (l ++ (text ++ tail)) ++ drop (place + length (text ++ tail)) texts) before-is
-          ∙ (ap (λ (l : List ℕ). (before ++ (text ++ l)) ++ drop (place + length (text ++ tail)) texts) tail-is
+          both .stored ∙ (sets-eq (text ++ tail) texts place (omega (arith, both .place-after, end-fits)) ∙ (ap (λ (l : List ℕ). (l ++ (text ++ tail)) ++ drop
+          (place + length (text ++ tail)) texts) before-is ∙ (ap (λ (l : List ℕ). (before ++ (text ++ l)) ++ drop (place + length (text ++ tail)) texts) tail-is
           ∙ ap (λ (n : ℕ). new ++ drop n texts) (sym (both .place-after)))))
 
       two-size : length two ≡ length texts
@@ -123,10 +115,9 @@ module _ (place from strings : ℕ) (text texts out : List ℕ) (e : Exchanging 
     -- with the rest lent and zeroed
     pub exchanged-shorter : end < strings → (lent : List ℕ) → lent ≡ zeros (length (take (strings - end) (drop end two)))
         → Exchanged place from strings text texts (take end two ++ (lent ++ drop (strings - end) (drop end two))) end
-    exchanged-shorter h lent z =
-        let on : end + (strings - end) ≡ strings = omega arith in
+    exchanged-shorter h lent z = let on : end + (strings - end) ≡ strings = omega arith in
         let many : length (take (strings - end) (drop end two)) ≡ strings - end = simp (length-take, length-drop) (omega (arith, stored-length both, e .old-fits)) in
-        let is : take end two ++ (lent ++ drop (strings - end) (drop end two)) ≡ take end two ++ (zeros (strings - end) ++ drop strings two) =
-        ap (λ (l : List ℕ). take end two ++ (l ++ drop (strings - end) (drop end two))) (z ∙ ap zeros many)
-        ∙ ap (λ (l : List ℕ). take end two ++ (zeros (strings - end) ++ l)) (drop-drop (strings - end) end two ∙ ap (λ (n : ℕ). drop n two) on) in
+        let is : take end two ++ (lent ++ drop (strings - end) (drop end two)) ≡ take end two ++ (zeros (strings - end) ++ drop strings two) = ap
+        (λ (l : List ℕ). take end two ++ (l ++ drop (strings - end) (drop end two))) (z ∙ ap zeros many) ∙ ap (λ (l : List ℕ). take end two ++ (zeros (strings - end) ++ l))
+        (drop-drop (strings - end) end two ∙ ap (λ (n : ℕ). drop n two) on) in
         record { end-is = end-is; stands = λ before old behind p o b f. shorter before old behind p o b f h (take end two ++ (lent ++ drop (strings - end) (drop end two))) is }

@@ -1,28 +1,14 @@
 -- A text alone in a list of texts. Assumes nothing.
-use Prim.Native.Nat.{ℕ, _+_, _≤_, _<_}
-use borrow.Author.Tests.{le-leb, lt-leb, leb-true}
-use lib.{Dec.{leb}, ListN.{length, take}, Seq.{take-length}}
-use mathlib.Core.{Bool.{Bool, true, false, _&&_}, List.{List, [], _∷_}, Path.{_≡_, refl, sym, ap, _∙_}}
-use native.Mathlib.Omega.{arith}
+use Rattle.numbers.proofs.Prelude.{_+_, _<_, le-leb, lt-leb, leb, length, take, take-length, Bool, true, false, _&&_, [], _∷_, _≡_, refl, ap, _∙_, arith}
 use Rattle.writer.specs.Writer.{every}
-use Rattle.header.specs.Utf8.{isUtf8}
-use Rattle.numbers.proofs.Tests.{both}
 use Rattle.builder.specs.{File.{isText, areTexts}, Yards.{Text, cutBy, sumOf}}
+use mathlib.Core.Bool.{and-true}
 
 pub long-no-text : (text : Text) → 255 < length text → false ≡ isText text
 unfolding isText
 long-no-text text h = rw (lt-leb (length text) 255 h) refl
 
-pub text-few : (text : Text) → isText text ≡ true → length text ≤ 255
-unfolding isText
-text-few text e = leb-true (length text) 255 (both (leb (length text) 255) (isUtf8 text) e .0)
-
-and-true : (b : Bool) → (b && true) ≡ b
-and-true true = refl
-and-true false = refl
-
 pub one-text : (text : Text) (r : Bool) → r ≡ areTexts (length text ∷ []) text → r ≡ isText text
 unfolding areTexts sumOf cutBy every
-one-text text r e =
-    let there : leb (length text + 0) (length text) ≡ true = le-leb (length text + 0) (length text) (omega arith) in
+one-text text r e = let there : leb (length text + 0) (length text) ≡ true = le-leb (length text + 0) (length text) (omega arith) in
     e ∙ (ap (λ (b : Bool). b && (isText (take (length text) text) && true)) there ∙ (and-true (isText (take (length text) text)) ∙ ap isText (take-length text)))

@@ -1,19 +1,15 @@
 -- Where a value of a builder that calls have made lies in its lists. Assumes nothing.
-use Prim.Native.Nat.{ℕ, zero, suc, _+_, _-_, _*_, _^_, _≤_, _<_}
-use borrow.Author.Tests.{le-leb}
-use lib.{Dec.{leb}, ListN.{length, take, drop, getD, replicate, length-append, length-map, List·getD-append}, Seq.{take-append-le, take-append-add}}
-use mathlib.Core.{Bool.{Bool, true, _&&_}, List.{List, [], _∷_, _++_, map, flatMap}, Path.{_≡_, refl, sym, ap, _∙_}}
-use native.Mathlib.Omega.{arith}
-use Rattle.numbers.proofs.Tests.{both}
+use Rattle.numbers.proofs.Prelude.{ℕ, zero, suc, _+_, _-_, _*_, _^_, _≤_, _<_, le-leb, length, take, getD, replicate, length-append, length-map, List·getD-append, take-append-le, Bool, true, _&&_}
+use Rattle.numbers.proofs.{Prelude.{List, [], _∷_, _++_, map, flatMap, _≡_, refl, sym, ap, _∙_, arith}, Tests.{both}}
+use lib.Seq.{take-append-add}
 use Rattle.builder.{proofs.Counting.{lengths-room}, specs.{File.{isText}, Metadata.{fieldsOf}, Yards.{Text, Plan, Yard, sumOf}}}
-use Rattle.draft.proofs.held.Standing.{readable-parts, texts-many, texts-split, front-many, names-few, held-names, held-front, held-strings}
-use Rattle.draft.proofs.held.Texts.{textIndex, index-inside, beforeText, behindText, strings-around, replaced-strings, changed}
-use Rattle.draft.specs.{Held.{Builder.{Builder}, Sound.{Sound}, State.{Front, Holds, Lists, frontOf, textsOf, valuesOf}}, declared.held.state.Held.{Held}}
-use Rattle.build.{proofs.metadata.{Itemed.{map-take}, Shared.{flat-more}, Worded.{at-map}}, specs.Metadata.Kept.{joined}}
-use Rattle.build.proofs.recording.Fewer.{joined-sum}
+use Rattle.draft.proofs.held.Standing.{readable-parts, texts-many, front-many, names-few, held-names, held-front, held-strings, text-short}
+use Rattle.draft.{proofs.held.Texts.{textIndex, index-inside, beforeText, behindText, strings-around, replaced-strings, changed}, specs.Held.{Builder.{Builder}, Sound.{Sound}}}
+use Rattle.draft.specs.{Held.State.{Front, Holds, Lists, frontOf, textsOf, valuesOf}, declared.held.state.Held.{Held}}
+use Rattle.build.{proofs.{metadata.{Itemed.{map-take}, Shared.{flat-more}, Worded.{at-map}}, recording.Fewer.{joined-sum}}, specs.Metadata.Kept.{joined}}
 use Rattle.writer.specs.Writer.{every}
-use Rattle.edit.proofs.replacing.{Found.{text-few}, Spots.{short-last}}
-use Rattle.edit.specs.{inner.Replacing.Spot.{textAt, spotIn, within, sizeWith}, declared.replacing.check.Spot.{Spot}}
+use Rattle.edit.proofs.replacing.Spots.{short-last}
+use Rattle.edit.specs.{declared.replacing.check.Spot.{Spot}, inner.Replacing.Spot.{textAt, spotIn, within, sizeWith}}
 
 -- ---- what is read of the front of a list
 front-takes : (front list : List ℕ) → Front 0 front list → (n : ℕ) → n ≤ length front → take n list ≡ take n front
@@ -26,15 +22,13 @@ front-reads front list f i h = ap (λ (l : List ℕ). getD l i 0) (f .is) ∙ Li
 every-join : {A : Type 0} (good : A → Bool) (xs ys : List A) → every good xs ≡ true → every good ys ≡ true → every good (xs ++ ys) ≡ true
 unfolding every
 every-join good [] ys a b = b
-every-join good (x ∷ xs) ys a b =
-    let two = both (good x) (every good xs) a in
+every-join good (x ∷ xs) ys a b = let two = both (good x) (every good xs) a in
     ap (λ (t : Bool). t && every good (xs ++ ys)) (two .0) ∙ every-join good xs ys (two .1) b
 
 every-value : (yards : List Yard) → every (λ y. every isText (y .values)) yards ≡ true → every isText (fieldsOf (map (λ (y : Yard). y .values) yards)) ≡ true
 unfolding every fieldsOf
 every-value [] e = refl
-every-value (y ∷ ys) e =
-    let two = both (every isText (y .values)) (every (λ y. every isText (y .values)) ys) e in
+every-value (y ∷ ys) e = let two = both (every isText (y .values)) (every (λ y. every isText (y .values)) ys) e in
     every-join isText (y .values) (fieldsOf (map (λ (y : Yard). y .values) ys)) (two .0) (every-value ys (two .1))
 
 every-at : (ts : List Text) → every isText ts ≡ true → (i : ℕ) → i < length ts → isText (getD ts i []) ≡ true
@@ -46,17 +40,14 @@ every-at (t ∷ ts) e (suc i) h = every-at ts (both (isText t) (every isText ts)
 every-short : (ts : List Text) → every isText ts ≡ true → length (joined ts) ≤ 255 * length ts
 unfolding every flatMap
 every-short [] e = omega arith
-every-short (t ∷ ts) e =
-    let two = both (isText t) (every isText ts) e in
-    omega (arith, length-append t (joined ts), text-few t (two .0), every-short ts (two .1))
+every-short (t ∷ ts) e = let two = both (isText t) (every isText ts) e in
+    omega (arith, length-append t (joined ts), text-short t (two .0), every-short ts (two .1))
 
 module _ (plan : Plan) (room : ℕ) (sound : Sound plan room) where
   texts-all : every isText (textsOf plan) ≡ true
   unfolding every
-  texts-all =
-      let parts = readable-parts plan (sound .texts) in
-      every-join isText (frontOf plan) (valuesOf plan)
-      (every-join isText (plan .names) (plan .notice ∷ []) (parts .1 .0) (ap (λ (b : Bool). b && true) (parts .1 .1 .0)))
+  texts-all = let parts = readable-parts plan (sound .texts) in
+      every-join isText (frontOf plan) (valuesOf plan) (every-join isText (plan .names) (plan .notice ∷ []) (parts .1 .0) (ap (λ (b : Bool). b && true) (parts .1 .1 .0)))
       (every-value (plan .yards) (parts .1 .1 .1))
 
   texts-size : length (textsOf plan) ≡ length (plan .names) + 1 + length (plan .names) * length (plan .yards)
@@ -97,9 +88,8 @@ module _ (b : Builder) (held : Held) (lists : Lists) (h : Holds b held lists) (y
 
   pub place-is : spot .place ≡ length before
   place-is =
-      ap (λ (i : ℕ). sumOf (take i (lists .lengths))) index-is
-      ∙ (ap sumOf (front-takes (map length (textsOf plan)) (lists .lengths) (h .lies .lengths-are) index (omega (arith, index-in)) ∙ sym (map-take length index (textsOf plan)))
-      ∙ sym (joined-sum (take index (textsOf plan))))
+      ap (λ (i : ℕ). sumOf (take i (lists .lengths))) index-is ∙ (ap sumOf (front-takes (map length (textsOf plan)) (lists .lengths) (h .lies .lengths-are)
+      index (omega (arith, index-in)) ∙ sym (map-take length index (textsOf plan))) ∙ sym (joined-sum (take index (textsOf plan))))
 
   pub old-is : getD (lists .lengths) (textAt (held .names) yard field) 0 ≡ length old
   old-is =
@@ -111,8 +101,7 @@ module _ (b : Builder) (held : Held) (lists : Lists) (h : Holds b held lists) (y
 
   pub strings-is : held .strings ≡ length before + length old + length behind
   strings-is =
-      held-strings b held lists h
-      ∙ (ap length (strings-around plan (b .room) (h .sound) yard field text y f) ∙ omega (arith, length-append before (old ++ behind), length-append old behind))
+      held-strings b held lists h ∙ (ap length (strings-around plan (b .room) (h .sound) yard field text y f) ∙ omega (arith, length-append before (old ++ behind), length-append old behind))
 
   pub strings-new : length (joined (textsOf (changed plan (b .room) (h .sound) yard field text y f))) ≡ length before + length text + length behind
   strings-new =
@@ -120,16 +109,14 @@ module _ (b : Builder) (held : Held) (lists : Lists) (h : Holds b held lists) (y
 
   -- the names and the notice lie before it
   front-before : length (joined (frontOf plan)) ≤ length before
-  front-before =
-      let k : ℕ = yard * length (plan .names) + field in
+  front-before = let k : ℕ = yard * length (plan .names) + field in
       let i : index ≡ length (frontOf plan) + k = ap (λ (n : ℕ). n + k) (sym (front-many plan (b .room) (h .sound))) in
-      let is : before ≡ joined (frontOf plan) ++ joined (take k (valuesOf plan)) =
-      ap (λ (n : ℕ). joined (take n (textsOf plan))) i
+      let is : before ≡ joined (frontOf plan) ++ joined (take k (valuesOf plan)) = ap (λ (n : ℕ). joined (take n (textsOf plan))) i
       ∙ (ap joined (take-append-add (frontOf plan) (valuesOf plan) k) ∙ flat-more (λ (t : Text). t) (frontOf plan) (take k (valuesOf plan))) in
       omega (arith, ap length is, length-append (joined (frontOf plan)) (joined (take k (valuesOf plan))))
 
   pub old-few : length old ≤ 255
-  old-few = text-few old (every-at (textsOf plan) (texts-all plan (b .room) (h .sound)) index inside)
+  old-few = text-short old (every-at (textsOf plan) (texts-all plan (b .room) (h .sound)) index inside)
 
   pub value-within : within held spot ≡ true
   value-within =

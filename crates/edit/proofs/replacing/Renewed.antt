@@ -1,24 +1,18 @@
 -- A builder's lists with a text in the place of a value, and as they were. Assumes nothing.
-use Prim.Native.Nat.{ℕ, suc, _+_, _-_, _*_, _≤_, _<_}
-use lib.{Dec.{leb}, IntN.{ℤ, pos}, ListN.{length, take, drop, set, getD, replicate, length-append, length-set, length-take, length-drop}, Seq.{set-set, set-getD, take-at}}
-use mathlib.Core.{Bool.{Bool, true, false, _&&_}, List.{List, _++_, map}, Path.{_≡_, refl, sym, ap, subst, _∙_}}
-use native.Mathlib.Omega.{arith}
+use Rattle.numbers.proofs.Prelude.{ℕ, _+_, _-_, _*_, _<_, leb, ℤ, pos, length, take, drop, getD, set, length-set, Bool, true, false, List, _++_, map, _≡_, refl, sym, ap, subst, _∙_, arith}
+use Rattle.numbers.specs.{Reply.{given, refused, plain, demand, _>>_}, declared.refusal.Refusal.{Refusal}}
+use lib.Seq.{set-set, set-getD}
 use Rattle.builder.specs.{Borders.{Drawn}, File.{headOf, isText, upTo}, Yards.{Text, Plan}}
-use Rattle.build.specs.Entries.Corners.{cornersOf}
 use Rattle.draft.proofs.held.{Everyone.{length-changed}, Fronts.{front-one, front-part, front-set}, Kept.{replaced-data, replaced-sound}, Lying.{holds-other, lies-replaced}}
-use Rattle.draft.specs.Held.State as L
-use Rattle.draft.proofs.held.Standing.{held-names, held-yards, held-bytes, held-front, held-strings, stands-more}
-use Rattle.draft.proofs.held.Texts.{corners-changed, replaced-lengths, replaced-strings, replaced-head, strings-around}
-use Rattle.draft.specs.Held.{Builder.{Builder, fitting, summed, withValue}, Sound.{Sound}, State.{Answers, Front, Holds, Lies, Lists, SameRooms, Stands, heldAs, listsAs, textsOf}, Totals.{Totals}}
-use Rattle.draft.specs.{Held.Totals.{dataOf, fileSize, totalsFor, totalsOf}, declared.held.state.{Changed.{Changed}, Held.{Held}}}
-use Rattle.draft.specs.declared.held.state.Changed.the-variants as C
+use Rattle.draft.proofs.held.{Standing.{held-names, held-yards, held-bytes, held-front, stands-more}, Texts.{replaced-lengths, replaced-strings, strings-around}}
+use Rattle.draft.specs.Held.{Builder.{Builder, fitting, summed, withValue}, Sound.{Sound}, State.{Answers, Front, Holds, Lies, Lists, SameRooms, Stands, listsAs, textsOf}}
+use Rattle.draft.specs.{Held.Totals.{Totals, dataOf, fileSize, totalsFor, totalsOf}, declared.held.state.{Changed.{Changed}, Held.{Held}}}
 use Rattle.build.specs.Metadata.Kept.{joined}
-use Rattle.numbers.specs.{Answer.{if_then_else_}, Reply.{Reply, given, refused, plain, demand, _>>_}, declared.refusal.Refusal.{Refusal}}
-use Rattle.writer.{specs.inner.Stored.{Stored}, proofs.Stores.{stored-front}}
+use Rattle.edit.specs.{Replacing.Replaced.{replaced}, declared.replacing.check.Spot.{Spot}, inner.Replacing.Exchange.{Exchanged}}
+use Rattle.edit.specs.inner.Replacing.{Replaced.{PutIn, Renews, Resums, afterChecks, heldWith, resummed, sizeFits, spotUpTo, TakenBack}, Spot.{spotIn, textAt}}
+use Rattle.draft.specs.Held.State as L
+use Rattle.draft.specs.declared.held.state.Changed.the-variants as C
 use Rattle.edit.proofs.replacing.Placed as P
-use Rattle.edit.specs.inner.Replacing.{Exchange.{Exchanged}, Replaced.{PutIn, Renews, Resums, afterChecks, heldWith, resummed, sizeFits, spotUpTo, TakenBack}, Spot.{spotIn, textAt}}
-use Rattle.edit.specs.Replacing.Replaced.{replaced}
-use Rattle.edit.specs.declared.replacing.check.Spot.{Spot}
 
 -- ---- what is made of the sums
 module _ (held : Held) (strings table metadata : ℕ) (greatest : ℤ) where
@@ -99,9 +93,8 @@ module _ (b : Builder) (held : Held) (lists : Lists) (h : Holds b held lists) (y
         (subst (λ (l : List ℕ). Front 0 l texts′) (sym (replaced-strings plan (b .room) (h .sound) yard field text y f)) texts-are-now)
 
     -- the sums may be taken of it
-    pub stands-now : (from to : ℕ) → from ≡ held .names + 1 → to ≡ held .names + 1 + held .names * held .yards
-        → Stands (plan′ .yards) (dataOf plan′) (held .names) (held .yards) (lists .boxes) (lists .borders) (take (to - from) (drop from lengths′))
-        (take (end - held .front) (drop (held .front) texts′))
+    pub stands-now : (from to : ℕ) → from ≡ held .names + 1 → to ≡ held .names + 1 + held .names * held .yards → Stands (plan′ .yards) (dataOf plan′)
+        (held .names) (held .yards) (lists .boxes) (lists .borders) (take (to - from) (drop from lengths′)) (take (end - held .front) (drop (held .front) texts′))
     stands-now from to ef et =
         stands-more plan′ (b .room) sound′ lists′ lies′ (held .names) (held .yards) from to (held .front) end (held-names b held lists h) same-yards ef et (held-front b held lists h) end-is
 
@@ -135,19 +128,15 @@ module _ (b : Builder) (held : Held) (lists : Lists) (h : Holds b held lists) (y
 
     renewed : length texts′ ≡ length (lists .texts) → (held′ : Held) → C.Into held′ ≡ sum → Answers (fitting afterChecks next) lists lists′ (C.Into held′)
     unfolding Answers fitting
-    renewed long held′ e = go fit fit-is
-      where
-        rooms : SameRooms lists lists′
-        rooms = record { boxes = refl; borders = refl; lengths = ap length sized ∙ length-set (lists .lengths) (spot .index) (length text); texts = long; bytes = refl }
+    renewed long held′ e = go fit fit-is where
+      rooms : SameRooms lists lists′
+      rooms = record { boxes = refl; borders = refl; lengths = ap length sized ∙ length-set (lists .lengths) (spot .index) (length text); texts = long; bytes = refl }
 
-        go : (fits : Bool) → sizeFits held (sums .table) (sums .metadata) ≡ fits → Answers (demand fits (plain 28) >> given next) lists lists′ (C.Into held′)
-        go true s =
-            let known = resum-fits held end (sums .table) (sums .metadata) (sums .greatest) s in
-            let same : heldWith held end (sums .table) (sums .metadata) (sums .greatest) ≡ held′ = cc in
-            (next, (refl, (subst (λ (x : Held). Holds next x lists′) same holds-now, rooms)))
-        go false s =
-            let known = resum-long held end (sums .table) (sums .metadata) (sums .greatest) s in
-            let z : _≡_ {A = ℕ} 0 1 = cc in absurd (omega arith)
+      go : (fits : Bool) → sizeFits held (sums .table) (sums .metadata) ≡ fits → Answers (demand fits (plain 28) >> given next) lists lists′ (C.Into held′)
+      go true s = let known = resum-fits held end (sums .table) (sums .metadata) (sums .greatest) s in
+          let same : heldWith held end (sums .table) (sums .metadata) (sums .greatest) ≡ held′ = cc in
+          (next, (refl, (subst (λ (x : Held). Holds next x lists′) same holds-now, rooms)))
+      go false s = let known = resum-long held end (sums .table) (sums .metadata) (sums .greatest) s in let z : _≡_ {A = ℕ} 0 1 = cc in absurd (omega arith)
 
     -- ---- and the old text again
     module _ (saved lengths″ texts″ : List ℕ) (end″ : ℕ) (kept : saved ≡ take (spot .from - spot .place) (drop (spot .place) (lists .texts)))
@@ -156,11 +145,8 @@ module _ (b : Builder) (held : Held) (lists : Lists) (h : Holds b held lists) (y
       saved-is = kept ∙ front-part 0 texts-were before old behind refl (spot .place) (spot .from) place-is from-is
 
       lengths-back : lengths″ ≡ lists .lengths
-      lengths-back =
-          let same : length saved ≡ getD (lists .lengths) (spot .index) 0 = ap length saved-is ∙ sym (P.old-is b held lists h yard field text y f) in
-          sized″
-          ∙ (ap (λ (l : List ℕ). set l (spot .index) (length saved)) sized
-          ∙ (set-set (lists .lengths) (spot .index) (length text) (length saved)
+      lengths-back = let same : length saved ≡ getD (lists .lengths) (spot .index) 0 = ap length saved-is ∙ sym (P.old-is b held lists h yard field text y f) in
+          sized″ ∙ (ap (λ (l : List ℕ). set l (spot .index) (length saved)) sized ∙ (set-set (lists .lengths) (spot .index) (length text) (length saved)
           ∙ (ap (λ (n : ℕ). set (lists .lengths) (spot .index) n) same ∙ set-getD (lists .lengths) (spot .index) 0)))
 
       texts-again : Front 0 (before ++ (old ++ behind)) texts″
@@ -174,22 +160,17 @@ module _ (b : Builder) (held : Held) (lists : Lists) (h : Holds b held lists) (y
       unchanged : length texts″ ≡ length (lists .texts) → (why : Refusal) → C.Refused why ≡ sum →
           Answers (fitting afterChecks next) lists (listsAs (lists .boxes) (lists .borders) lengths″ texts″ (lists .bytes)) (C.Refused why)
       unfolding Answers fitting
-      unchanged long why e = go fit fit-is
-        where
-          back : listsAs (lists .boxes) (lists .borders) lengths″ texts″ (lists .bytes) ≡ lists
-          back =
-              ap (λ (l : List ℕ). listsAs (lists .boxes) (lists .borders) l texts″ (lists .bytes)) lengths-back
-              ∙ ap (λ (l : List ℕ). listsAs (lists .boxes) (lists .borders) (lists .lengths) l (lists .bytes)) (texts-back long)
+      unchanged long why e = go fit fit-is where
+        back : listsAs (lists .boxes) (lists .borders) lengths″ texts″ (lists .bytes) ≡ lists
+        back =
+            ap (λ (l : List ℕ). listsAs (lists .boxes) (lists .borders) l texts″ (lists .bytes)) lengths-back
+            ∙ ap (λ (l : List ℕ). listsAs (lists .boxes) (lists .borders) (lists .lengths) l (lists .bytes)) (texts-back long)
 
-          go : (fits : Bool) → sizeFits held (sums .table) (sums .metadata) ≡ fits
-              → Answers (demand fits (plain 28) >> given next) lists (listsAs (lists .boxes) (lists .borders) lengths″ texts″ (lists .bytes)) (C.Refused why)
-          go true s =
-              let known = resum-fits held end (sums .table) (sums .metadata) (sums .greatest) s in
-              let z : _≡_ {A = ℕ} 0 1 = cc in absurd (omega arith)
-          go false s =
-              let known = resum-long held end (sums .table) (sums .metadata) (sums .greatest) s in
-              let same : plain 28 ≡ why = cc in
-              (ap (λ (w : Refusal). refused w) same, back)
+        go : (fits : Bool) → sizeFits held (sums .table) (sums .metadata) ≡ fits
+            → Answers (demand fits (plain 28) >> given next) lists (listsAs (lists .boxes) (lists .borders) lengths″ texts″ (lists .bytes)) (C.Refused why)
+        go true s = let known = resum-fits held end (sums .table) (sums .metadata) (sums .greatest) s in let z : _≡_ {A = ℕ} 0 1 = cc in absurd (omega arith)
+        go false s = let known = resum-long held end (sums .table) (sums .metadata) (sums .greatest) s in let same : plain 28 ≡ why = cc in
+            (ap (λ (w : Refusal). refused w) same, back)
 
 -- ---- as the functions say it
 module _ (held : Held) (spot : Spot) (text : Text) (lists : Lists) (lengths′ texts′ : List ℕ) (end : ℕ) (p : PutIn spot (held .strings) text (lists .lengths) (lists .texts) lengths′ texts′ end)
@@ -198,39 +179,33 @@ module _ (held : Held) (spot : Spot) (text : Text) (lists : Lists) (lengths′ t
       Renews held spot text lists (listsAs (lists .boxes) (lists .borders) lengths′ texts′ (lists .bytes)) (C.Into held′)
   unfolding Renews Resums
   renews-into long held′ into =
-      λ b yard field h y f t e.
-      let q : PutIn (spotIn (textAt (held .names) yard field) (lists .lengths)) (held .strings) text (lists .lengths) (lists .texts) lengths′ texts′ end =
-      subst (λ (s : Spot). PutIn s (held .strings) text (lists .lengths) (lists .texts) lengths′ texts′ end) e p in
-      renewed b held lists h yard field text y f t lengths′ texts′ end (q .sized) (q .put) long held′
-      (sym into ∙ sums (replaced (b .plan) yard field text .yards) (dataOf (replaced (b .plan) yard field text))
-      (stands-now b held lists h yard field text y f t lengths′ texts′ end (q .sized) (q .put) (held .names + 1) (held .names + 1 + held .names * held .yards) refl refl))
+      λ b yard field h y f t e. let q : PutIn (spotIn (textAt (held .names) yard field) (lists .lengths)) (held .strings) text (lists .lengths) (lists .texts)
+      lengths′ texts′ end = subst (λ (s : Spot). PutIn s (held .strings) text (lists .lengths) (lists .texts) lengths′ texts′ end) e p in renewed b held lists
+      h yard field text y f t lengths′ texts′ end (q .sized) (q .put) long held′ (sym into ∙ sums (replaced (b .plan) yard field text .yards)
+      (dataOf (replaced (b .plan) yard field text)) (stands-now b held lists h yard field text y f t lengths′ texts′ end (q .sized) (q .put) (held .names + 1)
+      (held .names + 1 + held .names * held .yards) refl refl))
 
   renews-refused : (saved lengths″ texts″ : List ℕ) (end″ : ℕ) → saved ≡ take (spot .from - spot .place) (drop (spot .place) (lists .texts))
-      → PutIn (spotUpTo spot (length text)) end saved lengths′ texts′ lengths″ texts″ end″
-      → length texts″ ≡ length (lists .texts) → (why : Refusal) → r ≡ C.Refused why →
-      Renews held spot text lists (listsAs (lists .boxes) (lists .borders) lengths″ texts″ (lists .bytes)) (C.Refused why)
+      → PutIn (spotUpTo spot (length text)) end saved lengths′ texts′ lengths″ texts″ end″ → length texts″ ≡ length (lists .texts) → (why : Refusal)
+      → r ≡ C.Refused why → Renews held spot text lists (listsAs (lists .boxes) (lists .borders) lengths″ texts″ (lists .bytes)) (C.Refused why)
   unfolding Renews Resums
   renews-refused saved lengths″ texts″ end″ kept again long why stays =
-      λ b yard field h y f t e.
-      let here : Spot = spotIn (textAt (held .names) yard field) (lists .lengths) in
-      let q : PutIn here (held .strings) text (lists .lengths) (lists .texts) lengths′ texts′ end =
-      subst (λ (s : Spot). PutIn s (held .strings) text (lists .lengths) (lists .texts) lengths′ texts′ end) e p in
-      let k : saved ≡ take (here .from - here .place) (drop (here .place) (lists .texts)) = subst (λ (s : Spot). saved ≡ take (s .from - s .place) (drop (s .place) (lists .texts))) e kept in
-      let a : PutIn (spotUpTo here (length text)) end saved lengths′ texts′ lengths″ texts″ end″ =
-      subst (λ (s : Spot). PutIn (spotUpTo s (length text)) end saved lengths′ texts′ lengths″ texts″ end″) e again in
-      unchanged b held lists h yard field text y f t lengths′ texts′ end (q .sized) (q .put) saved lengths″ texts″ end″ k (a .sized) (a .put) long why
-      (sym stays ∙ sums (replaced (b .plan) yard field text .yards) (dataOf (replaced (b .plan) yard field text))
-      (stands-now b held lists h yard field text y f t lengths′ texts′ end (q .sized) (q .put) (held .names + 1) (held .names + 1 + held .names * held .yards) refl refl))
+      λ b yard field h y f t e. let here : Spot = spotIn (textAt (held .names) yard field) (lists .lengths) in let q : PutIn here (held .strings) text
+      (lists .lengths) (lists .texts) lengths′ texts′ end = subst (λ (s : Spot). PutIn s (held .strings) text (lists .lengths) (lists .texts) lengths′ texts′ end) e p in
+      let k : saved ≡ take (here .from - here .place) (drop (here .place) (lists .texts)) = subst (λ (s : Spot). saved ≡ take (s .from - s .place)
+      (drop (s .place) (lists .texts))) e kept in let a : PutIn (spotUpTo here (length text)) end saved lengths′ texts′ lengths″ texts″ end″ = subst
+      (λ (s : Spot). PutIn (spotUpTo s (length text)) end saved lengths′ texts′ lengths″ texts″ end″) e again in unchanged b held lists h yard field text y f t
+      lengths′ texts′ end (q .sized) (q .put) saved lengths″ texts″ end″ k (a .sized) (a .put) long why (sym stays ∙ sums (replaced (b .plan) yard field text .yards)
+      (dataOf (replaced (b .plan) yard field text)) (stands-now b held lists h yard field text y f t lengths′ texts′ end (q .sized) (q .put) (held .names + 1)
+      (held .names + 1 + held .names * held .yards) refl refl))
 
 -- what was refused is taken back
-pub renews : (held : Held) (spot : Spot) (text : Text) (lists : Lists) (lengths′ texts′ : List ℕ) (end : ℕ) → PutIn spot (held .strings) text (lists .lengths) (lists .texts) lengths′ texts′ end
-    → (r : Changed) → Resums held end (lists .boxes) (lists .borders) lengths′ texts′ r
-    → (saved lengths″ texts″ : List ℕ) (r″ : Changed) → saved ≡ take (spot .from - spot .place) (drop (spot .place) (lists .texts)) →
-    TakenBack r (spotUpTo spot (length text)) end saved lengths′ texts′ lengths″ texts″ r″
+pub renews : (held : Held) (spot : Spot) (text : Text) (lists : Lists) (lengths′ texts′ : List ℕ) (end : ℕ) → PutIn spot (held .strings) text (lists .lengths)
+    (lists .texts) lengths′ texts′ end → (r : Changed) → Resums held end (lists .boxes) (lists .borders) lengths′ texts′ r → (saved lengths″ texts″ : List ℕ) (r″ : Changed)
+    → saved ≡ take (spot .from - spot .place) (drop (spot .place) (lists .texts)) → TakenBack r (spotUpTo spot (length text)) end saved lengths′ texts′ lengths″ texts″ r″
     → length texts″ ≡ length (lists .texts) → Renews held spot text lists (listsAs (lists .boxes) (lists .borders) lengths″ texts″ (lists .bytes)) r″
 unfolding TakenBack
-renews held spot text lists lengths′ texts′ end p (C.Into held′) sums saved lengths″ texts″ r″ kept back long =
-    let lengths-same = back .1 .0 in
+renews held spot text lists lengths′ texts′ end p (C.Into held′) sums saved lengths″ texts″ r″ kept back long = let lengths-same = back .1 .0 in
     let texts-same = back .1 .1 in
     subst (λ (x : Changed). Renews held spot text lists (listsAs (lists .boxes) (lists .borders) lengths″ texts″ (lists .bytes)) x) (sym (back .0))
     (subst (λ (l : List ℕ). Renews held spot text lists (listsAs (lists .boxes) (lists .borders) l texts″ (lists .bytes)) (C.Into held′)) (sym lengths-same)

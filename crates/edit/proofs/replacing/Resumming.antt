@@ -1,19 +1,15 @@
 -- The sums of a builder whose texts have changed. Assumes nothing.
-use Prim.Native.Nat.{ℕ, _+_, _-_, _*_, _≤_}
-use denote.Enum.Declared.{tagOf, declared}
-use lib.{Dec.{leb}, IntN.{ℤ, pos}, ListN.{length, take, drop, length-take, length-drop}}
-use mathlib.Core.{Bool.{true, false}, List.{List}, Path.{_≡_, refl, sym, ap, _∙_}}
-use native.Mathlib.Omega.{arith}
+use Rattle.numbers.proofs.Prelude.{ℕ, _+_, _-_, _*_, tagOf, declared, leb, ℤ, length, take, drop, length-drop, length-take, true, false, List, _≡_, refl, sym, ap, _∙_, arith}
+use Rattle.numbers.specs.{Reply.{plain}, declared.refusal.Refusal.{Refusal}}
 use Rattle.build.specs.{Room.{enough}, declared.room.Work.{Work}}
 use Rattle.builder.specs.{Borders.{Drawn}, File.{upTo}, Yards.{Yard}}
-use Rattle.draft.specs.{Held.{State.{Stands}, Totals.{fileSize, totalsFor}}, declared.held.state.{Changed.{Changed}, Held.{Held}}}
-use Rattle.draft.specs.declared.held.state.Changed.the-variants as C
-use Rattle.numbers.specs.{Reply.{plain}, declared.refusal.Refusal.{Refusal}}
-use Rattle.draft.specs.{inner.Summed.Sums.{Summing, SumsUp, sized, sumsOf}, declared.summed.sums.{Sums.{Sums}, Summed.{Summed}}}
-use Rattle.draft.proofs.summed.sums.Summed as K
-use Rattle.draft.specs.declared.summed.sums.Summed.the-variants as S
+use Rattle.draft.specs.{Held.{State.{Stands}, Totals.{fileSize}}, declared.{held.state.{Changed.{Changed}, Held.{Held}}, summed.sums.{Summed.{Summed}, Sums.{Sums}}}}
+use Rattle.draft.specs.inner.Summed.Sums.{Summing, SumsUp, sized, sumsOf}
 use Rattle.edit.proofs.replacing.Renewed.{resum-fits, resum-long}
 use Rattle.edit.specs.inner.Replacing.Replaced.{Resumming, Resums, heldWith, resummed, sizeFits}
+use Rattle.draft.specs.declared.held.state.Changed.the-variants as C
+use Rattle.draft.proofs.summed.sums.Summed as K
+use Rattle.draft.specs.declared.summed.sums.Summed.the-variants as S
 
 module _ (held : Held) (strings : ℕ) (sums : Sums) where
   size-is : leb (fileSize (held .head) (sized (sums .table) (sums .metadata) (held .bytes))) (upTo (held .room)) ≡ sizeFits held (sums .table) (sums .metadata)
@@ -27,8 +23,7 @@ module _ (held : Held) (strings : ℕ) (sums : Sums) where
   pub settle-fits : leb (fileSize (held .head) (sized (sums .table) (sums .metadata) (held .bytes))) (upTo (held .room)) ≡ true → (greatest : ℤ) → greatest ≡ sums .greatest
       → C.Into (heldWith held strings (sums .table) (sums .metadata) greatest) ≡ resummed held strings (sums .table) (sums .metadata) (sums .greatest)
   settle-fits e greatest is =
-      ap (λ (z : ℤ). C.Into (heldWith held strings (sums .table) (sums .metadata) z)) is
-      ∙ sym (resum-fits held strings (sums .table) (sums .metadata) (sums .greatest) (sym size-is ∙ e))
+      ap (λ (z : ℤ). C.Into (heldWith held strings (sums .table) (sums .metadata) z)) is ∙ sym (resum-fits held strings (sums .table) (sums .metadata) (sums .greatest) (sym size-is ∙ e))
 
 -- what is lent of the lists
 pub summing : (held : Held) (strings : ℕ) (lengths texts : List ℕ) (borders : ℕ) (work : Work) → Resumming held strings borders (length lengths) (length texts) work
@@ -56,6 +51,5 @@ module _ (held : Held) (strings : ℕ) (boxes : List ℤ) (borders lengths texts
   pub resums-settled : (t : Sums) → s ≡ S.Sums t → (r : Changed) → r ≡ resummed held strings (t .table) (t .metadata) (t .greatest) → Resums held strings boxes borders lengths texts r
   unfolding Resums
   resums-settled t is r e =
-      λ yards drawn stands.
-      let same : t ≡ sumsOf yards drawn = let there = sums yards drawn stands .sums in cc in
-      e ∙ ap (λ (x : Sums). resummed held strings (x .table) (x .metadata) (x .greatest)) same
+      λ yards drawn stands. let same : t ≡ sumsOf yards drawn = let there = sums yards drawn stands .sums in cc in e
+      ∙ ap (λ (x : Sums). resummed held strings (x .table) (x .metadata) (x .greatest)) same

@@ -1,19 +1,13 @@
 -- Whether a text may stand in the place of a value, test by test. Assumes nothing.
-use Prim.Native.Nat.{ℕ, suc, _+_, _-_, _*_, _^_, _≤_, _<_}
-use borrow.Author.Tests.{le-leb, lt-leb, le-ltb, lt-ltb, leb-true}
-use lib.{Dec.{ltb, leb}, ListN.{length, take, getD}}
-use mathlib.Core.{Bool.{Bool, true, false, _&&_}, List.{List}, Path.{_≡_, refl, sym, ap, _∙_}}
-use native.Mathlib.{Nat.{suc-mul, mul-le-mul-right, mul-comm}, Omega.{arith}}
-use Rattle.numbers.proofs.Tests.{both}
+use Rattle.numbers.proofs.Prelude.{ℕ, suc, _+_, _-_, _*_, _^_, _≤_, _<_, lt-ltb, le-leb, le-ltb, leb-true, lt-leb, leb, length, take, getD, Bool, true, false, _&&_, List, _≡_, refl, ap, mul-comm}
+use Rattle.numbers.{proofs.{Prelude.{suc-mul, mul-le-mul-right, arith}, Tests.{both}}, specs.Reply.{Reply, given, refused, plain}}
 use Rattle.builder.{proofs.Counting.{lengths-room}, specs.{File.{isText}, Yards.{Text, sumOf}}}
-use Rattle.draft.specs.{Held.Space.{longEnough, ownEnough, standing}, declared.held.{room.Rooms.{Rooms}, state.Held.{Held}}}
-use Rattle.numbers.specs.Reply.{Reply, given, refused, plain, demand, _>>=_, _>>_}
-use Rattle.edit.specs.{inner.Replacing.Spot.{textAt, spotIn, within, sizeWith, checkedOf, told}, declared.replacing.check.{Spot.{Spot}, Checked.{Checked}}}
+use Rattle.draft.specs.{Held.Space.{longEnough, standing}, declared.held.{room.Rooms.{Rooms}, state.Held.{Held}}}
+use Rattle.edit.specs.{declared.replacing.check.Spot.{Spot}, inner.Replacing.Spot.{textAt, spotIn, within, sizeWith, checkedOf}}
 
 -- ---- the index of a value
 pub index-inside : (names yards yard field : ℕ) → yard < yards → field < names → textAt names yard field < names + 1 + names * yards
-index-inside names yards yard field h k =
-    omega (arith, suc-mul yard names, mul-le-mul-right {m = suc yard} {n = yards} names h, mul-comm names yards)
+index-inside names yards yard field h k = omega (arith, suc-mul yard names, mul-le-mul-right {m = suc yard} {n = yards} names h, mul-comm names yards)
 
 pub index-few : (names yards yard field : ℕ) → names ≤ 255 → yards ≤ 4096 → yard < yards → field < names → textAt names yard field < 2 ^ 24
 index-few names yards yard field a b h k = omega (arith, index-inside names yards yard field h k, lengths-room names yards a b)
@@ -56,8 +50,7 @@ unfolding within
 within-parts held spot e =
     let a = both (leb (held .front) (spot .place)) (leb (spot .from) (held .strings) && (leb (spot .from - spot .place) 255 && leb (held .strings) (2 ^ 40))) e in
     let b = both (leb (spot .from) (held .strings)) (leb (spot .from - spot .place) 255 && leb (held .strings) (2 ^ 40)) (a .1) in
-    let c = both (leb (spot .from - spot .place) 255) (leb (held .strings) (2 ^ 40)) (b .1) in
-    record {
+    let c = both (leb (spot .from - spot .place) 255) (leb (held .strings) (2 ^ 40)) (b .1) in record {
       behind-front = leb-true (held .front) (spot .place) (a .0);
       inside = leb-true (spot .from) (held .strings) (b .0);
       few = leb-true (spot .from - spot .place) 255 (c .0);

@@ -1,13 +1,10 @@
 -- What beginning a builder gives: document 02, Q-5.
-use Prim.Native.Nat.{ℕ, _+_, _≤_}
-use lib.{Dec.{leb}, IntN.{pos}, ListN.{length, take, replicate}}
-use mathlib.Core.{Bool.{_&&_}, List.{List, []}, Path.{_≡_}}
+use Rattle.numbers.specs.{Lists.{zeros}, Prelude.{ℕ, _+_, _≤_, leb, pos, length, take, replicate, _&&_, List, [], _≡_}, Reply.{given, refused}}
 use Rattle.build.specs.Checked.{lentAs}
 use Rattle.builder.specs.Yards.{Plan, planOf, sumOf}
 use Rattle.draft.specs.{Held.{Builder.{Builder, begin, holding, summed}, Sound.{Sound}, Space.{Space}, State.{Holds, Lists, SameRooms, heldAs, listsAs}}, declared.held.state.Changed.{Changed}}
 use Rattle.draft.specs.declared.held.state.Held.{Held}
 use Rattle.draft.specs.declared.held.state.Changed.the-variants as C
-use Rattle.numbers.specs.{Lists.{zeros}, Reply.{given, refused}}
 
 -- the lists have room for the lengths and bytes of the names and the notice, and for the zero byte
 unfoldable pub frontSpace : ℕ → List ℕ → ℕ → ℕ → ℕ → Space
@@ -30,7 +27,8 @@ firstPlan kind version precision names sizes strings = planOf (lentAs kind versi
 
 -- nothing is refused, and these are the numbers
 pub record Checked (kind version precision names room : ℕ) (sizes strings : List ℕ) (lengths texts bytes : ℕ) (held : Held) : Type 0 where
-  pub gives : begin (firstPlan kind version precision names sizes strings) room (frontSpace names sizes lengths texts bytes) ≡ given (summed (holding (firstPlan kind version precision names sizes strings) []) room)
+  pub gives : begin (firstPlan kind version precision names sizes strings) room (frontSpace names sizes lengths texts bytes)
+      ≡ given (summed (holding (firstPlan kind version precision names sizes strings) []) room)
   pub is : held ≡ heldAs (summed (holding (firstPlan kind version precision names sizes strings) []) room)
   pub sound : Sound (holding (firstPlan kind version precision names sizes strings) []) room
   pub few : names ≤ 255
@@ -44,4 +42,5 @@ pub record Checked (kind version precision names room : ℕ) (sizes strings : Li
 
 unfoldable pub Checks : ℕ → ℕ → ℕ → ℕ → ℕ → List ℕ → List ℕ → ℕ → ℕ → ℕ → Changed → Type 0
 Checks kind version precision names room sizes strings lengths texts bytes (C.Into held) = Checked kind version precision names room sizes strings lengths texts bytes held
-Checks kind version precision names room sizes strings lengths texts bytes (C.Refused why) = begin (firstPlan kind version precision names sizes strings) room (frontSpace names sizes lengths texts bytes) ≡ refused why
+Checks kind version precision names room sizes strings lengths texts bytes (C.Refused why) =
+    begin (firstPlan kind version precision names sizes strings) room (frontSpace names sizes lengths texts bytes) ≡ refused why

@@ -1,12 +1,9 @@
 -- What dropping the last yard gives.
-use Prim.Native.Nat.{ℕ, _+_, _-_, _*_}
-use lib.ListN.{take, drop}
-use mathlib.Core.{Bool.{false}, List.{List}, Path.{_≡_}}
+use Rattle.numbers.specs.{Prelude.{ℕ, _+_, _-_, _*_, take, drop, false, List, _≡_}, Reply.{plain}}
 use Rattle.builder.specs.Yards.{sumOf}
 use Rattle.draft.specs.{Held.{Builder.{Builder, dropLast}, Space.{Space, longEnough, standing}, State.{Answers, Holds, Lists}}, declared.held.{room.Rooms.{Rooms}, state.Changed.{Changed}}}
 use Rattle.draft.specs.declared.held.state.Held.{Held}
 use Rattle.draft.specs.declared.held.state.Changed.the-variants as C
-use Rattle.numbers.specs.Reply.{plain}
 
 -- how many bytes the last yard's values have
 unfoldable pub lastSize : Held → List ℕ → ℕ

@@ -1,11 +1,7 @@
 -- A builder without a yard: what clearing gives.
-use Prim.Native.Nat.{ℕ}
-use lib.IntN.{pos}
-use mathlib.Core.{Bool.{false}, Path.{_≡_}}
-use Rattle.draft.specs.{Held.{Builder.{Builder, clear}, Space.{standing}, State.{Answers, Holds, Lists}}, declared.held.{room.Rooms.{Rooms}, state.{Changed.{Changed}, Held.{Held}}}}
+use Rattle.numbers.specs.{Prelude.{ℕ, pos, false, _≡_}, Reply.{given, plain}}
+use Rattle.draft.specs.{Held.{Builder.{Builder, clear}, Space.{standing}, State.{Answers, Holds, Lists, heldWith}}, declared.held.{room.Rooms.{Rooms}, state.{Changed.{Changed}, Held.{Held}}}}
 use Rattle.draft.specs.declared.held.state.Changed.the-variants as C
-use Rattle.numbers.specs.Reply.{given, plain}
-use Rattle.draft.specs.Held.State.{heldWith}
 
 unfoldable pub emptiedOf : Held → Held
 emptiedOf h =

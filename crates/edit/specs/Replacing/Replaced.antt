@@ -1,13 +1,10 @@
 -- What replacing a value of a builder gives: document 02, Q-5.
-use Prim.Native.Nat.{ℕ}
-use lib.{Dec.{leb}, ListN.{length}}
-use mathlib.Core.{Bool.{false, _&&_}, Path.{_≡_}}
+use Rattle.numbers.specs.{Prelude.{ℕ, leb, length, false, _&&_, _≡_}, Reply.{plain}}
 use Rattle.builder.specs.Yards.{Text, Plan}
 use Rattle.draft.specs.Held.{Builder.{Builder, changedAt, holding, replace, withValue}, Space.{Space, longEnough, standing}, State.{Answers, Holds, Lists, frontOf, textsOf}}
 use Rattle.draft.specs.declared.held.{room.Rooms.{Rooms}, state.{Changed.{Changed}, Held.{Held}}}
-use Rattle.draft.specs.declared.held.state.Changed.the-variants as C
 use Rattle.build.specs.Metadata.Kept.{joined}
-use Rattle.numbers.specs.Reply.{plain}
+use Rattle.draft.specs.declared.held.state.Changed.the-variants as C
 
 abbrev pub replaced : Plan → ℕ → ℕ → Text → Plan
 replaced plan yard field text = holding plan (changedAt yard (withValue field text) (plan .yards))

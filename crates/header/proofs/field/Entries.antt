@@ -1,9 +1,6 @@
 -- How a string goes out into a lent text. Assumes nothing.
-use mathlib.Core.{Path.{_≡_, sym, ap, _∙_}, List.{List, _∷_, _++_, map}}
-use Prim.Native.Nat.{ℕ, _+_, _-_, _/_, _%_, _≤_, _<_}
-use native.Mathlib.Omega.{arith}
-use lib.{Bits.{bitXor}, ListN.{length, getD, set, take, drop, length-map, length-set}}
-use Rattle.numbers.specs.Lists.{over}
+use Rattle.numbers.{proofs.Prelude.{ℕ, _+_, _-_, _/_, _%_, _≤_, _<_, length, take, drop, getD, set, length-map, length-set, List, _∷_, _++_, map, _≡_, sym, ap, _∙_, arith}, specs.Lists.{over}}
+use lib.Bits.{bitXor}
 use Rattle.header.specs.{Field.{entry, field}, Utf8.{unmasked}}
 use Rattle.header.proofs.Buffers.{map-at, copied-suc, copied-length, copied-all, lent-length, over-length, put-one, put-two}
 

@@ -1,9 +1,7 @@
 -- The header by how far it was read. Assumes nothing.
-use mathlib.Core.{Bool.{Bool}, Path.{_≡_, ap, _∙_}, List.{List}}
-use Prim.Native.Nat.{ℕ}
-use Rattle.numbers.{specs.{Reply.{Reply, given, refused, _>>=_}, declared.refusal.Refusal.{Refusal}}, proofs.Replies.{From, carried, onward, given-from, refused-from}}
-use Rattle.header.specs.Header.{textsOf, placeAfter, preambleOf, sectionsAt, Contents, contentsBy, headBy}
-use Rattle.header.specs.declared.header.{Preamble.{Preamble}, Sections.{Sections}, Head.{Head}}
+use Rattle.numbers.proofs.Prelude.{ℕ, Bool, List, _≡_, ap, _∙_}
+use Rattle.numbers.{proofs.Replies.{From, carried, onward, given-from, refused-from}, specs.{Reply.{Reply, given, refused, _>>=_}, declared.refusal.Refusal.{Refusal}}}
+use Rattle.header.specs.{Header.{textsOf, placeAfter, preambleOf, sectionsAt, Contents, contentsBy, headBy}, declared.header.{Preamble.{Preamble}, Sections.{Sections}}}
 
 module _ (strict : Bool) (file : List ℕ) where
   -- the head alone
@@ -35,24 +33,7 @@ module _ (strict : Bool) (file : List ℕ) where
       unfolding contentsBy
       whole sections e = so (onward (there (sectionsAt strict file) e) _ ∙ onward (texts .is) _ ∙ onward p _)
 
--- ---- a file that has a header has all that goes out at opening
-pub record Whole (strict : Bool) (file : List ℕ) (head : Head) : Type 0 where
-  pub bytes : List ℕ
-  pub place : ℕ
-  pub texts : given (record { bytes = bytes; place = place }) ≡ textsOf strict file (head .preamble .count)
-  pub contents : given (record { head = head; bytes = bytes }) ≡ contentsBy strict file
-
-pub head-whole : (strict : Bool) (file : List ℕ) (head : Head) → given head ≡ headBy strict file → Whole strict file head
-unfolding headBy contentsBy
-head-whole strict file head e =
-    let c = given-from (contentsBy strict file) _ e in
-    let p = given-from (preambleOf file) _ (c .is) in
-    let t = given-from (textsOf strict file (p .it .count)) _ (p .onto) in
-    let s = given-from (sectionsAt strict file (t .it .place)) _ (t .onto) in
-    let same : c .it .head ≡ head = cc (c .onto) in
-    let made : record { head = record { preamble = p .it; sections = s .it; strict = strict }; bytes = t .it .bytes } ≡ c .it = cc (s .onto) in
-    rw (← same, ← made) (record { bytes = t .it .bytes; place = t .it .place; texts = t .is; contents = rw made (c .is) })
-
+-- what opening refuses without its text it refuses with it
 pub head-refused : (strict : Bool) (file : List ℕ) (why : Refusal) → refused why ≡ headBy strict file → refused why ≡ contentsBy strict file
 unfolding headBy
 head-refused strict file why e = refused-from (contentsBy strict file) (λ c. c .head) e

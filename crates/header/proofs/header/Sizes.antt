@@ -1,17 +1,12 @@
 -- The three sizes, and sums that must fit. Assumes nothing.
-use mathlib.Core.{Bool.{Bool}, Path.{_≡_, refl, _∙_}, List.{List}}
-use Prim.Native.Nat.{ℕ, _+_, _%_, _^_, _≤_, _<_}
-use native.Mathlib.Omega.{arith}
-use borrow.Author.Tests.{lt-ltb, le-ltb}
-use lib.ListN.{length}
-use Rattle.numbers.specs.{Answer.{Answer, found, failed}, Varint.{Numeral, readingOf}}
-use Rattle.numbers.specs.{declared.{varint.Varint.{Varint, the-variants.{Number, Failed, Refused}}, refusal.Refusal.{Refusal}}, Reply.{given, refused, plain, _orElse_}}
-use Rattle.numbers.proofs.{Laws.{caseOf}, Replies.{carried, onward, met, unmet}}
-use Rattle.numbers.specs.Answer as A
+use Rattle.numbers.proofs.Prelude.{ℕ, _+_, _%_, _^_, _≤_, _<_, lt-ltb, le-ltb, length, Bool, List, _≡_, refl, _∙_, arith}
+use Rattle.numbers.{proofs.{Laws.{caseOf}, Replies.{carried, onward, met, unmet}}, specs.{Answer.{Answer, found, failed}, Reply.{given, refused, plain, _orElse_}, Varint.{Numeral, readingOf}}}
+use Rattle.numbers.specs.declared.{refusal.Refusal.{Refusal}, varint.Varint.{Varint, the-variants.{Number, Failed, Refused}}}
 use Rattle.header.proofs.Strings.{read-within}
 use Rattle.header.specs.Header.{sizeAt, unreadOf, sectionsFrom, sectionsAt}
+use Rattle.numbers.specs.Answer as A
 
-given-found : {A : Type 0} {a : A} (why : Refusal) (answer : Answer A) → given a ≡ (answer orElse why) → found a ≡ answer
+pub given-found : {A : Type 0} {a : A} (why : Refusal) (answer : Answer A) → given a ≡ (answer orElse why) → found a ≡ answer
 given-found why (found a) e = cc
 given-found why failed e = let z : _≡_ {A = ℕ} 0 1 = cc in absurd (omega arith)
 given-found why (A.refused number) e = let z : _≡_ {A = ℕ} 0 1 = cc in absurd (omega arith)

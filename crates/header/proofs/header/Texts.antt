@@ -1,21 +1,15 @@
 -- Names and notice, one after another. Assumes nothing.
-use mathlib.Core.{Path.{_≡_, refl, sym, ap, _∙_}, Bool.{Bool, true, false}, List.{List, [], _++_, append-assoc}}
-use Prim.Native.Nat.{ℕ, suc, _+_, _-_, _^_, _≤_, _<_}
-use native.Mathlib.{Nat.{sub-zero}, Omega.{arith}}
-use borrow.Author.Tests.{leb-true}
-use lib.{Dec.{leb}, ListN.{length}}
-use Rattle.numbers.{specs.{Reply.{Reply, given, refused, plain, demand, _>>=_, _>>_}, declared.refusal.Refusal.{Refusal}}, proofs.Replies.{carried, onward}}
-use Rattle.header.specs.{Text.{textAt, bytesOf}, Field.{entry}, Header.{Texts, textsFrom, blameOf, placeAfter, preambleOf}}
-use Rattle.header.specs.declared.{header.Preamble.{Preamble}, text.Text.{Text}}
+use Rattle.numbers.proofs.Prelude.{ℕ, suc, _+_, _-_, _^_, _≤_, _<_, leb-true, leb, length, Bool, true, false, List, [], _++_, append-assoc, _≡_, refl, sym, ap, _∙_, sub-zero, arith}
+use Rattle.numbers.{proofs.Replies.{carried, onward}, specs.{Reply.{Reply, given, refused, plain, demand, _>>=_, _>>_}, declared.refusal.Refusal.{Refusal}}}
+use Rattle.header.specs.{Field.{entry}, Header.{Texts, textsFrom, blameOf, placeAfter, preambleOf}, Text.{textAt, bytesOf}, declared.{header.Preamble.{Preamble}, text.Text.{Text}}}
 
 -- a file that has a preamble is not over 1 GiB
 pub short-enough : (file : List ℕ) (p : Preamble) → given p ≡ preambleOf file → length file ≤ 2 ^ 30
 unfolding preambleOf
-short-enough file p e = go _ (leb (length file) (2 ^ 30)) refl e
-  where
-    go : (rest : Reply Preamble) (test : Bool) → leb (length file) (2 ^ 30) ≡ test → given p ≡ (demand test (plain 1) >> rest) → length file ≤ 2 ^ 30
-    go rest true is e = leb-true (length file) (2 ^ 30) is
-    go rest false is e = let z : _≡_ {A = ℕ} 0 1 = cc in absurd (omega arith)
+short-enough file p e = go _ (leb (length file) (2 ^ 30)) refl e where
+  go : (rest : Reply Preamble) (test : Bool) → leb (length file) (2 ^ 30) ≡ test → given p ≡ (demand test (plain 1) >> rest) → length file ≤ 2 ^ 30
+  go rest true is e = leb-true (length file) (2 ^ 30) is
+  go rest false is e = let z : _≡_ {A = ℕ} 0 1 = cc in absurd (omega arith)
 
 -- ---- bytes that went out before others
 abbrev pub before : List ℕ → Reply Texts → Reply Texts

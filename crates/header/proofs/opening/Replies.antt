@@ -1,17 +1,12 @@
 -- The reply of `open`, by how far it came. Assumes nothing.
-use mathlib.Core.{Path.{_≡_, refl, sym, subst, ap, _∙_}, Bool.{Bool, true, false}, List.{List}}
-use Prim.Native.Nat.{ℕ}
-use native.Mathlib.Omega.{arith}
-use borrow.Author.Tests.{leb-true, leb-false}
-use denote.Enum.Declared.{tagOf, declared}
-use lib.{Dec.{leb}, ListN.{length}}
-use Rattle.numbers.{specs.{Lists.{zeros}, Reply.{Reply, given, refused, plain, demand, _>>_}, declared.refusal.Refusal.{Refusal}}, proofs.Replies.{carried, onward}}
-use Rattle.header.specs.{Header.{Texts, textsOf, Contents, headBy}, Opening.{Filled, fittingOf, replied, repliedOf, openedBy}}
-use Rattle.header.specs.declared.{header.Head.{Head}, opening.{Opened.{Opened}, Wrote.{Wrote}}}
+use Rattle.numbers.proofs.Prelude.{ℕ, leb-true, leb-false, tagOf, declared, leb, length, Bool, true, false, List, _≡_, refl, sym, ap, subst, _∙_, arith}
+use Rattle.numbers.{proofs.Replies.{carried, onward}, specs.{Lists.{zeros}, Reply.{Reply, given, refused, plain, demand, _>>_}, declared.refusal.Refusal.{Refusal}}}
+use Rattle.header.specs.{Header.{Texts, textsOf, Contents, headBy}, Opening.{Filled, fittingOf, replied, repliedOf, openedBy}, declared.{header.Head.{Head}, opening.Opened.{Opened}}}
+use Rattle.header.specs.declared.opening.Wrote.{Wrote}
+use Rattle.header.proofs.{ReadFrom.{ReadFrom, read-from}, header.Heads.{head-refused}}
 use Rattle.header.specs.declared.opening.Opened.the-variants as O
 use Rattle.header.specs.declared.opening.Wrote.the-variants as W
 use Rattle.header.proofs.opening.Wrote as N
-use Rattle.header.proofs.header.Heads.{Whole, head-whole, head-refused}
 
 module _ (strict : Bool) (file : List ℕ) (room : ℕ) where
   -- from the contents to the reply with the text
@@ -28,47 +23,36 @@ module _ (strict : Bool) (file : List ℕ) (room : ℕ) where
   no-head why text z e = refused-so why text z (carried (head-refused strict file why e) _)
 
   module _ (head : Head) (e : given head ≡ headBy strict file) where
-    named : Whole strict file head
-    named = head-whole strict file head e
+    named : ReadFrom strict file head
+    named = read-from strict file e
 
     abbrev contents : Contents
-    contents = record { head = head; bytes = named .bytes }
+    contents = record { head = head; bytes = named .texts .bytes }
 
     -- what is made of names and notice
-    is-checked : (demand (leb (length (named .bytes)) room) (plain 18) >> given contents) ≡ fittingOf strict file room
+    is-checked : (demand (leb (length (named .texts .bytes)) room) (plain 18) >> given contents) ≡ fittingOf strict file room
     unfolding fittingOf
     is-checked = onward (named .contents) _
 
-    filled : (wrote : Wrote) (out : List ℕ) → Filled (textsOf strict file (head .preamble .count)) room wrote out → Filled (given (record { bytes = named .bytes; place = named .place })) room wrote out
-    filled wrote out f = subst (λ (t : Reply Texts). Filled t room wrote out) (sym (named .texts)) f
+    filled : (wrote : Wrote) (out : List ℕ) → Filled (textsOf strict file (head .preamble .count)) room wrote out → Filled (given (named .texts)) room wrote out
+    filled wrote out f = subst (λ (t : Reply Texts). Filled t room wrote out) (sym (named .texts-are)) f
 
     -- names and notice have no room
-    pub no-room : (wrote : Wrote) (out text : List ℕ) → tagOf (declared N.enum) wrote ≡ 1 → Filled (textsOf strict file (head .preamble .count)) room wrote out → text ≡ zeros room → replied (O.Refused (plain 18)) text ≡ openedBy strict file room
+    pub no-room : (wrote : Wrote) (out text : List ℕ) → tagOf (declared N.enum) wrote ≡ 1 → Filled (textsOf strict file (head .preamble .count)) room wrote out
+        → text ≡ zeros room → replied (O.Refused (plain 18)) text ≡ openedBy strict file room
     no-room (W.Used used) out text is f z = absurd (omega (arith, is))
-    no-room W.NoRoom out text is f z = refused-so (plain 18) text z (by-room (leb (length (named .bytes)) room) refl ∙ is-checked)
-      where
-        by-room : (test : Bool) → leb (length (named .bytes)) room ≡ test → _≡_ {A = Reply Contents} (refused (plain 18)) (demand test (plain 18) >> given contents)
-        by-room true is =
-            let both = filled W.NoRoom out f .0 (leb-true _ _ is) .0 in
-            let no : _≡_ {A = ℕ} 0 1 = cc in
-            absurd (omega arith)
-        by-room false is = refl
+    no-room W.NoRoom out text is f z = refused-so (plain 18) text z (by-room (leb (length (named .texts .bytes)) room) refl ∙ is-checked) where
+      by-room : (test : Bool) → leb (length (named .texts .bytes)) room ≡ test → _≡_ {A = Reply Contents} (refused (plain 18)) (demand test (plain 18) >> given contents)
+      by-room true is = let both = filled W.NoRoom out f .0 (leb-true _ _ is) .0 in let no : _≡_ {A = ℕ} 0 1 = cc in absurd (omega arith)
+      by-room false is = refl
 
     abbrev opening : ℕ → Opened
     opening used = O.Opening (record { kind = head .preamble .kind; version = head .preamble .version; precision = head .preamble .precision; count = head .preamble .count; used = used })
 
     -- they are in the text
-    pub opened : (used : ℕ) (text : List ℕ) → Filled (textsOf strict file (head .preamble .count)) room (W.Used used) text
-        → replied (opening used) text ≡ openedBy strict file room
-    opened used text f = by-room (leb (length (named .bytes)) room) refl
-      where
-        by-room : (test : Bool) → leb (length (named .bytes)) room ≡ test
-            → replied (opening used) text ≡ openedBy strict file room
-        by-room true is =
-            let both = filled (W.Used used) text f .0 (leb-true _ _ is) in
-            let size : used ≡ length (named .bytes) = cc (both .0) in
-            so (opening used) text (given contents) (rw is at is-checked) (rw (size, both .1) refl)
-        by-room false is =
-            let none = filled (W.Used used) text f .1 (leb-false _ _ is) in
-            let no : _≡_ {A = ℕ} 0 1 = cc in
-            absurd (omega arith)
+    pub opened : (used : ℕ) (text : List ℕ) → Filled (textsOf strict file (head .preamble .count)) room (W.Used used) text → replied (opening used) text ≡ openedBy strict file room
+    opened used text f = by-room (leb (length (named .texts .bytes)) room) refl where
+      by-room : (test : Bool) → leb (length (named .texts .bytes)) room ≡ test → replied (opening used) text ≡ openedBy strict file room
+      by-room true is = let both = filled (W.Used used) text f .0 (leb-true _ _ is) in let size : used ≡ length (named .texts .bytes) = cc (both .0) in
+          so (opening used) text (given contents) (rw is at is-checked) (rw (size, both .1) refl)
+      by-room false is = let none = filled (W.Used used) text f .1 (leb-false _ _ is) in let no : _≡_ {A = ℕ} 0 1 = cc in absurd (omega arith)

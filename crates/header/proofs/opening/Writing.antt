@@ -1,17 +1,13 @@
 -- The loop that writes names and notice: what holds before each turn, and what a turn makes of it. Assumes nothing.
-use mathlib.Core.{Bool.{Bool}, Path.{_≡_, refl, sym, ap, _∙_}, List.{List, [], _++_, map, append-assoc, append-nil}}
-use Prim.Native.Nat.{ℕ, suc, _+_, _-_, _≤_, _<_}
-use native.Mathlib.{Nat.{sub-zero}, Omega.{arith}}
-use denote.Enum.Declared.{tagOf, declared}
-use lib.{ListN.{length, take, drop, length-append, length-map, take-append-drop, length-replicate}, Seq.{take-at, drop-at, length-take-le}}
-use Rattle.numbers.{specs.{Lists.{zeros, padded, over}, Reply.{Reply, given, refused}}, proofs.Lists.{zeros-drop}}
-use Rattle.header.specs.{Text.{textAt, bytesOf, toldRead}, Field.{entry}, Utf8.{unmasked}, Header.{Texts, textsFrom, textsOf, blameOf}, Opening.{Filled}}
-use Rattle.header.specs.declared.text.{Text.{Text}, Read.{Read}}
+use Rattle.numbers.proofs.Prelude.{ℕ, suc, _+_, _-_, _≤_, _<_, tagOf, declared, length, take, drop, length-append, length-map, length-replicate, take-append-drop, length-take-le, take-at, drop-at}
+use Rattle.numbers.proofs.Prelude.{Bool, List, [], _++_, map, append-assoc, append-nil, _≡_, refl, sym, ap, _∙_, sub-zero, arith}
+use Rattle.numbers.{proofs.Lists.{zeros-drop}, specs.{Lists.{zeros, padded, over}, Reply.{Reply, given, refused}}}
+use Rattle.header.specs.{Field.{entry}, Header.{Texts, textsFrom, textsOf, blameOf}, Opening.{Filled}, Text.{textAt, bytesOf, toldRead}, Utf8.{unmasked}, declared.text.Read.{Read}}
+use Rattle.header.specs.declared.text.Text.{Text}
+use Rattle.header.proofs.{Buffers.{tail-lent, tail-back}, Strings.{Lies, text-lies, part, part-is, part-length}, header.Texts.{before, before-none, before-twice, next-text, bad-text}}
 use Rattle.header.specs.declared.text.Read.the-variants as T
 use Rattle.header.specs.declared.opening.Wrote.the-variants as W
 use Rattle.header.proofs.text.Read as N
-use Rattle.header.proofs.{Strings.{Lies, text-lies, part, part-is, part-length}, header.Texts.{before, before-none, before-twice, next-text, bad-text}}
-use Rattle.header.proofs.Buffers.{tail-lent, tail-back}
 
 pub record Writing (strict : Bool) (file : List ℕ) (names room : ℕ) (text : List ℕ) (index place at : ℕ) : Type 0 where
   pub index-names : index ≤ names + 1
@@ -31,12 +27,12 @@ starts strict file text names e = record {
 
 -- ---- what is left at the end, by what the strings are
 module _ (room : ℕ) where
-  all-out : (r : Reply Texts) (text front : List ℕ) (at place : ℕ) → given (record { bytes = front; place = place }) ≡ r → length front ≡ at → at ≤ room → text ≡ padded room front → Filled r room (W.Used at) text
+  all-out : (r : Reply Texts) (text front : List ℕ) (at place : ℕ) → given (record { bytes = front; place = place }) ≡ r → length front ≡ at → at ≤ room → text ≡ padded room front →
+      Filled r room (W.Used at) text
   all-out r text front at place e l fits t = rw (← e) (λ h. (ap W.Used (sym l), t), λ h. absurd (omega (arith, h)))
 
   no-room : (r rest : Reply Texts) (text front : List ℕ) → before front rest ≡ r → room < length front → Filled r room W.NoRoom text
-  no-room r (given texts) text front e h =
-      rw (← e) (λ fits. absurd (omega (arith, fits, length-append front (texts .bytes))), λ _. refl)
+  no-room r (given texts) text front e h = rw (← e) (λ fits. absurd (omega (arith, fits, length-append front (texts .bytes))), λ _. refl)
   no-room r (refused why) text front e h = rw (← e) tt
 
 module _ {strict : Bool} {file text : List ℕ} {names room index place at : ℕ} (w : Writing strict file names room text index place at) where
@@ -52,8 +48,7 @@ module _ {strict : Bool} {file text : List ℕ} {names room index place at : ℕ
 
   pub ends : names < index → Filled (textsOf strict file names) room (W.Used at) text
   unfolding textsFrom
-  ends past =
-      let z : names + 1 - index ≡ 0 = omega (arith, w .index-names) in
+  ends past = let z : names + 1 - index ≡ 0 = omega (arith, w .index-names) in
       let e : given (record { bytes = take at text ++ []; place = place }) ≡ textsOf strict file names = rw z at (w .so-far) in
       all-out room _ text (take at text) at place (rw append-nil at e) front-length (w .at-room) whole
 
@@ -82,9 +77,8 @@ module _ {strict : Bool} {file text : List ℕ} {names room index place at : ℕ
 
       turned : before (take at text ++ sent) (textsFrom strict file names more (index + 1) (string .next)) ≡ textsOf strict file names
       turned =
-          sym (before-twice (take at text) sent (textsFrom strict file names more (index + 1) (string .next)))
-          ∙ ap (before (take at text)) (sym (next-text strict file names more index place string e))
-          ∙ opened
+          sym (before-twice (take at text) sent (textsFrom strict file names more (index + 1) (string .next))) ∙ ap (before (take at text))
+          (sym (next-text strict file names more index place string e)) ∙ opened
 
       out-length : length (take at text ++ sent) ≡ at + (string .size + 2)
       out-length = length-append (take at text) sent ∙ rw (front-length, sent-length) refl
@@ -98,12 +92,9 @@ module _ {strict : Bool} {file text : List ℕ} {names room index place at : ℕ
         next = at + (string .size + 2)
 
         text-now : take at text ++ last ≡ (take at text ++ sent) ++ zeros (room - next)
-        text-now =
-            let left : room - at - length sent ≡ room - next = omega (arith, sent-length) in
-            ap (λ (r : List ℕ). take at text ++ r)
-            (l ∙ ap (λ (bytes : List ℕ). over (entry bytes) (take (length text - at) (drop at text))) (part-is file string)
-            ∙ ap (over sent) (tail-lent at text ∙ w .rest)
-            ∙ ap (λ (r : List ℕ). sent ++ r) (zeros-drop (length sent) (room - at) ∙ ap zeros left))
+        text-now = let left : room - at - length sent ≡ room - next = omega (arith, sent-length) in
+            ap (λ (r : List ℕ). take at text ++ r) (l ∙ ap (λ (bytes : List ℕ). over (entry bytes) (take (length text - at) (drop at text))) (part-is file string)
+            ∙ ap (over sent) (tail-lent at text ∙ w .rest) ∙ ap (λ (r : List ℕ). sent ++ r) (zeros-drop (length sent) (room - at) ∙ ap zeros left))
             ∙ sym (append-assoc (take at text) sent (zeros (room - next)))
 
         again : Writing strict file names room (take at text ++ last) (index + 1) (string .next) next
@@ -113,7 +104,8 @@ module _ {strict : Bool} {file text : List ℕ} {names room index place at : ℕ
           at-room = omega (arith, w .text-length, w .at-room);
           rest = ap (drop next) text-now ∙ drop-at (take at text ++ sent) (zeros (room - next)) next out-length;
           so-far =
-              ap (λ (front : List ℕ). before front (textsFrom strict file names more (index + 1) (string .next))) (ap (take next) text-now ∙ take-at (take at text ++ sent) (zeros (room - next)) next out-length)
+              ap (λ (front : List ℕ). before front (textsFrom strict file names more (index + 1) (string .next)))
+              (ap (take next) text-now ∙ take-at (take at text ++ sent) (zeros (room - next)) next out-length)
               ∙ turned;
         }
 

@@ -1,13 +1,8 @@
 -- The rows of the grammar by a byte's range, and the loop over the bytes. Assumes nothing.
-use mathlib.Core.{Path.{_≡_, refl, sym, ap, _∙_}, Bool.{Bool, true, false}, List.{List, [], _∷_, map}}
-use Prim.Native.Nat.{ℕ, zero, suc, _+_, _-_, _≤_, _<_}
-use native.Mathlib.{Numerals.{add-one}, Omega.{arith}}
-use borrow.Author.Tests.{le-leb, lt-leb, ne-eqb, eq-eqb}
-use denote.Enum.Declared.{tagOf, declared}
-use lib.{Bits.{bitXor}, Dec.{eqb}, ListN.{length, getD, drop, replicate, drop-of-length-le}, Seq.{drop-cons}}
-use Rattle.numbers.specs.Answer.{if_then_else_}
-use Rattle.header.specs.Utf8.{_–_, _∈_, tail, unmasked, Pending, due, wrong, begunBy, followed, isWhole, goesOn, isUtf8, pendingOf, toldStep}
-use Rattle.header.specs.declared.utf8.{Due.{Due}, Step.{Step}}
+use Rattle.numbers.proofs.Prelude.{ℕ, zero, suc, _+_, _-_, _≤_, _<_, eq-eqb, ne-eqb, le-leb, lt-leb, tagOf, declared, eqb, length, drop, getD, replicate, drop-of-length-le, drop-cons, Bool, true}
+use Rattle.numbers.{proofs.Prelude.{false, List, [], _∷_, map, _≡_, refl, sym, ap, _∙_, add-one, arith}, specs.Answer.{if_then_else_}}
+use lib.Bits.{bitXor}
+use Rattle.header.specs.{Utf8.{_–_, _∈_, tail, unmasked, Pending, due, wrong, begunBy, followed, isWhole, goesOn, isUtf8, pendingOf, toldStep}, declared.utf8.{Due.{Due}, Step.{Step}}}
 use Rattle.header.specs.declared.utf8.Step.the-variants as S
 use Rattle.header.proofs.utf8.Step as N
 
@@ -78,16 +73,14 @@ module _ {stored : List ℕ} {pending : Due} {i : ℕ} (g : Going stored pending
       goes is = record { at = omega arith; so-far = rw is at told-so }
 
       pub fails : tagOf (declared N.enum) step ≡ 1 → false ≡ isUtf8 (map unmasked stored)
-      fails is = stays-wrong _ ∙ rw (wrong-one step is) at told-so
-        where
-          wrong-one : (step : Step) → tagOf (declared N.enum) step ≡ 1 → step ≡ S.Wrong
-          wrong-one (S.Due d) is = absurd (omega (arith, is))
-          wrong-one S.Wrong is = refl
+      fails is = stays-wrong _ ∙ rw (wrong-one step is) at told-so where
+        wrong-one : (step : Step) → tagOf (declared N.enum) step ≡ 1 → step ≡ S.Wrong
+        wrong-one (S.Due d) is = absurd (omega (arith, is))
+        wrong-one S.Wrong is = refl
 
   pub ends : length stored ≤ i → eqb (pending .left) 0 ≡ isUtf8 (map unmasked stored)
   unfolding goesOn
-  ends past = whole (eqb (pending .left) 0) ∙ ap (λ (bs : List ℕ). goesOn (map unmasked bs) (pendingOf pending)) (sym (drop-of-length-le stored {i = i} past)) ∙ g .so-far
-    where
-      whole : (t : Bool) → t ≡ isWhole (if t then due [] else due ((pending .low – pending .high) ∷ replicate (pending .left - 1) tail))
-      whole true = refl
-      whole false = refl
+  ends past = whole (eqb (pending .left) 0) ∙ ap (λ (bs : List ℕ). goesOn (map unmasked bs) (pendingOf pending)) (sym (drop-of-length-le stored {i = i} past)) ∙ g .so-far where
+    whole : (t : Bool) → t ≡ isWhole (if t then due [] else due ((pending .low – pending .high) ∷ replicate (pending .left - 1) tail))
+    whole true = refl
+    whole false = refl

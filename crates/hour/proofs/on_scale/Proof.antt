@@ -1,5 +1,4 @@
 -- `hour::on_scale` meets its contract. Assumes nothing.
-use borrow.Author.Needs.{needs}
 use Rattle.hour.proofs.{Answers.{own-scale, other-scale}, on_scale.Statement.{statement}}
 use Rattle.hour.proofs.on_scale.Tie as tie
 

@@ -1,8 +1,5 @@
 -- What a `match` shows of an index that goes with its file. Assumes nothing.
-use denote.Enum.Declared.{tagOf, declared}
-use mathlib.Core.Path.{_≡_, refl}
-use native.Mathlib.Omega.{arith}
-use Rattle.numbers.specs.Reply.{given}
+use Rattle.numbers.{proofs.Prelude.{tagOf, declared, _≡_, refl, arith}, specs.Reply.{given}}
 use Rattle.index.specs.{Tied.{toldTied}, declared.tied.Tied.{Tied}}
 use Rattle.index.proofs.tied.Tied as K
 use Rattle.index.specs.declared.tied.Tied.the-variants as T

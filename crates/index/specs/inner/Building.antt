@@ -1,7 +1,5 @@
 -- What the inner functions of building say of each other.
-use Prim.Native.Nat.{ℕ, zero, suc, _+_, _*_, _%_, _^_, _<_}
-use lib.{ListN.{length, getD}, Seq.{sets}}
-use mathlib.Core.{Bool.{Bool}, List.{List, [], _∷_, map}, Path.{_≡_}}
+use Rattle.numbers.specs.Prelude.{ℕ, zero, suc, _+_, _*_, _%_, _^_, _<_, length, getD, sets, Bool, List, [], _∷_, map, _≡_}
 use Rattle.numbers.specs.{Answer.{if_then_else_}, Lists.{padded}, Reply.{Reply, given, refused, plain}}
 use Rattle.table.specs.declared.rows.Row.{Row}
 use Rattle.index.specs.{Index.{recordsAt, recordsOf, joined, startsFrom}, Tiles.{meets, tileAt}, declared.{build.Table.{Table}, tiles.Tile.{Tile}}}

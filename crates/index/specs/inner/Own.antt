@@ -1,12 +1,8 @@
 -- What the functions that hold words against an index say of each other.
-use Prim.Native.Nat.{ℕ, _+_, _*_, _-_, _^_, _<_}
-use lib.{Dec.{ltb, leb, eqb}, ListN.{length}}
-use mathlib.Core.{Bool.{Bool, true, _&&_}, List.{List, [], _∷_}, Path.{_≡_}}
-use Rattle.numbers.specs.{Lists.{zeros}, Reply.{Reply, given, refused, plain, demand, _>>=_, _>>_}}
+use Rattle.numbers.specs.{Lists.{zeros}, Prelude.{ℕ, _+_, _-_, _*_, _^_, _<_, eqb, ltb, leb, length, Bool, true, _&&_, List, [], _∷_, _≡_}, Reply.{Reply, given, refused, plain, demand, _>>=_, _>>_}}
 use Rattle.table.specs.{Find.{isPrecision}, declared.rows.Row.{Row}}
 use Rattle.header.specs.declared.header.Head.{Head}
-use Rattle.index.specs.{inner.Building.{listsIn}, Index.{recordsOf, keptOf, tiles, recordsAt, listsAt}, Table.{tableOf}, Tied.{wordAt}}
-use Rattle.index.specs.declared.own.{Compared.{Compared}, Next.{Next}}
+use Rattle.index.specs.{Index.{recordsOf, keptOf, tiles, recordsAt, listsAt}, Table.{tableOf}, Tied.{wordAt}, declared.own.{Compared.{Compared}, Next.{Next}}, inner.Building.{listsIn}}
 use Rattle.index.specs.declared.own.Compared.the-variants as C
 use Rattle.index.specs.declared.own.Next.the-variants as N
 

@@ -1,9 +1,7 @@
 -- Stepping towards the least length that fits: each step rises, and stays at or below every length that fits. Assumes nothing.
-use Prim.Native.Nat.{ℕ, _^_, _≤_, _<_}
-use mathlib.Core.{List.{List}, Path.{_≡_}}
-use native.Mathlib.{Nat.{le-refl}, Omega.{arith}}
+use Rattle.numbers.proofs.Prelude.{ℕ, _^_, _≤_, _<_, List, _≡_, le-refl, arith}
 use Rattle.layout.proofs.Steps.{next-rises, next-under, inline-first, inline-under}
-use Rattle.layout.specs.{inner.{Answers.{LaidOut}, Layout.{next, Fits}}, declared.records.Laid.the-variants.{Records, TooLong}}
+use Rattle.layout.specs.{declared.records.Laid.the-variants.{Records, TooLong}, inner.{Answers.{LaidOut}, Layout.{next, Fits}}}
 
 -- the loop's invariant
 pub record Rising (inline : ℕ) (words : List ℕ) (records : ℕ) : Type 0 where

@@ -1,9 +1,6 @@
 -- What each answer of the code says.
-use Prim.Native.Nat.{ℕ, _*_, _^_, _≤_, _<_}
-use lib.{Dec.{leb}, ListN.{length}}
-use mathlib.Core.{Bool.{Bool}, List.{List}, Path.{_≡_}}
-use Rattle.numbers.specs.{Answer.{if_then_else_}, Lists.{zeros}}
-use Rattle.layout.specs.{Order.{keyOf, sortedBy}, inner.Layout.{wordSize, wordsSize, Fits, Least}, declared.records.Laid.{the-variants.{Records, TooLong}, Laid}}
+use Rattle.numbers.specs.{Answer.{if_then_else_}, Lists.{zeros}, Prelude.{ℕ, _*_, _^_, _≤_, _<_, leb, length, Bool, List, _≡_}}
+use Rattle.layout.specs.{Order.{keyOf, sortedBy}, declared.records.Laid.{Laid, the-variants.{Records, TooLong}}, inner.Layout.{wordSize, wordsSize, Fits, Least}}
 
 -- the bytes of a word, at most five
 pub record WordSize (word records size : ℕ) : Type 0 where

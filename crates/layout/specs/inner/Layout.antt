@@ -1,9 +1,6 @@
 -- How long the records of a metadata section are. A value that stands in the records more than once is kept behind them, and a word
 -- in the record says where: 256 + the text's place in the section. So the words' lengths hang on the records' length, and it on theirs.
-use Prim.Native.Nat.{ℕ, zero, suc, _+_, _≤_}
-use lib.{Dec.{eqb}, ListN.{length}}
-use mathlib.Core.{List.{List, [], _∷_}, Path.{_≡_}}
-use Rattle.numbers.specs.{Answer.{if_then_else_}, Spelling.{varintOf}}
+use Rattle.numbers.specs.{Answer.{if_then_else_}, Prelude.{ℕ, zero, suc, _+_, _≤_, eqb, length, List, [], _∷_, _≡_}, Spelling.{varintOf}}
 
 -- the bytes of a word if the records take this length: 0 stands for a value that needs no word, 1 + n for a text that lies n bytes behind the records
 unfoldable pub wordSize : ℕ → ℕ → ℕ

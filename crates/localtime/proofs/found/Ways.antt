@@ -1,23 +1,15 @@
 -- The ways through what a string gives, and through the comparison of two local times. Assumes nothing.
-use Prim.Native.Nat.{ℕ, zero, suc, _+_, _-_, _^_, _≤_, _<_}
-use borrow.Author.Tests.{eq-eqb, ne-eqb}
-use lib.{Dec.{eqb, ltb}, IntN.{ℤ, pos, negsuc, _-ℤ_}, ListN.{length}, Signed.{mag}}
-use mathlib.Core.{Bool.{Bool, true, false, cond}, List.{List}, Path.{_≡_, refl, ap, sym, subst, _∙_}}
-use mir.{Syntax.{w32, w64}, Val.{SFits, toZ, ofZ}, ValLaws.{toZ-ofZ, toZ-pos}}
-use native.Mathlib.{Numerals.{add-one}, Omega.{arith}}
+use Rattle.numbers.proofs.Prelude.{ℕ, zero, suc, _+_, _-_, _^_, _≤_, _<_, eq-eqb, ne-eqb, eqb, ltb, ℤ, pos, _-ℤ_, length, mag, true, false, List, _≡_, refl, sym, ap, subst, _∙_, w32, w64, SFits, ofZ}
+use Rattle.numbers.proofs.{Prelude.{toZ, toZ-ofZ, add-one, arith}, Signed.{mag-cond}}
+use mir.ValLaws.{toZ-pos}
 use Rattle.localtime.specs.Found.{eastOf, foundOf, sameOctets, sameFound}
 use Rattle.tzif.specs.{Number.{octet}, declared.local.Found.{Found}}
 use Rattle.tzrule.specs.declared.ask.Time.{Time}
 
--- seconds east fit an i32
-either : (t : Bool) (x y : ℕ) → x < 2 ^ 31 → y < 2 ^ 31 → mag (cond t (negsuc x) (pos y)) < 2 ^ 31
-either true x y h k = h
-either false x y h k = k
-
 pub east-small : (west : ℕ) → west ≤ 1209600 → mag (eastOf west) < 2 ^ 31
 unfolding eastOf
 east-small zero h = omega arith
-east-small (suc w) h = either (ltb 604800 (suc w)) (suc w - suc 604800) (604800 - suc w) (omega arith) (omega arith)
+east-small (suc w) h = mag-cond (ltb 604800 (suc w)) (suc w - suc 604800) (604800 - suc w) (2 ^ 31) (omega arith) (omega arith)
 
 module _ (west : ℕ) (short : west ≤ 1209600) where
   west-is : toZ w64 west ≡ pos west
@@ -40,7 +32,8 @@ module _ (west : ℕ) (short : west ≤ 1209600) where
   east-is = toZ-ofZ w32 _ east-fits ∙ east-wide
 
 -- a local time by its four numbers
-pub found-is : (time : Time) {offset : ℤ} → offset ≡ eastOf (time .clock .west) → record { offset = offset; daylight = time .daylight; place = time .clock .name .start; length = time .clock .name .end - time .clock .name .start } ≡ foundOf time
+pub found-is : (time : Time) {offset : ℤ} → offset ≡ eastOf (time .clock .west) →
+    record { offset = offset; daylight = time .daylight; place = time .clock .name .start; length = time .clock .name .end - time .clock .name .start } ≡ foundOf time
 unfolding foundOf
 found-is time e = ap (λ (z : ℤ). record { offset = z; daylight = time .daylight; place = time .clock .name .start; length = time .clock .name .end - time .clock .name .start }) e
 
@@ -65,7 +58,8 @@ module _ (file : List ℕ) (a b : ℕ) where
   stays n zero e = rw (let same : n + 0 ≡ n = omega arith in same) e
   stays n (suc d) e = rw (let same : n + suc d ≡ suc (n + d) = omega arith in same) (simp (stays n d e))
 
-  pub same-differs : (i count : ℕ) {one other : ℕ} → i < count → one ≡ octet file (a + i) → other ≡ octet file (b + i) → sameOctets file a b i ≡ true → (one ≡ other → ⊥) → false ≡ sameOctets file a b count
+  pub same-differs : (i count : ℕ) {one other : ℕ} → i < count → one ≡ octet file (a + i) → other ≡ octet file (b + i) → sameOctets file a b i ≡ true → (one ≡ other → ⊥) →
+      false ≡ sameOctets file a b count
   same-differs i count h p q s n =
       sym (subst (λ (m : ℕ). sameOctets file a b m ≡ false) (let all : suc i + (count - suc i) ≡ count = omega arith in all) (stays (suc i) (count - suc i) (same-less i p q s n)))
 

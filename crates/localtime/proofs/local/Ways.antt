@@ -1,23 +1,16 @@
 -- The ways to a local time. Assumes nothing.
-use Prim.Native.Nat.{ℕ, _≤_}
-use borrow.Author.Tests.{eq-eqb, ne-eqb}
-use lib.{IntN.{ℤ}, ListN.{length}}
-use mathlib.Core.{Bool.{Bool, true, false}, List.{List}, Path.{_≡_, ap, sym, _∙_}}
-use native.Mathlib.Omega.{arith}
-use Rattle.localtime.specs.Found.{foundOf}
-use Rattle.localtime.specs.Local.{askIn, rulesIn, isRuled, byRule, answerBy, answerAt, localTimeBy, localTime, toldRules, toldSaid, HeldRules, HeldStated, HeldSaid, Sound}
+use Rattle.numbers.{proofs.Prelude.{ℕ, _≤_, eq-eqb, ne-eqb, ℤ, length, Bool, true, false, List, _≡_, sym, ap, _∙_, arith}, specs.Lists.{zeros}}
+use Rattle.localtime.specs.{Found.{foundOf}, Local.{askIn, rulesIn, isRuled, byRule, answerBy, answerAt, localTimeBy, localTime, toldRules, toldSaid, HeldRules, HeldStated, HeldSaid, Sound}}
 use Rattle.localtime.specs.declared.{local.Said.{Said}, rule.{Rules.{Rules}, Stated.{Stated}}}
+use Rattle.tzif.{proofs.Goods.{zone-good, zone-leaps-rise, zone-string}, specs.{Header.{rfc9636}, Local.{isAfterLast, byTable, lent, named, replied, Held}, Number.{lift}}}
+use Rattle.tzif.specs.{Reply.{Reply, given, refused, refusal, _>>=_}, Zone.{readZone}, declared.{block.Block.{Block}, local.{Answer.{Answer}, Found.{Found}, LocalTime.{LocalTime}}}}
+use Rattle.tzif.specs.declared.{refusal.Refusal.{Refusal}, zone.Zone.{Zone}}
+use Rattle.tzrule.specs.{declared.{ask.{Asked.{Asked}, Time.{Time}}, rule.Tz.{Tz}}, inner.String.{IsTz}}
 use Rattle.localtime.specs.declared.local.Said.the-variants as S
 use Rattle.localtime.specs.declared.rule.Rules.the-variants as R
 use Rattle.localtime.specs.declared.rule.Stated.the-variants as Q
-use Rattle.tzif.specs.{Reply.{Reply, given, refused, refusal, _>>=_}, Header.{rfc9636}, Local.{isAfterLast, byTable, lent, named, replied, Held}}
-use Rattle.tzif.specs.{Number.{lift}, Zone.{readZone}}
-use Rattle.numbers.specs.Lists.{zeros}
-use Rattle.tzif.specs.declared.{block.Block.{Block}, local.{Answer.{Answer}, Found.{Found}, LocalTime.{LocalTime}}, refusal.Refusal.{Refusal}, zone.Zone.{Zone}}
-use Rattle.tzif.proofs.Goods.{zone-good, zone-leaps-rise, zone-string}
 use Rattle.tzif.specs.declared.local.Answer.the-variants as A
 use Rattle.tzif.specs.declared.local.LocalTime.the-variants as L
-use Rattle.tzrule.specs.{inner.String.{IsTz}, declared.{ask.{Asked.{Asked}, Time.{Time}}, rule.Tz.{Tz}}}
 use Rattle.tzrule.specs.declared.ask.Asked.the-variants as K
 
 -- what the transitions say
@@ -102,7 +95,8 @@ module _ (file : List ℕ) (instant : ℤ) where
     unfolding toldSaid answerAt _>>=_
     not-ruled e = simp (z, e)
 
-    pub answered : {rules : Rules} (said : Said) {lifted : ℕ} → rulesIn file zone ≡ given rules → lifted ≡ lift instant → toldSaid said ≡ answerBy file (zone .block) rules lifted → toldSaid said ≡ answerAt rfc9636 file instant
+    pub answered : {rules : Rules} (said : Said) {lifted : ℕ} → rulesIn file zone ≡ given rules → lifted ≡ lift instant → toldSaid said ≡ answerBy file (zone .block) rules lifted →
+        toldSaid said ≡ answerAt rfc9636 file instant
     unfolding answerAt _>>=_
     answered {rules} said r l s = s ∙ ap (answerBy file (zone .block) rules) l ∙ sym (simp (z, r))
 

@@ -1,16 +1,12 @@
 -- The ways through the TZ string of a file. Assumes nothing.
-use Prim.Native.Nat.{ℕ, _-_, _≤_, _<_}
-use borrow.Author.Tests.{eq-eqb, ne-eqb}
-use lib.{Dec.{eqb, ltb}, ListN.{length}}
-use mathlib.Core.{Bool.{Bool, true, false}, List.{List}, Path.{_≡_, ap, sym, _∙_}}
-use native.Mathlib.Omega.{arith}
+use Rattle.numbers.proofs.Prelude.{ℕ, _-_, _≤_, _<_, eq-eqb, ne-eqb, eqb, ltb, length, Bool, true, false, List, _≡_, sym, ap, _∙_, arith}
 use Rattle.localtime.specs.{Found.{foundOf, Short, sameFound}, Local.{askIn, sameAs, agrees, orSixty, stringIn, rulesIn, toldRules, HeldAsked}}
+use Rattle.tzif.{proofs.Goods.{type-below, type-held}, specs.{Block.{endOf}, Check.{correctionAt}, Local.{typeIn, typeBehind, Good, Held}, Reply.{refusal, demand, _>>=_, _>>_}}}
+use Rattle.tzif.specs.{Times.{timeIn, transitionsOf}, declared.{block.Block.{Block}, local.Found.{Found}, times.Times.{Times}, zone.Zone.{Zone}}}
+use Rattle.tzrule.{proofs.Laws.{asked-clock}, specs.{Answer.{read, fault}, Ask.{corrected, ask}, String.{stringOf}, declared.{ask.{Asked.{Asked}, Time.{Time}}, rule.Tz.{Tz}}}}
+use Rattle.tzrule.specs.inner.String.{IsClock, IsTz}
 use Rattle.localtime.specs.declared.rule.Rules.the-variants as R
 use Rattle.localtime.specs.declared.rule.Stated.the-variants as Q
-use Rattle.tzif.specs.{Reply.{refusal, demand, _>>=_, _>>_}, Block.{endOf}, Check.{correctionAt}, Local.{typeIn, typeBehind, Good, Held}, Times.{timeIn, transitionsOf}}
-use Rattle.tzif.{specs.declared.{block.Block.{Block}, local.Found.{Found}, times.Times.{Times}, zone.Zone.{Zone}}, proofs.Goods.{type-below, type-held}}
-use Rattle.tzrule.proofs.Laws.{asked-clock}
-use Rattle.tzrule.specs.{Answer.{read, fault}, Ask.{corrected, ask}, String.{stringOf}, inner.String.{IsClock, IsTz}, declared.{ask.{Asked.{Asked}, Time.{Time}}, rule.Tz.{Tz}}}
 use Rattle.tzrule.specs.declared.ask.Asked.the-variants as K
 
 -- the instant less its leap seconds
@@ -67,9 +63,12 @@ module _ (file : List ℕ) (block : Block) (tz : Tz) where
     unfolding sameAs
     not-asked e = sym (same-as ∙ ap (λ (x : Asked). sameAs file (typeIn file block (typeBehind file block (block .timecnt))) x) e)
 
-    pub compared : {time : Time} {one other : Found} {same : Bool} → asked ≡ K.Holds time → one ≡ typeIn file block (typeBehind file block (block .timecnt)) → other ≡ foundOf time → same ≡ sameFound file one other → same ≡ agrees file block tz
+    pub compared : {time : Time} {one other : Found} {same : Bool} → asked ≡ K.Holds time → one ≡ typeIn file block (typeBehind file block (block .timecnt)) → other ≡ foundOf time →
+        same ≡ sameFound file one other → same ≡ agrees file block tz
     unfolding sameAs
-    compared {time} {one} {other} e p q s = s ∙ ap (λ (x : Found). sameFound file x other) p ∙ ap (λ (x : Found). sameFound file (typeIn file block (typeBehind file block (block .timecnt))) x) q ∙ sym (same-as ∙ ap (λ (x : Asked). sameAs file (typeIn file block (typeBehind file block (block .timecnt))) x) e)
+    compared {time} {one} {other} e p q s =
+        s ∙ ap (λ (x : Found). sameFound file x other) p ∙ ap (λ (x : Found). sameFound file (typeIn file block (typeBehind file block (block .timecnt))) x) q ∙
+        sym (same-as ∙ ap (λ (x : Asked). sameAs file (typeIn file block (typeBehind file block (block .timecnt))) x) e)
 
 -- the four ways of the string
 module _ (file : List ℕ) (zone : Zone) where

@@ -1,11 +1,7 @@
 -- The ways to the scale of a file. Assumes nothing.
-use Prim.Native.Nat.{ℕ}
-use borrow.Author.Tests.{eq-eqb, ne-eqb}
-use lib.IntN.{ℤ}
-use mathlib.Core.{List.{List}, Path.{_≡_, ap, sym, _∙_}}
+use Rattle.numbers.proofs.Prelude.{ℕ, eq-eqb, ne-eqb, ℤ, List, _≡_, sym, ap, _∙_}
 use Rattle.localtime.specs.{Local.{rulesIn, scaleIn, scaleOr, scaleBy, scaleAt}, declared.{rule.Rules.{Rules}, scale.Scale.{Scale}}}
-use Rattle.tzif.specs.{Check.{correctionAt}, Number.{raised, lift}, Reply.{given, refused, _>>=_}, Zone.{readZone}}
-use Rattle.tzif.specs.declared.{block.Block.{Block}, refusal.Refusal.{Refusal}, zone.Zone.{Zone}}
+use Rattle.tzif.specs.{Check.{correctionAt}, Number.{raised, lift}, Reply.{given, refused, _>>=_}, Zone.{readZone}, declared.{block.Block.{Block}, refusal.Refusal.{Refusal}, zone.Zone.{Zone}}}
 
 -- ---- a checked file's scale
 module _ (file : List ℕ) (block : Block) (instant : ℕ) where
@@ -13,7 +9,8 @@ module _ (file : List ℕ) (block : Block) (instant : ℕ) where
   unfolding scaleIn
   no-records e = simp (eq-eqb (block .leapcnt) 0 e)
 
-  pub has-records : (block .leapcnt ≡ 0 → ⊥) → {r correction : ℕ} → r ≡ correctionAt file block instant → correction ≡ raised r → record { kind = 2; correction = correction } ≡ scaleIn file block instant
+  pub has-records : (block .leapcnt ≡ 0 → ⊥) → {r correction : ℕ} → r ≡ correctionAt file block instant → correction ≡ raised r →
+      record { kind = 2; correction = correction } ≡ scaleIn file block instant
   unfolding scaleIn
   has-records h e c = ap (λ (n : ℕ). record { kind = 2; correction = n }) (c ∙ ap raised e) ∙ sym (simp (ne-eqb (block .leapcnt) 0 h))
 

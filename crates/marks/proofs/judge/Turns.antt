@@ -1,35 +1,13 @@
 -- The loops over the stretches and the groups of a border, turn by turn, and the distance to begin with. Assumes nothing.
-use Prim.Native.Nat.{ℕ, zero, suc, _+_, _-_, _*_, _/_, _≤_, _<_, min}
-use borrow.Author.Tests.{ltb-true, ltb-false, lt-ltb, le-ltb, le-leb, lt-leb}
-use lib.{Dec.{ltb, leb}, IntN.{pos}, ListN.{length}}
-use native.Mathlib.Omega.{arith}
-use mathlib.Core.{Path.{_≡_, refl, sym, ap, _∙_, subst}, Bool.{Bool, true, false, _&&_, and-false}, List.{List, [], _∷_}}
-use types.Run.{OneOf, miss}
-use denote.Enum.Declared.{tagOf}
-use Rattle.border.specs.{Trace.{traceOf}, declared.{place.{FixedLat.{FixedLat}, FixedLon.{FixedLon}, Point.{Point}}, reader.{Reader.{Reader}, Encoding.{Encoding}}}}
-use Rattle.verdict.specs.{Step.{Step, found, told, _>>=_}, Edge.{samePoint}, Distance.{toVertex}, Stretch.{leapt, passingFirst}}
-use Rattle.verdict.specs.Verdict.{Judgement, refused, onBorder, after, along, passing, closedAt, thenOn}
-use Rattle.verdict.specs.declared.step.{Tally.{Tally}, Passed.{Passed}, Verdict.the-variants.{OnBorderVertex}}
+use Rattle.numbers.proofs.Prelude.{ℕ, zero, suc, _+_, _-_, _*_, _/_, _≤_, _<_, min, lt-ltb, le-leb, le-ltb, ltb-true, lt-leb, ltb-false, ltb, leb, pos, length, Bool, true, false, _&&_, List, _≡_}
+use Rattle.numbers.{proofs.{Prelude.{refl, sym, ap, subst, _∙_, arith}, Tests.{both}}, specs.Answer.{if_then_else_}}
+use mathlib.Core.Bool.{and-false}
+use Rattle.border.specs.{Trace.{traceOf}, declared.{place.{FixedLat.{FixedLat}, FixedLon.{FixedLon}, Point.{Point}}, reader.{Encoding.{Encoding}, Reader.{Reader}}}}
+use Rattle.verdict.specs.{Distance.{toVertex}, Edge.{samePoint}, Step.{Step, found, _>>=_}, Stretch.{leapt, passingFirst}}
+use Rattle.verdict.specs.{Verdict.{Judgement, refused, onBorder, after, along, passing, closedAt, thenOn}, declared.step.{Tally.{Tally}, Verdict.the-variants.{OnBorderVertex}}}
 use Rattle.marks.specs.Judging.{canPass, stretchBy, endIn, pointsBy, stretchesBy, groupsBy, isInside, countIn, judgedFrom, nearerBy, nearestOf, nearIn, isBelow, judgedBy}
 use Rattle.marks.specs.{Marks.{stretchEdges, groupWide, groupsOf}, Words.{wordAt, lowIn, highIn, startIn, stateIn}}
 use Rattle.marks.proofs.Nearest.{near-less}
-use Rattle.numbers.proofs.Tests.{both}
-use Rattle.numbers.specs.Answer.{if_then_else_}
-use Rattle.verdict.proofs.step.Passed as Passed'
-use Rattle.verdict.specs.declared.step.Passed.the-variants as P
-
--- ---- what a `let .. else` leaves
-pub stays-stopped : (p : Passed) (go : Tally → Step Tally) → OneOf (1 ∷ 2 ∷ []) (tagOf Passed'.the-type p) → told p ≡ (told p >>= go)
-stays-stopped (P.On t) go o = absurd (miss (1 ∷ 2 ∷ []) 0 tt o)
-stays-stopped (P.Meets v) go o = refl
-stays-stopped P.Over go o = refl
-
-pub decides : (p : Passed) (asked : Bool) (least : ℕ) (go : Tally → Judgement) → OneOf (1 ∷ 2 ∷ []) (tagOf Passed'.the-type p)
-    → thenOn asked least (told p) (λ tally. refused 13) ≡ thenOn asked least (told p) go
-unfolding thenOn
-decides (P.On t) asked least go o = absurd (miss (1 ∷ 2 ∷ []) 0 tt o)
-decides (P.Meets v) asked least go o = refl
-decides P.Over asked least go o = refl
 
 -- ---- the stretches of a border
 module _ (file : List ℕ) (encoding : Encoding) (fix : Point) (asked : Bool) (words : List ℕ) (first : Point) where
@@ -54,10 +32,8 @@ module _ (file : List ℕ) (encoding : Encoding) (fix : Point) (asked : Bool) (w
   stretches-done zero at to t e = refl
   stretches-done (suc k) at to t e = absurd (omega (arith, e))
 
-  pub stretches-next : (left at : ℕ) (to : Point) (t : Tally) → 0 < left
-      → (stretchBy file encoding fix asked words first at (endIn words to (left - 1) at) (pointsBy file encoding fix asked words first at) t
-      >>= stretchesBy file encoding fix asked words first (left - 1) (at + 11) to)
-      ≡ stretchesBy file encoding fix asked words first left at to t
+  pub stretches-next : (left at : ℕ) (to : Point) (t : Tally) → 0 < left → (stretchBy file encoding fix asked words first at (endIn words to (left - 1) at)
+      (pointsBy file encoding fix asked words first at) t >>= stretchesBy file encoding fix asked words first (left - 1) (at + 11) to) ≡ stretchesBy file encoding fix asked words first left at to t
   unfolding stretchesBy
   stretches-next zero at to t h = absurd (omega (arith, h))
   stretches-next (suc k) at to t h = let e : suc k - 1 ≡ k = omega arith in rw e
@@ -68,16 +44,13 @@ module _ (file : List ℕ) (encoding : Encoding) (fix : Point) (asked : Bool) (w
   groups-done (suc k) at left fine t e = absurd (omega (arith, e))
 
   pub groups-next : (groups at left fine : ℕ) (t : Tally) → 0 < groups → {few : ℕ} → few ≡ min groupWide left → {to : Point} → to ≡ endIn words first (groups - 1) at
-      → (stretchBy file encoding fix asked words first at to (stretchesBy file encoding fix asked words first few fine to) t
-      >>= groupsBy file encoding fix asked words first (groups - 1) (at + 11) (left - few) (fine + few * 11))
-      ≡ groupsBy file encoding fix asked words first groups at left fine t
+      → (stretchBy file encoding fix asked words first at to (stretchesBy file encoding fix asked words first few fine to) t >>= groupsBy file encoding fix
+      asked words first (groups - 1) (at + 11) (left - few) (fine + few * 11)) ≡ groupsBy file encoding fix asked words first groups at left fine t
   unfolding groupsBy
   groups-next zero at left fine t h f e = absurd (omega (arith, h))
-  groups-next (suc k) at left fine t h f e =
-      let z : suc k - 1 ≡ k = omega arith in
-      (λ i. stretchBy file encoding fix asked words first at (e i) (stretchesBy file encoding fix asked words first (f i) fine (e i)) t
-      >>= groupsBy file encoding fix asked words first (suc k - 1) (at + 11) (left - f i) (fine + f i * 11))
-      ∙ rw z
+  groups-next (suc k) at left fine t h f e = let z : suc k - 1 ≡ k = omega arith in
+      (λ i. stretchBy file encoding fix asked words first at (e i) (stretchesBy file encoding fix asked words first (f i) fine (e i)) t >>= groupsBy file
+      encoding fix asked words first (suc k - 1) (at + 11) (left - f i) (fine + f i * 11)) ∙ rw z
 
 -- ---- how many marks there are
 module _ (words : List ℕ) (at : ℕ) where
@@ -92,30 +65,28 @@ module _ (words : List ℕ) (at : ℕ) where
   -- a word that says 0 says so
   pub room-for : at < length words → wordAt words at + groupsOf (wordAt words at) ≤ (length words - (at + 1)) / 11 → wordAt words at ≡ countIn words at
   unfolding countIn
-  room-for more room = go (ltb 0 (wordAt words at)) refl
-    where
-      go : (b : Bool) → ltb 0 (wordAt words at) ≡ b → wordAt words at ≡ (if (ltb at (length words) && (b && leb (wordAt words at + groupsOf (wordAt words at)) ((length words - (at + 1)) / 11))) then wordAt words at else 0)
-      go true e = rw (lt-ltb at (length words) more, le-leb (wordAt words at + groupsOf (wordAt words at)) ((length words - (at + 1)) / 11) room)
-      go false e = let none = ltb-false 0 (wordAt words at) e in rw (lt-ltb at (length words) more) (omega (arith, none))
+  room-for more room = go (ltb 0 (wordAt words at)) refl where
+    go : (b : Bool) → ltb 0 (wordAt words at) ≡ b → wordAt words at ≡ (if (ltb at (length words) && (b && leb (wordAt words at + groupsOf (wordAt words at))
+        ((length words - (at + 1)) / 11))) then wordAt words at else 0)
+    go true e = rw (lt-ltb at (length words) more, le-leb (wordAt words at + groupsOf (wordAt words at)) ((length words - (at + 1)) / 11) room)
+    go false e = let none = ltb-false 0 (wordAt words at) e in rw (lt-ltb at (length words) more) (omega (arith, none))
 
   none-in : countIn words at ≡ 0 → isInside words at ≡ false
   unfolding countIn
-  none-in e = go (isInside words at) refl e
-    where
-      go : (b : Bool) → isInside words at ≡ b → (if b then wordAt words at else 0) ≡ 0 → isInside words at ≡ false
-      go true i e =
-          let two = both (ltb at (length words)) (ltb 0 (wordAt words at) && leb (wordAt words at + groupsOf (wordAt words at)) ((length words - (at + 1)) / 11)) i in
-          let some = ltb-true 0 (wordAt words at) (both (ltb 0 (wordAt words at)) (leb (wordAt words at + groupsOf (wordAt words at)) ((length words - (at + 1)) / 11)) (two .1) .0) in
-          absurd (omega (arith, some, e))
-      go false i e = i
+  none-in e = go (isInside words at) refl e where
+    go : (b : Bool) → isInside words at ≡ b → (if b then wordAt words at else 0) ≡ 0 → isInside words at ≡ false
+    go true i e =
+        let two = both (ltb at (length words)) (ltb 0 (wordAt words at) && leb (wordAt words at + groupsOf (wordAt words at)) ((length words - (at + 1)) / 11)) i in
+        let some = ltb-true 0 (wordAt words at) (both (ltb 0 (wordAt words at)) (leb (wordAt words at + groupsOf (wordAt words at)) ((length words - (at + 1)) / 11)) (two .1) .0) in
+        absurd (omega (arith, some, e))
+    go false i e = i
 
   some-in : 0 < countIn words at → (isInside words at ≡ true) × (countIn words at ≡ wordAt words at)
   unfolding countIn
-  some-in h = go (isInside words at) refl h
-    where
-      go : (b : Bool) → isInside words at ≡ b → 0 < (if b then wordAt words at else 0) → (isInside words at ≡ true) × ((if b then wordAt words at else 0) ≡ wordAt words at)
-      go true i h = (i, refl)
-      go false i h = absurd (omega (arith, h))
+  some-in h = go (isInside words at) refl h where
+    go : (b : Bool) → isInside words at ≡ b → 0 < (if b then wordAt words at else 0) → (isInside words at ≡ true) × ((if b then wordAt words at else 0) ≡ wordAt words at)
+    go true i h = (i, refl)
+    go false i h = absurd (omega (arith, h))
 
 -- ---- from a least distance on
 module _ (file : List ℕ) (encoding : Encoding) (words : List ℕ) (at : ℕ) (fix : Point) (asked : Bool) (least n : ℕ) (is : n ≡ countIn words at) where
@@ -137,11 +108,9 @@ module _ (file : List ℕ) (encoding : Encoding) (words : List ℕ) (at : ℕ) (
     pub from-groups : {first : Point} → first ≡ startIn words (at + 1) → samePoint first fix ≡ false
         → thenOn asked least (groupsBy file encoding fix asked words first (groupsOf n) (at + 1 + n * 11) n (at + 1) (record { winding = pos 0; least = least })) (closedAt asked) ≡ by
     unfolding judgedFrom passing along
-    from-groups e other =
-        let test = (λ i. samePoint (sym e i) fix) ∙ other in
-        let count = is ∙ there .1 in
-        (λ i. thenOn asked least (groupsBy file encoding fix asked words (e i) (groupsOf (count i)) (at + 1 + count i * 11) (count i) (at + 1) (record { winding = pos 0; least = least })) (closedAt asked))
-        ∙ rw (there .0, test)
+    from-groups e other = let test = (λ i. samePoint (sym e i) fix) ∙ other in let count = is ∙ there .1 in
+        (λ i. thenOn asked least (groupsBy file encoding fix asked words (e i) (groupsOf (count i)) (at + 1 + count i * 11) (count i) (at + 1)
+        (record { winding = pos 0; least = least })) (closedAt asked)) ∙ rw (there .0, test)
 
 -- ---- a distance to begin with
 pub nearest-done : (words : List ℕ) (fix : Point) (left at near : ℕ) → left ≡ 0 → near ≡ nearestOf words fix left at near
@@ -174,11 +143,10 @@ module _ (file : List ℕ) (encoding : Encoding) (words : List ℕ) (at : ℕ) (
     -- where it is no less to begin with
     pub from-same : least ≤ n → judged least ≡ by-all
     unfolding judgedBy
-    from-same h = either (isBelow near (judged near)) (ap judged (omega (arith, h, e, near-less words at fix asked least)))
-      where
-        either : (b : Bool) → judged least ≡ judged near → judged least ≡ (if b then judged near else judged least)
-        either true e = e
-        either false e = refl
+    from-same h = either (isBelow near (judged near)) (ap judged (omega (arith, h, e, near-less words at fix asked least))) where
+      either : (b : Bool) → judged least ≡ judged near → judged least ≡ (if b then judged near else judged least)
+      either true e = e
+      either false e = refl
 
     module _ {j : Judgement} (g : j ≡ judged n) where
       led : j ≡ judged near

@@ -1,12 +1,8 @@
 -- A walk along the chain of an item. Assumes nothing.
-use Prim.Native.Nat.{ℕ, suc, _+_, _-_, _*_, _%_, _≤_, _<_}
-use lib.ListN.{getD}
-use mathlib.Core.{Bool.{Bool, true, false, _&&_}, List.{List}, Path.{_≡_, refl, sym, ap, subst, _∙_}}
-use native.Mathlib.Omega.{arith}
-use Rattle.builder.specs.Sharing.{sameTexts}
+use Rattle.numbers.proofs.Prelude.{ℕ, suc, _+_, _-_, _*_, _%_, _≤_, _<_, getD, Bool, true, false, _&&_, List, _≡_, refl, sym, ap, subst, _∙_, arith}
+use Rattle.builder.{proofs.grouping.{Keyed.{alike-hash}, Walks.{fewer-inside, item-among}}, specs.{Grouping.{Items.{itemAt, Inside}, Keys.{alike}}, Sharing.{sameTexts}}}
 use Rattle.notes.proofs.chains.{Entering.{in-bucket, from-bucket}, Lasts.{never, last-in, last-out, last-most, last-good, last-within}}
 use Rattle.notes.specs.Chains.{Chains.{lastWith, inBucket, Chained, meets, ItemsInside}, Entered.{bucketOf, Walked}}
-use Rattle.builder.{proofs.grouping.{Keyed.{alike-hash}, Walks.{fewer-inside, item-among}}, specs.Grouping.{Items.{itemAt, Inside}, Keys.{alike}}}
 
 -- ---- an item and those before it
 pub other-room : (item other width size : ℕ) → (item + 1) * width < size → other ≤ item → other * width + width < size
@@ -23,17 +19,15 @@ module _ (starts texts : List ℕ) (width : ℕ) (entered : ℕ → Bool) (item 
   mine = inBucket (bucketOf starts texts width) entered (bucketOf starts texts width item)
 
   pub from-meets : (other : ℕ) → meets starts texts width entered item other ≡ true → (entered other ≡ true) × (alike starts texts width item other ≡ true)
-  from-meets other e = go (entered other) refl e
-    where
-      go : (t : Bool) → entered other ≡ t → (t && alike starts texts width item other) ≡ true → (entered other ≡ true) × (alike starts texts width item other ≡ true)
-      go true a e = (a, e)
-      go false a e = never (sym e)
+  from-meets other e = go (entered other) refl e where
+    go : (t : Bool) → entered other ≡ t → (t && alike starts texts width item other) ≡ true → (entered other ≡ true) × (alike starts texts width item other ≡ true)
+    go true a e = (a, e)
+    go false a e = never (sym e)
 
   -- those that are the same are in one bucket
   pub meets-bucket : (other : ℕ) → meets starts texts width entered item other ≡ true → inBucket (bucketOf starts texts width) entered (bucketOf starts texts width item) other ≡ true
   unfolding bucketOf
-  meets-bucket other e =
-      let two = from-meets other e in
+  meets-bucket other e = let two = from-meets other e in
       in-bucket (bucketOf starts texts width) entered (bucketOf starts texts width item) other (two .0) (ap (λ (h : ℕ). h % 4096) (alike-hash starts texts width item other (two .1)))
 
   -- the walk has come to this place
@@ -56,16 +50,17 @@ module _ (starts texts : List ℕ) (width : ℕ) (entered : ℕ → Bool) (item 
 
       pub stand-found : same ≡ true → suc other ≡ lastWith (meets starts texts width entered item) before
       unfolding alike
-      stand-found e =
-          let good-here : good other ≡ true = ap (λ (t : Bool). t && alike starts texts width item other) entered-here ∙ (sym is ∙ e) in
+      stand-found e = let good-here : good other ≡ true = ap (λ (t : Bool). t && alike starts texts width item other) entered-here ∙ (sym is ∙ e) in
           sym (last-in good other good-here) ∙ s .left
 
       pub stand-goes : same ≡ false → (next : ℕ) → next ≡ getD chain (4096 + other) 0 → Stands before next × (next ≤ other)
       unfolding alike
       stand-goes e next link =
           let bad : good other ≡ false = ap (λ (t : Bool). t && alike starts texts width item other) entered-here ∙ (sym is ∙ e) in
-          let k : bucketOf starts texts width other ≡ bucketOf starts texts width item = from-bucket (bucketOf starts texts width) entered (bucketOf starts texts width item) other (s .here other refl) .1 in
-          let there : next ≡ lastWith mine other = link ∙ (c .links other (omega (arith, s .most, few)) entered-here ∙ ap (λ (n : ℕ). lastWith (inBucket (bucketOf starts texts width) entered n) other) k) in
+          let k : bucketOf starts texts width other ≡ bucketOf starts texts width item =
+          from-bucket (bucketOf starts texts width) entered (bucketOf starts texts width item) other (s .here other refl) .1 in
+          let there : next ≡ lastWith mine other =
+          link ∙ (c .links other (omega (arith, s .most, few)) entered-here ∙ ap (λ (n : ℕ). lastWith (inBucket (bucketOf starts texts width) entered n) other) k) in
           let on = stand-on other next there in
           (record { most = omega (arith, on .most, s .most); left = on .left ∙ (sym (last-out good other bad) ∙ s .left); here = on .here }, on .most)
 
@@ -80,7 +75,11 @@ module _ (starts texts : List ℕ) (width : ℕ) (chain : List ℕ) (item from :
   walk-starts h = record { within = h; stands = λ entered count before inside c few most e. stand-on starts texts width entered item before from e }
 
   pub walk-refused : item < from → Walked starts texts width chain item from 0
-  walk-refused h = record { within = omega arith; last = λ entered count before inside c few most e. absurd (omega (arith, h, few, most, stand-on starts texts width entered item before from e .most)) }
+  walk-refused h = record {
+    within = omega arith;
+    last = λ entered count before inside c few most e. absurd
+        (omega (arith, h, few, most, stand-on starts texts width entered item before from e .most));
+  }
 
   module _ (at : ℕ) (w : Walking at) where
     pub walk-ends : at ≤ 0 → Walked starts texts width chain item from 0
@@ -93,7 +92,8 @@ module _ (starts texts : List ℕ) (width : ℕ) (chain : List ℕ) (item from :
     }
 
     module _ (some : 0 < at) (same : Bool)
-        (is : Inside starts texts (item * width + width) → Inside starts texts ((at - 1) * width + width) → same ≡ sameTexts (itemAt starts texts (item * width) width) (itemAt starts texts ((at - 1) * width) width)) where
+        (is : Inside starts texts (item * width + width) → Inside starts texts ((at - 1) * width + width) →
+        same ≡ sameTexts (itemAt starts texts (item * width) width) (itemAt starts texts ((at - 1) * width) width)) where
       at-is : at ≡ suc (at - 1)
       at-is = omega arith
 
@@ -107,14 +107,16 @@ module _ (starts texts : List ℕ) (width : ℕ) (chain : List ℕ) (item from :
       walk-found yes′ = record {
         within = w .within;
         last = λ entered count before inside c few most e.
-            at-is ∙ stand-found starts texts width entered item count before chain c few (at - 1) (stands-here entered before (w .stands entered count before inside c few most e)) same (same-is inside) yes′;
+            at-is ∙ stand-found starts texts width entered item count before chain c few (at - 1) (stands-here entered before (w .stands entered count before inside c few most e)) same
+            (same-is inside) yes′;
       }
 
       module _ (no′ : same ≡ false) (next : ℕ) (link : next ≡ getD chain (4096 + (at - 1)) 0) where
         goes : (entered : ℕ → Bool) (count before : ℕ) → ItemsInside starts texts width item → Chained (bucketOf starts texts width) entered count chain → before ≤ count → count ≤ item
             → from ≡ lastWith (inBucket (bucketOf starts texts width) entered (bucketOf starts texts width item)) before → Stands starts texts width entered item before next × (next ≤ at - 1)
         goes entered count before inside c few most e =
-            stand-goes starts texts width entered item count before chain c few (at - 1) (stands-here entered before (w .stands entered count before inside c few most e)) same (same-is inside) no′ next link
+            stand-goes starts texts width entered item count before chain c few (at - 1) (stands-here entered before (w .stands entered count before inside c few most e)) same
+            (same-is inside) no′ next link
 
         pub walk-forged : at - 1 < next → Walked starts texts width chain item from 0
         walk-forged h = record { within = omega arith; last = λ entered count before inside c few most e. absurd (omega (arith, h, goes entered count before inside c few most e .1)) }
@@ -123,19 +125,18 @@ module _ (starts texts : List ℕ) (width : ℕ) (chain : List ℕ) (item from :
         walk-goes h = record { within = omega (arith, h, w .within); stands = λ entered count before inside c few most e. goes entered count before inside c few most e .0 }
 
 -- ---- where a walk begins
-module _ (starts texts : List ℕ) (width : ℕ) (chain : List ℕ) (item r : ℕ) (entered : ℕ → Bool) (count : ℕ) (inside : ItemsInside starts texts width item) (c : Chained (bucketOf starts texts width) entered count chain) (most : count ≤ item) where
-  pub from-head : (bucket from : ℕ) → bucket < 4096 → bucket ≡ bucketOf starts texts width item → from ≡ getD chain bucket 0 → Walked starts texts width chain item from r → r ≡ lastWith (meets starts texts width entered item) count
+module _ (starts texts : List ℕ) (width : ℕ) (chain : List ℕ) (item r : ℕ) (entered : ℕ → Bool) (count : ℕ) (inside : ItemsInside starts texts width item)
+    (c : Chained (bucketOf starts texts width) entered count chain) (most : count ≤ item) where
+  pub from-head : (bucket from : ℕ) → bucket < 4096 → bucket ≡ bucketOf starts texts width item → from ≡ getD chain bucket 0 → Walked starts texts width chain item from r →
+      r ≡ lastWith (meets starts texts width entered item) count
   from-head bucket from small is e w =
-      w .last entered count count inside c (omega arith) most
-      (e ∙ (c .heads bucket small ∙ ap (λ (k : ℕ). lastWith (inBucket (bucketOf starts texts width) entered k) count) is))
+      w .last entered count count inside c (omega arith) most (e ∙ (c .heads bucket small ∙ ap (λ (k : ℕ). lastWith (inBucket (bucketOf starts texts width) entered k) count) is))
 
   pub from-found : (found from : ℕ) → 0 < found → from ≡ getD chain (4095 + found) 0 → Walked starts texts width chain item from r → found ≡ lastWith (meets starts texts width entered item) count
       → r ≡ lastWith (meets starts texts width entered item) (found - 1)
-  from-found found from some e w is =
-      let some′ : found ≡ suc (found - 1) = omega arith in
-      let place : 4095 + found ≡ 4096 + (found - 1) = omega arith in
+  from-found found from some e w is = let some′ : found ≡ suc (found - 1) = omega arith in let place : 4095 + found ≡ 4096 + (found - 1) = omega arith in
       let low : found ≤ count = omega (arith, is, last-most (meets starts texts width entered item) count) in
       let good : meets starts texts width entered item (found - 1) ≡ true = last-good (meets starts texts width entered item) count (found - 1) (sym is ∙ some′) in
       let two = from-bucket (bucketOf starts texts width) entered (bucketOf starts texts width item) (found - 1) (meets-bucket starts texts width entered item (found - 1) good) in
-      w .last entered count (found - 1) inside c (omega (arith, low)) most
-      (e ∙ (ap (λ (n : ℕ). getD chain n 0) place ∙ (c .links (found - 1) (omega (arith, low, some)) (two .0) ∙ ap (λ (k : ℕ). lastWith (inBucket (bucketOf starts texts width) entered k) (found - 1)) (two .1))))
+      w .last entered count (found - 1) inside c (omega (arith, low)) most (e ∙ (ap (λ (n : ℕ). getD chain n 0) place
+      ∙ (c .links (found - 1) (omega (arith, low, some)) (two .0) ∙ ap (λ (k : ℕ). lastWith (inBucket (bucketOf starts texts width) entered k) (found - 1)) (two .1))))

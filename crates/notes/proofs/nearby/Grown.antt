@@ -1,13 +1,11 @@
 -- What the table grows by with the entry of one yard more. Assumes nothing.
-use Prim.Native.Nat.{ℕ, zero, suc, _+_, _-_, _%_, _^_, _≤_, _<_}
-use lib.{Dec.{leb}, IntN.{ℤ, pos, _-ℤ_}, ListN.{getD, length, length-append}}
-use mathlib.Core.{Bool.{Bool, true, false}, List.{List, [], _∷_, _++_, map}, Option.{Option, none, some, Option·map}, Path.{_≡_, refl, ap, sym, _∙_}}
-use native.Mathlib.Omega.{arith}
-use Rattle.builder.{proofs.Steps.{box-few}, specs.{Entries.{Entry, boundsAt, boxBytes, entryAt, entryBytes, fromSouth, tableOf}, declared.{boxes.Bounds.{Bounds}, entry.Places.{Places}}}}
-use Rattle.builder.specs.Grouping.Keys.{numbersFrom}
+use Rattle.numbers.proofs.Prelude.{ℕ, zero, suc, _+_, _-_, _%_, _^_, _≤_, _<_, leb, ℤ, pos, _-ℤ_, length, getD, length-append, Bool, true, false, List, [], _∷_, _++_, map, _≡_, refl, sym, ap, _∙_}
+use Rattle.numbers.{proofs.{Prelude.{arith}, Spelling.{varint-few}}, specs.{Answer.{if_then_else_}, Spelling.{varintOf, signedForm}}}
+use mathlib.Core.Option.{Option, none, some, Option·map}
+use Rattle.builder.{proofs.Steps.{box-few}, specs.{Entries.{Entry, boundsAt, boxBytes, entryAt, entryBytes, fromSouth, tableOf}, Grouping.Keys.{numbersFrom}, declared.boxes.Bounds.{Bounds}}}
+use Rattle.builder.specs.declared.entry.Places.{Places}
 use Rattle.draft.proofs.held.Inserted.{lowIn, highIn, gap, recordOf, borderOf, table-grown}
 use Rattle.layout.{proofs.Orders.{sorted-map}, specs.Order.{sortedBy}}
-use Rattle.numbers.{proofs.Spelling.{varint-few}, specs.{Answer.{if_then_else_}, Spelling.{varintOf, signedForm}}}
 use Rattle.notes.specs.inner.Nearby.Nearby.{entryFor, entriesAt, entryWith, southAt, numbered, lowTo, highTo, Nears, placesOf, sizeBehind}
 
 -- ---- an entry is its box and two steps of at most ten bytes
@@ -17,11 +15,8 @@ record Parts (box size : ℕ) : Type 0 where
 
 entry-parts : (r b : ℕ) (e : Entry) → Parts (length (boxBytes (e .bounds))) (length (entryBytes r b e))
 unfolding entryBytes
-entry-parts r b e =
-    let step = signedForm (pos (e .record′) -ℤ pos r) in
-    let border = (e .border + 2 ^ 32 - b) % 2 ^ 32 in
-    let all = length-append (boxBytes (e .bounds)) (varintOf step ++ varintOf border) in
-    let steps = length-append (varintOf step) (varintOf border) in
+entry-parts r b e = let step = signedForm (pos (e .record′) -ℤ pos r) in let border = (e .border + 2 ^ 32 - b) % 2 ^ 32 in
+    let all = length-append (boxBytes (e .bounds)) (varintOf step ++ varintOf border) in let steps = length-append (varintOf step) (varintOf border) in
     record { least = omega (arith, all); most = omega (arith, all, steps, varint-few step, varint-few border) }
 
 new-few : (r b : ℕ) (e : Entry) (size : ℕ) → size ≡ length (entryBytes r b e) → size ≤ 60
@@ -37,10 +32,8 @@ module _ (boxes : List ℤ) (begins borders : List ℕ) where
   behind-near : (from here : Places) (near before behind : ℕ) → before ≡ sizeBehind boxes begins borders from near → behind ≡ sizeBehind boxes begins borders here near → behind ≤ before + 20
   unfolding sizeBehind
   behind-near from here zero before behind e f = omega (arith, e, f)
-  behind-near from here (suc yard) before behind e f =
-      let p = entry-parts (from .«record») (from .border) (entryFor boxes begins borders yard) in
-      let q = entry-parts (here .«record») (here .border) (entryFor boxes begins borders yard) in
-      omega (arith, e, f, p .least, q .most)
+  behind-near from here (suc yard) before behind e f = let p = entry-parts (from .«record») (from .border) (entryFor boxes begins borders yard) in
+      let q = entry-parts (here .«record») (here .border) (entryFor boxes begins borders yard) in omega (arith, e, f, p .least, q .most)
 
 -- ---- a neighbour's number
 module _ (begins borders : List ℕ) where
@@ -62,10 +55,8 @@ module _ (begins borders : List ℕ) where
         → (size : ℕ) → size ≡ length (entryBytes (from .«record») (from .border) (entryAt bounds places)) → size ≡ sizeBehind boxes begins borders from near
     unfolding sizeBehind placesOf
     size-some zero there bounds eb places ep size is = absurd (there refl)
-    size-some (suc yard) there bounds eb places ep size is =
-        let e : suc yard - 1 ≡ yard = omega arith in
-        is
-        ∙ (ap (λ (b : Bounds). length (entryBytes (from .«record») (from .border) (entryAt b places))) (eb ∙ ap (boundsAt boxes) e)
+    size-some (suc yard) there bounds eb places ep size is = let e : suc yard - 1 ≡ yard = omega arith in
+        is ∙ (ap (λ (b : Bounds). length (entryBytes (from .«record») (from .border) (entryAt b places))) (eb ∙ ap (boundsAt boxes) e)
         ∙ ap (λ (p : Places). length (entryBytes (from .«record») (from .border) (entryAt (boundsAt boxes yard) p))) ep)
 
 -- ---- the neighbours of an entry are those of its yard
@@ -73,21 +64,19 @@ module _ {A B : Type 0} (key : A → ℕ) (other : B → ℕ) (f : A → B) (sam
   low-map : (sofar : Option A) (ys : List A) → lowIn other k (Option·map f sofar) (map f ys) ≡ Option·map f (lowIn key k sofar ys)
   unfolding lowIn
   low-map sofar [] = refl
-  low-map sofar (y ∷ ys) = ap (λ (n : ℕ). if leb n k then lowIn other k (some (f y)) (map f ys) else Option·map f sofar) (same y) ∙ go (leb (key y) k) (low-map (some y) ys)
-    where
-      go : (t : Bool) → lowIn other k (some (f y)) (map f ys) ≡ Option·map f (lowIn key k (some y) ys)
-          → (if t then lowIn other k (some (f y)) (map f ys) else Option·map f sofar) ≡ Option·map f (if t then lowIn key k (some y) ys else sofar)
-      go true more = more
-      go false more = refl
+  low-map sofar (y ∷ ys) = ap (λ (n : ℕ). if leb n k then lowIn other k (some (f y)) (map f ys) else Option·map f sofar) (same y) ∙ go (leb (key y) k) (low-map (some y) ys) where
+    go : (t : Bool) → lowIn other k (some (f y)) (map f ys) ≡ Option·map f (lowIn key k (some y) ys)
+        → (if t then lowIn other k (some (f y)) (map f ys) else Option·map f sofar) ≡ Option·map f (if t then lowIn key k (some y) ys else sofar)
+    go true more = more
+    go false more = refl
 
   high-map : (ys : List A) → highIn other k (map f ys) ≡ Option·map f (highIn key k ys)
   unfolding highIn
   high-map [] = refl
-  high-map (y ∷ ys) = ap (λ (n : ℕ). if leb n k then highIn other k (map f ys) else some (f y)) (same y) ∙ go (leb (key y) k) (high-map ys)
-    where
-      go : (t : Bool) → highIn other k (map f ys) ≡ Option·map f (highIn key k ys) → (if t then highIn other k (map f ys) else some (f y)) ≡ Option·map f (if t then highIn key k ys else some y)
-      go true more = more
-      go false more = refl
+  high-map (y ∷ ys) = ap (λ (n : ℕ). if leb n k then highIn other k (map f ys) else some (f y)) (same y) ∙ go (leb (key y) k) (high-map ys) where
+    go : (t : Bool) → highIn other k (map f ys) ≡ Option·map f (highIn key k ys) → (if t then highIn other k (map f ys) else some (f y)) ≡ Option·map f (if t then highIn key k ys else some y)
+    go true more = more
+    go false more = refl
 
 -- ---- the table
 abbrev southOf : Entry → ℕ
@@ -164,9 +153,9 @@ module _ (boxes : List ℤ) (begins borders : List ℕ) where
       entry-from : entryBytes (recordOf lows) (borderOf lows) new ≡ entryBytes (from .«record») (from .border) new
       entry-from = ap (λ (r : ℕ). entryBytes r (borderOf lows) new) from-record ∙ ap (λ (b : ℕ). entryBytes (from .«record») b new) from-border
 
-      table-with : length (tableOf (entriesAt boxes begins borders count ++ (entryWith boxes borders count begin ∷ []))) + sizeBehind boxes begins borders (placesOf begins borders low) high
-          ≡ length (tableOf (entriesAt boxes begins borders count))
-          + (length (entryBytes (placesOf begins borders low .«record») (placesOf begins borders low .border) (entryWith boxes borders count begin)) + sizeBehind boxes begins borders (record { «record» = begin; border = getD borders count 0 }) high)
+      table-with : length (tableOf (entriesAt boxes begins borders count ++ (entryWith boxes borders count begin ∷ []))) + sizeBehind boxes begins borders
+          (placesOf begins borders low) high ≡ length (tableOf (entriesAt boxes begins borders count)) + (length (entryBytes (placesOf begins borders low .«record»)
+          (placesOf begins borders low .border) (entryWith boxes borders count begin)) + sizeBehind boxes begins borders (record { «record» = begin; border = getD borders count 0 }) high)
       unfolding tableOf lows highs
       table-with = omega (arith, table-grown southOf new entries, gap-from, gap-is here, ap length entry-from)
 
@@ -182,13 +171,11 @@ module _ (boxes : List ℤ) (begins borders : List ℕ) (count begin : ℕ) wher
       → (new : ℕ) → new ≡ length (entryBytes (from .«record») (from .border) (entryAt bounds (record { «record» = begin; border = getD borders count 0 })))
       → (behind : ℕ) → behind ≡ sizeBehind boxes begins borders (record { «record» = begin; border = getD borders count 0 }) high
       → (before : ℕ) → before ≡ sizeBehind boxes begins borders from high → Grows boxes begins borders count begin new behind before
-  grows low high near from ef bounds eb new en behind eh before eo =
-      let here : Places = record { «record» = begin; border = getD borders count 0 } in
+  grows low high near from ef bounds eb new en behind eh before eo = let here : Places = record { «record» = begin; border = getD borders count 0 } in
       let old : before ≡ sizeBehind boxes begins borders (placesOf begins borders low) high = eo ∙ ap (λ (p : Places). sizeBehind boxes begins borders p high) ef in
-      let size : new ≡ length (entryBytes (placesOf begins borders low .«record») (placesOf begins borders low .border) (entryWith boxes borders count begin)) =
-      en ∙ (ap (λ (p : Places). length (entryBytes (p .«record») (p .border) (entryAt bounds here))) ef
-      ∙ ap (λ (b : Bounds). length (entryBytes (placesOf begins borders low .«record») (placesOf begins borders low .border) (entryAt b here))) eb) in
-      record {
+      let size : new ≡ length (entryBytes (placesOf begins borders low .«record») (placesOf begins borders low .border) (entryWith boxes borders count begin)) = en
+      ∙ (ap (λ (p : Places). length (entryBytes (p .«record») (p .border) (entryAt bounds here))) ef
+      ∙ ap (λ (b : Bounds). length (entryBytes (placesOf begins borders low .«record») (placesOf begins borders low .border) (entryAt b here))) eb) in record {
         new-small = new-few (from .«record») (from .border) (entryAt bounds here) new en;
         behind-small = behind-few boxes begins borders here high behind eh;
         behind-alike = behind-near boxes begins borders from here high before behind eo eh;
@@ -198,7 +185,8 @@ module _ (boxes : List ℤ) (begins borders : List ℕ) (count begin : ℕ) wher
   module _ (new behind before : ℕ) (g : Grows boxes begins borders count begin new behind before) (table : ℕ) where
     abbrev Answered : ℕ → Type 0
     Answered r =
-        (table ≡ length (tableOf (entriesAt boxes begins borders count)) → r ≡ length (tableOf (entriesAt boxes begins borders count ++ (entryWith boxes borders count begin ∷ [])))) × (r ≤ table + 100)
+        (table ≡ length (tableOf (entriesAt boxes begins borders count)) → r ≡ length (tableOf (entriesAt boxes begins borders count ++ (entryWith boxes borders count begin ∷ [])))) ×
+        (r ≤ table + 100)
 
     pub answer-none : table + new + behind < before → Answered 0
     answer-none h = ((λ e. omega (arith, g .sum, e, h)), omega arith)

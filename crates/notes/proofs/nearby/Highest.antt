@@ -1,10 +1,7 @@
 -- The greatest lower latitude, with that of one yard more. Assumes nothing.
-use Prim.Native.Nat.{ℕ, _+_, _*_}
-use lib.{IntN.{ℤ, pos}, ListN.{getD, length, length-map}, Signed.{ltZ}}
-use mathlib.Core.{Bool.{true, false}, List.{List, [], _∷_, _++_, map}, Path.{_≡_, refl, ap, sym, _∙_}}
-use mir.{Facts.{toZ-ofZ}, Syntax.{w32}, Val.{SFits, toZ, ofZ}}
-use Rattle.builder.{proofs.Bests.{greater-second, greater-first}, specs.Entries.{bestBy, greater, highestOf}}
-use Rattle.builder.{proofs.grouping.Listed.{numbers-many}, specs.Grouping.Keys.{numbersFrom}}
+use Rattle.numbers.proofs.Prelude.{ℕ, _+_, _*_, ℤ, pos, length, getD, length-map, ltZ, true, false, List, [], _∷_, _++_, map, _≡_, refl, sym, ap, _∙_, w32, SFits, ofZ, toZ}
+use mir.Facts.{toZ-ofZ}
+use Rattle.builder.{proofs.{Bests.{greater-second, greater-first}, grouping.Listed.{numbers-many}}, specs.{Entries.{bestBy, greater, highestOf}, Grouping.Keys.{numbersFrom}}}
 use Rattle.build.proofs.metadata.Shared.{map-more}
 use Rattle.notes.proofs.nearby.Seeks.{numbers-one}
 use Rattle.draft.specs.inner.Summed.Sums.{southsOf}
@@ -25,9 +22,7 @@ module _ (boxes : List ℤ) (count : ℕ) where
 
   souths-more : southsOf boxes (count + 1) ≡ southsOf boxes count ++ (getD boxes (4 * count) (pos 0) ∷ [])
   unfolding southsOf
-  souths-more =
-      let at : ℕ → ℤ = λ yard. getD boxes (4 * yard) (pos 0) in
-      ap (map at) (numbers-one count) ∙ map-more at (numbersFrom 0 count) (count ∷ [])
+  souths-more = let at : ℕ → ℤ = λ yard. getD boxes (4 * yard) (pos 0) in ap (map at) (numbers-one count) ∙ map-more at (numbersFrom 0 count) (count ∷ [])
 
   module _ (greatest : ℤ) (k : SFits w32 (getD boxes (4 * count) (pos 0))) where
     abbrev Right : ℤ → Type 0
@@ -35,9 +30,7 @@ module _ (boxes : List ℤ) (count : ℕ) where
 
     pub only : count ≡ 0 → Right (toZ w32 (ofZ w32 (getD boxes (4 * count) (pos 0))))
     unfolding southsOf highestOf bestBy numbersFrom
-    only z e =
-        toZ-ofZ k
-        ∙ sym (ap highestOf souths-more ∙ ap (λ (n : ℕ). highestOf (southsOf boxes n ++ (south ∷ []))) z)
+    only z e = toZ-ofZ k ∙ sym (ap highestOf souths-more ∙ ap (λ (n : ℕ). highestOf (southsOf boxes n ++ (south ∷ []))) z)
 
     module _ (some : count ≡ 0 → ⊥) (h : SFits w32 greatest) where
       with-last : greatest ≡ highestOf (southsOf boxes count) → greater greatest south ≡ highestOf (southsOf boxes (count + 1))

@@ -1,14 +1,11 @@
 -- The neighbours of a yard, found in one pass over those before it. Assumes nothing.
-use Prim.Native.Nat.{ℕ, _+_, _^_, _≤_, _<_}
-use borrow.Author.Tests.{lt-ltb, le-ltb, le-leb, lt-leb}
-use lib.{Dec.{ltb, leb}, IntN.{ℤ}}
-use mathlib.Core.{Bool.{Bool}, List.{List, [], _∷_, _++_}, Option.{Option, none, some}, Path.{_≡_, refl, ap, sym, _∙_}}
-use native.Mathlib.{Numerals.{add-one}, Omega.{arith}}
+use Rattle.numbers.proofs.Prelude.{ℕ, _+_, _^_, _≤_, _<_, lt-ltb, le-leb, le-ltb, lt-leb, ltb, leb, ℤ, Bool, List, [], _∷_, _++_, _≡_, refl, sym, ap, _∙_, add-one, arith}
+use Rattle.numbers.specs.Answer.{if_then_else_}
+use mathlib.Core.Option.{Option, none, some}
 use Rattle.builder.specs.Grouping.Keys.{numbersFrom}
 use Rattle.draft.proofs.held.Inserted.{lowIn, highIn, notBelow, below, lowStep, highStep, low-more, high-more}
 use Rattle.layout.specs.Order.{sortedBy}
 use Rattle.build.proofs.metadata.Shared.{numbers-more}
-use Rattle.numbers.specs.Answer.{if_then_else_}
 use Rattle.notes.specs.inner.Nearby.Nearby.{southAt, numbered, lowTo, highTo, Nears}
 
 -- the first yards, and one more
@@ -104,7 +101,8 @@ module _ (boxes : List ℤ) (south count : ℕ) where
     highs = highTo boxes south yard
 
     high-still : here ≤ south → Found (southAt boxes) (2 ^ 32) (highTo boxes south (yard + 1)) (yard + 1) high highest
-    high-still t = found-still (southAt boxes) (2 ^ 32) highs yard high highest (s .upper) (highTo boxes south (yard + 1)) (high-on yard ∙ high-passes (southAt boxes) south highs yard (omega (arith, t, e .0)))
+    high-still t = found-still (southAt boxes) (2 ^ 32) highs yard high highest (s .upper) (highTo boxes south (yard + 1))
+        (high-on yard ∙ high-passes (southAt boxes) south highs yard (omega (arith, t, e .0)))
 
     low-still : south < here → Found (southAt boxes) 0 (lowTo boxes south (yard + 1)) (yard + 1) low lowest
     low-still t = found-still (southAt boxes) 0 lows yard low lowest (s .lower) (lowTo boxes south (yard + 1)) (low-on yard ∙ low-passes (southAt boxes) south lows yard (omega (arith, t, e .0)))
@@ -142,12 +140,11 @@ module _ (boxes : List ℤ) (south count : ℕ) where
     }
 
 -- all yards are passed
-pub seek-ends : (boxes : List ℤ) (south count low lowest high highest yard : ℕ) → Seeking boxes south count low lowest high highest yard → count ≤ yard → south ≡ southAt boxes count → Nears boxes count low high
-seek-ends boxes south count low lowest high highest yard s h e =
-    let all : yard ≡ count = omega (arith, h, s .index) in
-    record {
-      low-is = s .lower .number-is ∙ (ap (λ (n : ℕ). numbered (lowTo boxes south n)) all ∙ ap (λ (k : ℕ). numbered (lowTo boxes k count)) e);
-      high-is = s .upper .number-is ∙ (ap (λ (n : ℕ). numbered (highTo boxes south n)) all ∙ ap (λ (k : ℕ). numbered (highTo boxes k count)) e);
-      low-there = omega (arith, s .lower .there, all);
-      high-there = omega (arith, s .upper .there, all);
-    }
+pub seek-ends : (boxes : List ℤ) (south count low lowest high highest yard : ℕ) → Seeking boxes south count low lowest high highest yard → count ≤ yard → south ≡ southAt boxes count →
+    Nears boxes count low high
+seek-ends boxes south count low lowest high highest yard s h e = let all : yard ≡ count = omega (arith, h, s .index) in record {
+  low-is = s .lower .number-is ∙ (ap (λ (n : ℕ). numbered (lowTo boxes south n)) all ∙ ap (λ (k : ℕ). numbered (lowTo boxes k count)) e);
+  high-is = s .upper .number-is ∙ (ap (λ (n : ℕ). numbered (highTo boxes south n)) all ∙ ap (λ (k : ℕ). numbered (highTo boxes k count)) e);
+  low-there = omega (arith, s .lower .there, all);
+  high-there = omega (arith, s .upper .there, all);
+}

@@ -1,11 +1,7 @@
 -- Lists that are written word by word: every second place, and where parts end. Assumes nothing.
-use Prim.Native.Nat.{ℕ, suc, _+_, _-_, _^_, _≤_, _<_}
-use lib.{ListN.{length, set, drop, getD, length-set, length-map, length-replicate}, Seq.{sets, drop-cons, drop-length}}
-use mathlib.Core.{List.{List, [], _∷_, _++_, map}, Path.{_≡_, refl, sym, ap, subst, _∙_}}
-use native.Mathlib.{Numerals.{add-one}, Omega.{arith}}
-use Rattle.builder.specs.Yards.{sumOf}
-use Rattle.builder.{proofs.grouping.Listed.{numbers-many}, specs.Grouping.{Items.{startsFrom}, Keys.{numbersFrom}}}
-use Rattle.numbers.{proofs.Lists.{zeros-drop}, specs.Lists.{zeros}}
+use Rattle.numbers.proofs.{Lists.{zeros-drop}, Prelude.{ℕ, suc, _+_, _-_, _^_, _≤_, _<_, length, drop, getD, set, length-map, length-set, length-replicate, sets, drop-cons, drop-length, List, []}}
+use Rattle.numbers.{proofs.Prelude.{_∷_, _++_, map, _≡_, refl, sym, ap, subst, _∙_, add-one, arith}, specs.Lists.{zeros}}
+use Rattle.builder.{proofs.grouping.Listed.{numbers-many}, specs.{Grouping.{Items.{startsFrom}, Keys.{numbersFrom}}, Yards.{sumOf}}}
 use Rattle.writer.{proofs.Stores.{Left, left-all, left-step, left-none, stored-one, stored-front}, specs.inner.Stored.{Stored}}
 
 -- ---- the first so many words by a rule
@@ -20,21 +16,17 @@ module _ (word : ℕ → ℕ) (count : ℕ) where
   module _ (before now : List ℕ) (i : ℕ) (c : Gathering before now i) where
     pub gather-goes : i < count → Gathering before (set now i (word i)) (i + 1)
     unfolding numbersFrom
-    gather-goes h =
-        let more : count - i ≡ suc (count - (i + 1)) = omega arith in
+    gather-goes h = let more : count - i ≡ suc (count - (i + 1)) = omega arith in
         let cut : map word (numbersFrom i (count - i)) ≡ (word i ∷ []) ++ map word (numbersFrom (i + 1) (count - (i + 1))) = ap (λ (n : ℕ). map word (numbersFrom i n)) more ∙ rw (add-one i) in
         record { index = omega arith; left = left-step (word i ∷ []) (subst (λ (r : List ℕ). Left before 0 (map word (numbersFrom 0 count)) now i r) cut (c .left)) (stored-one now i (word i)) }
 
     pub gather-ends : count ≤ i → (size : ℕ) → before ≡ zeros size → count ≤ size → now ≡ map word (numbersFrom 0 count) ++ zeros (size - count)
     unfolding numbersFrom
-    gather-ends h size e room =
-        let none : count - i ≡ 0 = omega arith in
-        let all : List ℕ = map word (numbersFrom 0 count) in
+    gather-ends h size e room = let none : count - i ≡ 0 = omega arith in let all : List ℕ = map word (numbersFrom 0 count) in
         let s : Stored before 0 all now i = left-none (subst (λ (n : ℕ). Left before 0 all now i (map word (numbersFrom i n))) none (c .left)) in
         let many : length all ≡ count = length-map (numbersFrom 0 count) word ∙ numbers-many 0 count in
         let long : length before ≡ size = ap length e ∙ length-replicate {A = ℕ} size 0 in
-        stored-front before all now i s (omega (arith, many, long, room))
-        ∙ (ap (λ (n : ℕ). all ++ drop n before) many ∙ ap (λ (l : List ℕ). all ++ l) (ap (drop count) e ∙ zeros-drop count size))
+        stored-front before all now i s (omega (arith, many, long, room)) ∙ (ap (λ (n : ℕ). all ++ drop n before) many ∙ ap (λ (l : List ℕ). all ++ l) (ap (drop count) e ∙ zeros-drop count size))
 
 -- ---- where parts end
 starts-cons : (at : ℕ) (ns : List ℕ) → startsFrom at ns ≡ at ∷ drop 1 (startsFrom at ns)
@@ -64,11 +56,10 @@ module _ (sizes : List ℕ) (begin : ℕ) (before : List ℕ) (at : ℕ) (marks 
 
     pub mark-goes : Marking sizes begin before at (set marks (at + 1 + i) (end + getD sizes i 0)) (end + getD sizes i 0) (i + 1)
     unfolding startsFrom
-    mark-goes =
-        let next : ℕ = end + getD sizes i 0 in
-        let rest : drop 1 (startsFrom end (drop i sizes)) ≡ next ∷ drop 1 (startsFrom next (drop (suc i) sizes)) = ap (λ (l : List ℕ). drop 1 (startsFrom end l)) (drop-cons sizes i 0 h) ∙ starts-cons next (drop (suc i) sizes) in
-        let place : at + 1 + (i + 1) ≡ suc (at + 1 + i) = omega arith in
-        record {
+    mark-goes = let next : ℕ = end + getD sizes i 0 in
+        let rest : drop 1 (startsFrom end (drop i sizes)) ≡ next ∷ drop 1 (startsFrom next (drop (suc i) sizes)) = ap (λ (l : List ℕ). drop 1 (startsFrom end l))
+        (drop-cons sizes i 0 h) ∙ starts-cons next (drop (suc i) sizes) in
+        let place : at + 1 + (i + 1) ≡ suc (at + 1 + i) = omega arith in record {
           index = omega arith;
           bound = rw (add-one i) mark-sum;
           size = length-set marks (at + 1 + i) next ∙ c .size;
@@ -80,7 +71,5 @@ module _ (sizes : List ℕ) (begin : ℕ) (before : List ℕ) (at : ℕ) (marks 
 
   pub mark-ends : length sizes ≤ i → marks ≡ sets before (at + 1) (drop 1 (startsFrom begin sizes))
   unfolding startsFrom
-  mark-ends h =
-      let e : i ≡ length sizes = omega (arith, c .index) in
-      let none : drop i sizes ≡ [] = ap (λ (n : ℕ). drop n sizes) e ∙ drop-length sizes in
+  mark-ends h = let e : i ≡ length sizes = omega (arith, c .index) in let none : drop i sizes ≡ [] = ap (λ (n : ℕ). drop n sizes) e ∙ drop-length sizes in
       sym (ap (λ (l : List ℕ). sets marks (at + 1 + i) (drop 1 (startsFrom end l))) none) ∙ c .same

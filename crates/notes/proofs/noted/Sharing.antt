@@ -1,17 +1,10 @@
 -- Which yard is the first with its values: what a search among the first ones tells. Assumes nothing.
-use Prim.Native.Nat.{ℕ, zero, suc, _+_, _*_, _/_, _≤_, _<_}
-use borrow.Author.Tests.{eq-eqb, ne-eqb}
-use mathlib.Core.{Bool.{Bool, true, false, _&&_}, List.{List}, Path.{_≡_, refl, sym, ap, _∙_}}
-use native.Mathlib.{Nat.{mul-add-div-right, div-eq-of-lt}, Omega.{arith}}
-use Rattle.builder.specs.{Sharing.{sameTexts, isIn}, Yards.{Text}}
+use Rattle.numbers.proofs.Prelude.{ℕ, zero, suc, _+_, _*_, _/_, _≤_, _<_, eq-eqb, ne-eqb, Bool, true, false, _&&_, List, _≡_, refl, sym, ap, _∙_, arith}
+use native.Mathlib.Nat.{mul-add-div-right, div-eq-of-lt}
+use Rattle.builder.{proofs.grouping.Keyed.{texts-equal}, specs.{Grouping.{Items.{startsFrom, itemAt}, Keys.{alike}}, Sharing.{sameTexts, isIn}, Yards.{Text}}}
 use Rattle.notes.proofs.chains.{Lasts.{never, below-next, last-most, last-good, last-none, none-last}, Walking.{from-meets}}
 use Rattle.notes.specs.Chains.{Chains.{lastWith, meets}, Entered.{isFirst, isField}}
-use Rattle.builder.{proofs.grouping.Keyed.{texts-equal}, specs.Grouping.{Items.{startsFrom, itemAt}, Keys.{alike}}}
 use Rattle.build.{proofs.metadata.Shared.{in-none, in-some}, specs.Metadata.Kept.{valuesTo}}
-
-and-false : (a b : Bool) → b ≡ false → (a && b) ≡ false
-and-false true b e = e
-and-false false b e = refl
 
 module _ (names : ℕ) (lengths texts : List ℕ) where
   abbrev item : ℕ → List Text
@@ -37,20 +30,17 @@ module _ (names : ℕ) (lengths texts : List ℕ) where
     -- where no first one is like it, none is
     none-like : ((i : ℕ) → i < yard → good yard i ≡ false) → (n : ℕ) → n ≤ yard → (i : ℕ) → i < n → like yard i ≡ false
     none-like none zero h i l = absurd (omega arith)
-    none-like none (suc n) h i l = below-next (λ (i : ℕ). like yard i ≡ false) n (none-like none n (omega arith)) (here (none-like none n (omega arith))) i l
-      where
-        here : ((i : ℕ) → i < n → like yard i ≡ false) → like yard n ≡ false
-        here before = go (like yard n) refl
-          where
-            other : (t : Bool) (i : ℕ) → like n i ≡ t → like yard n ≡ true → i < n → t ≡ false
-            other true i e f l = never (sym (like-on yard n i f e) ∙ before i l)
-            other false i e f l = refl
+    none-like none (suc n) h i l = below-next (λ (i : ℕ). like yard i ≡ false) n (none-like none n (omega arith)) (here (none-like none n (omega arith))) i l where
+      here : ((i : ℕ) → i < n → like yard i ≡ false) → like yard n ≡ false
+      here before = go (like yard n) refl where
+        other : (t : Bool) (i : ℕ) → like n i ≡ t → like yard n ≡ true → i < n → t ≡ false
+        other true i e f l = never (sym (like-on yard n i f e) ∙ before i l)
+        other false i e f l = refl
 
-            go : (t : Bool) → like yard n ≡ t → t ≡ false
-            go true e =
-                let first : isFirst names lengths texts n ≡ true = first-of n (λ i l. other (like n i) i refl e l) in
-                never (sym (ap (λ (t : Bool). t && like yard n) first ∙ e) ∙ none n (omega (arith, h)))
-            go false e = refl
+        go : (t : Bool) → like yard n ≡ t → t ≡ false
+        go true e = let first : isFirst names lengths texts n ≡ true = first-of n (λ i l. other (like n i) i refl e l) in
+            never (sym (ap (λ (t : Bool). t && like yard n) first ∙ e) ∙ none n (omega (arith, h)))
+        go false e = refl
 
     module _ (r : ℕ) (found : r ≡ lastWith (meets (startsFrom 0 lengths) texts names (isFirst names lengths texts) yard) yard) where
       pub found-none : r ≡ 0 → (i : ℕ) → i < yard → alike (startsFrom 0 lengths) texts names yard i ≡ false
@@ -67,17 +57,15 @@ module _ (names : ℕ) (lengths texts : List ℕ) where
 
       pub not-first : 0 < r → isFirst names lengths texts yard ≡ false
       unfolding isFirst
-      not-first h = ne-eqb (lastWith (like yard) yard) 0 (λ z. go r h refl z)
-        where
-          go : (n : ℕ) → 0 < n → r ≡ n → lastWith (like yard) yard ≡ 0 → ⊥
-          go zero h e z = omega arith
-          go (suc other) h e z = let two = found-some other e in never (sym (two .1) ∙ last-none (like yard) yard z other (two .0))
+      not-first h = ne-eqb (lastWith (like yard) yard) 0 (λ z. go r h refl z) where
+        go : (n : ℕ) → 0 < n → r ≡ n → lastWith (like yard) yard ≡ 0 → ⊥
+        go zero h e z = omega arith
+        go (suc other) h e z = let two = found-some other e in never (sym (two .1) ∙ last-none (like yard) yard z other (two .0))
 
       -- the values of a yard that is found, and of one that is not
       pub record Grouped : Type 0 where
-        pub shared : (other : ℕ) → r ≡ suc other
-            → (isIn sameTexts (itemAt (startsFrom 0 lengths) texts (yard * names) names) (valuesTo names lengths texts yard) ≡ true)
-            × (itemAt (startsFrom 0 lengths) texts (yard * names) names ≡ itemAt (startsFrom 0 lengths) texts (other * names) names)
+        pub shared : (other : ℕ) → r ≡ suc other → (isIn sameTexts (itemAt (startsFrom 0 lengths) texts (yard * names) names)
+            (valuesTo names lengths texts yard) ≡ true) × (itemAt (startsFrom 0 lengths) texts (yard * names) names ≡ itemAt (startsFrom 0 lengths) texts (other * names) names)
         pub own : r ≡ 0 → isIn sameTexts (itemAt (startsFrom 0 lengths) texts (yard * names) names) (valuesTo names lengths texts yard) ≡ false
 
       pub groups-shared : Grouped
@@ -92,7 +80,6 @@ module _ (names : ℕ) (lengths texts : List ℕ) where
   -- a value belongs to its yard
   pub field-of : (yard field : ℕ) → field < names → isField names lengths texts (yard * names + field) ≡ isFirst names lengths texts yard
   unfolding isField
-  field-of yard field h =
-      let none : field / names ≡ 0 = div-eq-of-lt h in
+  field-of yard field h = let none : field / names ≡ 0 = div-eq-of-lt h in
       let is : (yard * names + field) / names ≡ yard = mul-add-div-right (omega (arith, h)) yard field ∙ omega (arith, none) in
       ap (isFirst names lengths texts) is

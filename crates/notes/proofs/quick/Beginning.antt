@@ -1,16 +1,13 @@
 -- A yard more as it lies in a builder's lists: its values, and the notes beside them. Assumes nothing.
-use Prim.Native.Nat.{ℕ, _+_, _-_, _*_}
-use lib.{IntN.{ℤ}, ListN.{getD, length, length-map, take}, Seq.{getD-append-seam, getD-at, take-append-seam, take-at}}
-use mathlib.Core.{List.{List, [], _∷_, _++_, flatMap, map}, Path.{_≡_, sym, ap, subst, _∙_}}
-use native.Mathlib.{Numerals.{add-one}, Omega.{arith}}
-use Rattle.builder.specs.{Borders.{Drawn}, Metadata.{inlined, recordsOf, remotes}, Yards.{Text, Yard}}
-use Rattle.notes.specs.Chains.{Chains.{Chained}, Entered.{bucketOf, isField, isFirst}}
-use Rattle.builder.{proofs.grouping.Listed.{numbers-many}, specs.Grouping.{Items.{itemAt, startsFrom}, Keys.{numbersFrom}}}
+use Rattle.numbers.proofs.Prelude.{ℕ, _+_, _-_, _*_, ℤ, length, take, getD, length-map, take-at, take-append-seam, getD-at, List, [], _∷_, _++_, map, flatMap, _≡_, sym, ap, subst, _∙_, add-one}
+use Rattle.numbers.proofs.Prelude.{arith}
+use lib.Seq.{getD-append-seam}
+use Rattle.builder.{proofs.grouping.Listed.{numbers-many}, specs.{Borders.{Drawn}, Grouping.{Items.{itemAt, startsFrom}, Keys.{numbersFrom}}, Metadata.{inlined, recordsOf, remotes}}}
+use Rattle.builder.specs.Yards.{Text, Yard}
+use Rattle.notes.specs.{Chains.{Chains.{Chained}, Entered.{bucketOf, isField, isFirst}}, Noted.Records.{fieldsIn}, declared.quick.step.Numbers.{Numbers}, inner.Quick.Placed.{Beside}}
+use Rattle.notes.specs.inner.Quick.Steps.{Stepping}
 use Rattle.draft.{proofs.held.{Begins.{section-size}, Valued.{held-all, held-values, held-whole}}, specs.Held.Totals.{totalsFor}}
 use Rattle.build.{proofs.metadata.{Begun.{values-on}, Shared.{map-more}}, specs.Metadata.Kept.{valuesTo}}
-use Rattle.notes.specs.Noted.Records.{fieldsIn}
-use Rattle.notes.specs.inner.Quick.{Placed.{Beside}, Steps.{Stepping}}
-use Rattle.notes.specs.declared.quick.step.Numbers.{Numbers}
 
 -- two lists that are equal with an item more
 last-same : {A : Type 0} (xs ys : List A) (x y : A) → length xs ≡ length ys → xs ++ (x ∷ []) ≡ ys ++ (y ∷ []) → (xs ≡ ys) × (x ≡ y)
@@ -37,21 +34,19 @@ module _ (yards : List Yard) (y : Yard) (drawn drawn′ : Drawn) (names count : 
 
   -- The notes are what a search and a weighing ask for.
   pub beside : Beside yards y names count (numbers .records) (numbers .metadata - numbers .records) lengths starts texts chains groups begins
-  beside =
-      let begun : startsFrom 0 lengths ≡ starts = sym (s .starts-are) in
-      record {
-        behind = record {
-          values-are = two-values .0;
-          own = two-values .1 ∙ ap (λ (l : List ℕ). itemAt l texts (count * names) names) begun;
-          noted = record {
-            begin = s .starts-are;
-            all = held-all (yards ++ (y ∷ [])) drawn′ names (count + 1) boxes borders lengths texts (s .stands);
-            whole = omega (arith, held-whole (yards ++ (y ∷ [])) drawn′ names (count + 1) boxes borders lengths texts (s .stands));
-            fields = subst (λ (l : List ℕ). Chained (bucketOf l texts 1) (isField names lengths texts) (count * names) chains) begun (s .indexed .fields);
-          };
-          records-is = s .records-is;
-          remote-is = remote-is;
-        };
-        grouped = subst (λ (l : List ℕ). Chained (bucketOf l texts names) (isFirst names lengths texts) count groups) begun (s .indexed .records);
-        begins-are = s .begins-are;
-      }
+  beside = let begun : startsFrom 0 lengths ≡ starts = sym (s .starts-are) in record {
+    behind = record {
+      values-are = two-values .0;
+      own = two-values .1 ∙ ap (λ (l : List ℕ). itemAt l texts (count * names) names) begun;
+      noted = record {
+        begin = s .starts-are;
+        all = held-all (yards ++ (y ∷ [])) drawn′ names (count + 1) boxes borders lengths texts (s .stands);
+        whole = omega (arith, held-whole (yards ++ (y ∷ [])) drawn′ names (count + 1) boxes borders lengths texts (s .stands));
+        fields = subst (λ (l : List ℕ). Chained (bucketOf l texts 1) (isField names lengths texts) (count * names) chains) begun (s .indexed .fields);
+      };
+      records-is = s .records-is;
+      remote-is = remote-is;
+    };
+    grouped = subst (λ (l : List ℕ). Chained (bucketOf l texts names) (isFirst names lengths texts) count groups) begun (s .indexed .records);
+    begins-are = s .begins-are;
+  }

@@ -1,17 +1,10 @@
 -- The totals with a yard more, whose record changes no other. Assumes nothing.
-use Prim.Native.Nat.{ℕ, _+_, _*_}
-use lib.{IntN.{ℤ}, ListN.{drop, length, take, take-append-drop}, Seq.{take-at}}
-use mathlib.Core.{List.{List, [], _∷_, _++_, append-assoc, map, zipWith}, Path.{_≡_, sym, ap, _∙_}}
+use Rattle.numbers.proofs.Prelude.{ℕ, _+_, _*_, ℤ, length, take, drop, take-append-drop, take-at, List, [], _∷_, _++_, map, append-assoc, zipWith, _≡_, sym, ap, _∙_}
 use Rattle.builder.specs.{Borders.{Drawn}, Entries.{Entry, highestOf, lowestOf, tableOf}, File.{entryOf}, Yards.{Yard}}
-use Rattle.build.specs.Entries.Corners.{cornersOf}
-use Rattle.draft.{proofs.held.{Standing.{corners-many}, Texts.{corners-more}, Valued.{held-boxes, souths-from}}, specs.Held.Totals.{totalsFor}}
-use Rattle.notes.proofs.nearby.Laid.{entries-are, tables-are}
-use Rattle.notes.specs.inner.Nearby.Nearby.{entriesAt, entryWith}
-use Rattle.draft.specs.inner.Summed.Sums.{southsOf}
-use Rattle.notes.specs.{inner.Noted.OneMore.{OneMore}, Noted.Records.{beginIn}}
-use Rattle.notes.proofs.noted.OneMore.{begins-more}
-use Rattle.notes.specs.inner.Quick.Steps.{Grown, Stepping}
-use Rattle.notes.specs.declared.quick.step.Numbers.{Numbers}
+use Rattle.build.{proofs.entries.Tabled.{corners-size}, specs.Entries.Corners.{cornersOf}}
+use Rattle.draft.{proofs.held.{Texts.{corners-more}, Valued.{held-boxes, souths-from}}, specs.{Held.Totals.{totalsFor}, inner.Summed.Sums.{southsOf}}}
+use Rattle.notes.proofs.{nearby.Laid.{entries-are, tables-are}, noted.OneMore.{begins-more}}
+use Rattle.notes.specs.{Noted.Records.{beginIn}, declared.quick.step.Numbers.{Numbers}, inner.{Nearby.Nearby.{entriesAt, entryWith}, Noted.OneMore.{OneMore}, Quick.Steps.{Grown, Stepping}}}
 
 module _ (yards : List Yard) (y : Yard) (drawn drawn′ : Drawn) (names count : ℕ) (numbers : Numbers) (boxes : List ℤ) (borders lengths starts texts chains groups begins : List ℕ)
     (s : Stepping yards y drawn drawn′ names count numbers boxes borders lengths starts texts chains groups begins) where
@@ -43,15 +36,15 @@ module _ (yards : List Yard) (y : Yard) (drawn drawn′ : Drawn) (names count : 
   table-was : numbers .table ≡ length (tableOf (entriesAt boxes begins borders count))
   unfolding totalsFor
   table-was =
-      let front : take (length yards) borders ≡ drawn .places =
-      ap (take (length yards)) (bordered ∙ append-assoc (drawn .places) (s .place ∷ []) ps) ∙ take-at (drawn .places) (s .place ∷ ps) (length yards) (s .drawn-many) in
-      let corners : take (4 * length yards) boxes ≡ cornersOf yards =
-      ap (take (4 * length yards)) front-boxes ∙ take-at (cornersOf yards) (cornersOf (y ∷ []) ++ bs) (4 * length yards) (corners-many yards) in
-      s .table-is
-      ∙ (ap (λ (es : List Entry). length (tableOf es)) (sym (entries-are yards boxes begins borders (drop count begins) begun (drawn .places) (s .drawn-many) corners front))
+      let front : take (length yards) borders ≡ drawn .places = ap (take (length yards)) (bordered ∙ append-assoc (drawn .places) (s .place ∷ []) ps)
+      ∙ take-at (drawn .places) (s .place ∷ ps) (length yards) (s .drawn-many) in
+      let corners : take (4 * length yards) boxes ≡ cornersOf yards = ap (take (4 * length yards)) front-boxes ∙ take-at (cornersOf yards) (cornersOf (y ∷ []) ++ bs)
+      (4 * length yards) (corners-size yards) in
+      s .table-is ∙ (ap (λ (es : List Entry). length (tableOf es)) (sym (entries-are yards boxes begins borders (drop count begins) begun (drawn .places) (s .drawn-many) corners front))
       ∙ ap (λ (n : ℕ). length (tableOf (entriesAt boxes begins borders n))) (sym (s .many)))
 
-  table-is : (by begin : ℕ) → OneMore yards y by begin → length (tableOf (entriesAt boxes begins borders count ++ (entryWith boxes borders count begin ∷ []))) ≡ totalsFor (yards ++ (y ∷ [])) drawn′ .table
+  table-is : (by begin : ℕ) → OneMore yards y by begin →
+      length (tableOf (entriesAt boxes begins borders count ++ (entryWith boxes borders count begin ∷ []))) ≡ totalsFor (yards ++ (y ∷ [])) drawn′ .table
   unfolding totalsFor
   table-is by begin m =
       ap (λ (n : ℕ). length (tableOf (entriesAt boxes begins borders n ++ (entryWith boxes borders n begin ∷ [])))) (s .many)

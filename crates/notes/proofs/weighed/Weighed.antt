@@ -1,56 +1,31 @@
 -- The values of a new record, one after another: each is empty, stands behind the records, or was not met before. Then its step is sure. Assumes nothing.
-use Prim.Native.Nat.{ℕ, _+_}
-use borrow.Author.Tests.{eqb-true, eqb-false}
-use lib.{Dec.{eqb}, ListN.{length}}
-use mathlib.Core.{Bool.{Bool, true, false, _||_}, List.{List, [], _∷_, _++_, append-assoc}, Path.{_≡_, refl, ap, sym, subst, _∙_}}
-use native.Mathlib.Omega.{arith}
-use Rattle.builder.specs.{Metadata.{fieldsOf, isRemote}, Sharing.{sameText, sameTexts, isIn, timesIn, firstsAfter}, Yards.{Text}}
-use Rattle.builder.proofs.grouping.{Keyed.{text-equal}, Meant.{text-itself}}
+use Rattle.numbers.proofs.Prelude.{ℕ, _+_, eqb-true, eqb-false, eqb, length, Bool, true, false, _||_, List, [], _∷_, _++_, append-assoc, _≡_, refl, sym, ap, subst, _∙_, arith}
+use Rattle.numbers.{proofs.Tests.{neither}, specs.Answer.{if_then_else_}}
+use Rattle.builder.{proofs.grouping.{Keyed.{text-equal}, Meant.{text-itself}}, specs.{Metadata.{isRemote}, Sharing.{sameText, isIn, timesIn}, Yards.{Text}}}
 use Rattle.draft.proofs.held.Sure.{Sure, empty, far, alone, times-none, times-more, in-more}
 use Rattle.layout.proofs.Everyone.{Every}
 use Rattle.notes.specs.inner.Weighed.Weights.{Weight, Weighed, nothing, behind, unmet}
-use Rattle.numbers.specs.Answer.{if_then_else_}
 
 -- ---- in one list or another
-or-false : (a b : Bool) → (a || b) ≡ false → (a ≡ false) × (b ≡ false)
-or-false true b e = let z : _≡_ {A = ℕ} 0 1 = cc in absurd (omega arith)
-or-false false b e = (refl, e)
-
 pub not-in-both : (t : Text) (xs ys : List Text) → isIn sameText t (xs ++ ys) ≡ false → (isIn sameText t xs ≡ false) × (isIn sameText t ys ≡ false)
 unfolding isIn
 not-in-both t [] ys e = (refl, e)
-not-in-both t (x ∷ xs) ys e =
-    let two = or-false (sameText t x) (isIn sameText t (xs ++ ys)) e in
-    let rest = not-in-both t xs ys (two .1) in
+not-in-both t (x ∷ xs) ys e = let two = neither (sameText t x) (isIn sameText t (xs ++ ys)) e in let rest = not-in-both t xs ys (two .1) in
     (ap (λ (b : Bool). b || isIn sameText t xs) (two .0) ∙ rest .0, rest .1)
 
 pub in-neither : (t : Text) (xs ys : List Text) → isIn sameText t xs ≡ false → isIn sameText t ys ≡ false → isIn sameText t (xs ++ ys) ≡ false
 unfolding isIn
 in-neither t [] ys a b = b
-in-neither t (x ∷ xs) ys a b =
-    let two = or-false (sameText t x) (isIn sameText t xs) a in
+in-neither t (x ∷ xs) ys a b = let two = neither (sameText t x) (isIn sameText t xs) a in
     ap (λ (c : Bool). c || isIn sameText t (xs ++ ys)) (two .0) ∙ in-neither t xs ys (two .1) b
-
--- a text of the records' fields is a value
-pub fields-among : (t : Text) (seen rs : List (List Text)) → isIn sameText t (fieldsOf rs) ≡ false → isIn sameText t (fieldsOf (firstsAfter sameTexts seen rs)) ≡ false
-unfolding fieldsOf firstsAfter
-fields-among t seen [] e = e
-fields-among t seen (r ∷ rs) e = go (isIn sameTexts r seen) (not-in-both t r (fieldsOf rs) e) (fields-among t seen rs) (fields-among t (r ∷ seen) rs)
-  where
-    go : (b : Bool) → (isIn sameText t r ≡ false) × (isIn sameText t (fieldsOf rs) ≡ false) → (isIn sameText t (fieldsOf rs) ≡ false → isIn sameText t (fieldsOf (firstsAfter sameTexts seen rs)) ≡ false)
-        → (isIn sameText t (fieldsOf rs) ≡ false → isIn sameText t (fieldsOf (firstsAfter sameTexts (r ∷ seen) rs)) ≡ false)
-        → isIn sameText t (fieldsOf (if b then firstsAfter sameTexts seen rs else (r ∷ firstsAfter sameTexts (r ∷ seen) rs))) ≡ false
-    go true two a b = a (two .1)
-    go false two a b = in-neither t r (fieldsOf (firstsAfter sameTexts (r ∷ seen) rs)) (two .0) (b (two .1))
 
 in-last : (t : Text) (xs : List Text) → isIn sameText t (xs ++ (t ∷ [])) ≡ true
 unfolding isIn
 in-last t [] = ap (λ (b : Bool). b || false) (text-itself t)
-in-last t (x ∷ xs) = go (sameText t x) (in-last t xs)
-  where
-    go : (b : Bool) → isIn sameText t (xs ++ (t ∷ [])) ≡ true → (b || isIn sameText t (xs ++ (t ∷ []))) ≡ true
-    go true k = refl
-    go false k = k
+in-last t (x ∷ xs) = go (sameText t x) (in-last t xs) where
+  go : (b : Bool) → isIn sameText t (xs ++ (t ∷ [])) ≡ true → (b || isIn sameText t (xs ++ (t ∷ []))) ≡ true
+  go true k = refl
+  go false k = k
 
 times-own : (t : Text) (ts : List Text) → timesIn sameText t (t ∷ ts) ≡ 1 + timesIn sameText t ts
 unfolding timesIn
@@ -62,30 +37,27 @@ module _ (fields values : List Text) where
   no-more : (t : Text) → (length t ≡ 0 → ⊥) → isRemote fields t ≡ false → (seen ts : List Text) → Weighed fields values seen ts → isIn sameText t seen ≡ true → timesIn sameText t ts ≡ 0
   unfolding Weighed timesIn
   no-more t some near seen [] w e = refl
-  no-more t some near seen (x ∷ ts) w e = go (sameText t x) refl (w .0) (no-more t some near (seen ++ (x ∷ [])) ts (w .1) (in-more t seen (x ∷ []) e))
-    where
-      never : true ≡ false → ⊥
-      never z = let n : _≡_ {A = ℕ} 0 1 = cc in omega arith
+  no-more t some near seen (x ∷ ts) w e = go (sameText t x) refl (w .0) (no-more t some near (seen ++ (x ∷ [])) ts (w .1) (in-more t seen (x ∷ []) e)) where
+    never : true ≡ false → ⊥
+    never z = let n : _≡_ {A = ℕ} 0 1 = cc in omega arith
 
-      go : (b : Bool) → sameText t x ≡ b → Weight fields values seen x → timesIn sameText t ts ≡ 0 → (if b then 1 else 0) + timesIn sameText t ts ≡ 0
-      go true is (nothing z) k = absurd (some (ap length (text-equal t x is) ∙ z))
-      go true is (behind z) k = absurd (never (sym z ∙ (ap (isRemote fields) (sym (text-equal t x is)) ∙ near)))
-      go true is (unmet z) k = absurd (never (sym e ∙ (ap (λ (u : Text). isIn sameText u seen) (text-equal t x is) ∙ not-in-both x values seen z .1)))
-      go false is w k = omega (arith, k)
+    go : (b : Bool) → sameText t x ≡ b → Weight fields values seen x → timesIn sameText t ts ≡ 0 → (if b then 1 else 0) + timesIn sameText t ts ≡ 0
+    go true is (nothing z) k = absurd (some (ap length (text-equal t x is) ∙ z))
+    go true is (behind z) k = absurd (never (sym z ∙ (ap (isRemote fields) (sym (text-equal t x is)) ∙ near)))
+    go true is (unmet z) k = absurd (never (sym e ∙ (ap (λ (u : Text). isIn sameText u seen) (text-equal t x is) ∙ not-in-both x values seen z .1)))
+    go false is w k = omega (arith, k)
 
   module _ (among : (t : Text) → isIn sameText t values ≡ false → isIn sameText t fields ≡ false) where
     once : (seen : List Text) (t : Text) (ts : List Text) → Weight fields values seen t → Weighed fields values (seen ++ (t ∷ [])) ts → Sure fields (seen ++ (t ∷ ts)) t
     once seen t ts (nothing z) w = empty z
     once seen t ts (behind z) w = far z
-    once seen t ts (unmet z) w = go (eqb (length t) 0) refl (isRemote fields t) refl
-      where
-        go : (a : Bool) → eqb (length t) 0 ≡ a → (b : Bool) → isRemote fields t ≡ b → Sure fields (seen ++ (t ∷ ts)) t
-        go true ea b eb = empty (eqb-true (length t) 0 ea)
-        go false ea true eb = far eb
-        go false ea false eb =
-            let two = not-in-both t values seen z in
-            alone (times-none t fields (among t (two .0)))
-            (omega (arith, times-more t seen (t ∷ ts), times-none t seen (two .1), times-own t ts, no-more t (eqb-false (length t) 0 ea) eb (seen ++ (t ∷ [])) ts w (in-last t seen)))
+    once seen t ts (unmet z) w = go (eqb (length t) 0) refl (isRemote fields t) refl where
+      go : (a : Bool) → eqb (length t) 0 ≡ a → (b : Bool) → isRemote fields t ≡ b → Sure fields (seen ++ (t ∷ ts)) t
+      go true ea b eb = empty (eqb-true (length t) 0 ea)
+      go false ea true eb = far eb
+      go false ea false eb = let two = not-in-both t values seen z in
+          alone (times-none t fields (among t (two .0)))
+          (omega (arith, times-more t seen (t ∷ ts), times-none t seen (two .1), times-own t ts, no-more t (eqb-false (length t) 0 ea) eb (seen ++ (t ∷ [])) ts w (in-last t seen)))
 
     sure-from : (seen ts : List Text) → Weighed fields values seen ts → Every (Sure fields (seen ++ ts)) ts
     unfolding Weighed Every

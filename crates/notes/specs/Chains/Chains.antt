@@ -1,9 +1,6 @@
 -- Items in chains: for each of 4,096 buckets the last item that was entered, and for each entered item the one before it in its bucket.
-use Prim.Native.Nat.{ℕ, zero, suc, _+_, _*_, _≤_, _<_}
-use lib.{Dec.{eqb}, ListN.{length, getD}}
-use mathlib.Core.{Bool.{Bool, true, false, _&&_}, List.{List}, Path.{_≡_}}
+use Rattle.numbers.specs.{Answer.{if_then_else_}, Prelude.{ℕ, zero, suc, _+_, _*_, _≤_, _<_, eqb, length, getD, Bool, true, false, _&&_, List, _≡_}}
 use Rattle.builder.specs.Grouping.{Items.{Inside}, Keys.{alike}}
-use Rattle.numbers.specs.Answer.{if_then_else_}
 
 -- of the first so many numbers the last that is good, and one more; 0 if none is
 unfoldable pub lastWith : (ℕ → Bool) → ℕ → ℕ

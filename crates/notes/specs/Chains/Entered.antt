@@ -1,7 +1,5 @@
 -- What is entered in the chains of a builder: the records of its yards, and the values of these records.
-use Prim.Native.Nat.{ℕ, _*_, _/_, _%_, _≤_}
-use lib.{Dec.{eqb}}
-use mathlib.Core.{Bool.{Bool}, List.{List}, Path.{_≡_}}
+use Rattle.numbers.specs.Prelude.{ℕ, _*_, _/_, _%_, _≤_, eqb, Bool, List, _≡_}
 use Rattle.builder.specs.Grouping.{Items.{startsFrom}, Keys.{alike, hashOf}}
 use Rattle.notes.specs.Chains.Chains.{lastWith, inBucket, Chained, meets, ItemsInside}
 

@@ -1,6 +1,5 @@
 -- The records of some yards: all their fields, and where a yard's record begins.
-use Prim.Native.Nat.{ℕ}
-use mathlib.Core.List.{List}
+use Rattle.numbers.specs.Prelude.{ℕ, List}
 use Rattle.builder.specs.{Metadata.{fieldsOf, recordsOf, startOf}, Yards.{Text, Yard}}
 
 abbrev pub fieldsIn : List Yard → List Text

@@ -1,12 +1,9 @@
 -- What holds while a number is gathered on the way down: the invariant of `read_backward`'s loop, and what it gives where the loop is left.
 -- Assumes nothing.
-use mathlib.Core.{Path.{_≡_, refl, sym, ap, _∙_}, List.{List}}
-use Prim.Native.Nat.{ℕ, _+_, _-_, _*_, _%_, _^_, _≤_, _<_}
-use native.Mathlib.Omega.{arith}
-use lib.{Bits.{bitOr}, ListN.{length, getD, drop, length-drop}}
+use Rattle.numbers.proofs.{Prelude.{ℕ, _+_, _-_, _*_, _%_, _^_, _≤_, _<_, length, drop, getD, length-drop, List, _≡_, refl, sym, ap, _∙_, arith}, varint.Backward.{bottom, upward}}
+use Rattle.numbers.proofs.varint.{Bytes.{value-last, value-more, size-last, size-more, start-here, start-lower, start-none}, Gather.{gather-below}, Reading.{too-long, read-whole}}
+use lib.Bits.{bitOr}
 use Rattle.numbers.specs.{Answer.{failed, refused}, Varint.{numeral, valueOf, sizeOf, startOf, backwardAt}}
-use Rattle.numbers.proofs.varint.{Bytes.{value-last, value-more, size-last, size-more, start-here, start-lower, start-none}, Gather.{gather-below}}
-use Rattle.numbers.proofs.varint.{Reading.{too-long, read-whole}, Backward.{bottom, upward}}
 
 -- the bytes from start to place belong to the number, and value holds what they give
 pub record Descent (file : List ℕ) (place value start : ℕ) : Type 0 where
@@ -29,12 +26,9 @@ begun file place h l = record {
 
 module _ {file : List ℕ} {place value start : ℕ} (d : Descent file place value start) where
   pub further : 0 < start → 128 ≤ getD file (start - 1) 0 → Descent file place (bitOr (value * 2 ^ 7 % 2 ^ 64) (getD file (start - 1) 0 % 128)) (start - 1)
-  further pos h =
-      let inside : start - 1 < length file = omega arith in
-      let again : start - 1 + 1 ≡ start = omega arith in
+  further pos h = let inside : start - 1 < length file = omega arith in let again : start - 1 + 1 ≡ start = omega arith in
       let v : valueOf (drop (start - 1) file) ≡ getD file (start - 1) 0 % 128 + 128 * valueOf (drop start file) = rw again at (value-more file (start - 1) inside h) in
-      let s : sizeOf (drop (start - 1) file) ≡ 1 + sizeOf (drop start file) = rw again at (size-more file (start - 1) inside h) in
-      record {
+      let s : sizeOf (drop (start - 1) file) ≡ 1 + sizeOf (drop start file) = rw again at (size-more file (start - 1) inside h) in record {
         here = d .here;
         last = d .last;
         lower = omega arith;
@@ -55,8 +49,7 @@ module _ {file : List ℕ} {place value start : ℕ} (d : Descent file place val
 
     pub overlong : 9 < place - start → refused 12 ≡ backwardAt file place
     overlong long =
-        upward file place (d .here) (d .last) begins (omega arith)
-        (sym (too-long file start (omega arith) (omega (arith, d .size-is, length-drop start file))))
+        upward file place (d .here) (d .last) begins (omega arith) (sym (too-long file start (omega arith) (omega (arith, d .size-is, length-drop start file))))
 
   pub none : start ≤ 0 → failed ≡ backwardAt file place
   none h = bottom file place (d .here) (d .last) (sym (start-none file start h) ∙ d .start-is) (omega arith)

@@ -1,9 +1,5 @@
 -- The two readings of a number, plain and strict, by what the plain one finds. Assumes nothing.
-use Prim.Native.Nat.{ℕ, _≤_}
-use borrow.Author.Tests.{le-leb}
-use lib.ListN.{length}
-use mathlib.Core.{Bool.{Bool, true, false}, List.{List}, Path.{_≡_, sym, ap}}
-use Rattle.numbers.proofs.varint.Reading.{none-there}
+use Rattle.numbers.proofs.{Prelude.{ℕ, _≤_, le-leb, length, Bool, true, false, List, _≡_, sym, ap}, varint.Reading.{none-there}}
 use Rattle.numbers.specs.{Answer.{Answer, found, failed, refused}, Varint.{Numeral, numeral, forwardAt, isComplete, wholeOf, readingOf}}
 
 -- a number that was found, as the strict reading has it

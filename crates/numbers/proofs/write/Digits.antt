@@ -1,14 +1,11 @@
 -- The bytes of a number, and its bits among another's. Assumes nothing.
-use Prim.Native.Nat.{ℕ, zero, suc, _+_, _-_, _*_, _/_, _%_, _^_, _<_, _≤_}
-use native.Mathlib.{Nat.{add-mul, mul-assoc, mul-comm, pow-suc, div-add-mod', div-div-eq-div-mul, add-comm}, Numerals.{add-one}, Omega.{arith}}
-use mathlib.Core.{Path.{_≡_, refl, sym, ap, _∙_}, Bool.{Bool, true, false}, List.{List, [], _∷_}}
-use lib.{Dec.{ltb}, ListN.{length}}
-use borrow.Author.Tests.{lt-ltb, le-ltb}
+use Rattle.numbers.proofs.Prelude.{ℕ, zero, suc, _+_, _-_, _*_, _/_, _%_, _^_, _≤_, _<_, lt-ltb, le-ltb, ltb, length, Bool, true, false, List, [], _∷_, _≡_, refl, sym, ap, _∙_, mul-comm}
+use Rattle.numbers.proofs.Prelude.{mul-assoc, add-mul, pow-suc, add-one, arith}
+use native.Mathlib.Nat.{div-add-mod', div-div-eq-div-mul, add-comm}
 use Rattle.numbers.specs.{Answer.{if_then_else_}, Spelling.{digitsOf, interleaved}}
 
 pub split-weight : (j n : ℕ) → n % 128 * 128 ^ j + n / 128 * 128 ^ (j + 1) ≡ n * 128 ^ j
-split-weight j n =
-    let w = 128 ^ j in
+split-weight j n = let w = 128 ^ j in
     let e : n / 128 * 128 ^ (j + 1) ≡ n / 128 * 128 * w = rw (add-one j, pow-suc 128 j, mul-comm (128 ^ j) 128) (sym (mul-assoc (n / 128) 128 w)) in
     rw e (add-comm (n % 128 * w) (n / 128 * 128 * w) ∙ sym (add-mul (n / 128 * 128) (n % 128) w) ∙ ap (λ (x : ℕ). x * w) (div-add-mod' n 128))
 

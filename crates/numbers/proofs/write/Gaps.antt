@@ -1,11 +1,8 @@
 -- The difference of two signed numbers and its signed form. Assumes nothing.
-use Prim.Native.Nat.{ℕ, zero, suc, _+_, _-_, _*_, _^_, _<_, _≤_}
-use native.Mathlib.Omega.{arith}
-use mathlib.Core.{Path.{_≡_, refl, sym, ap, _∙_}, Bool.{Bool, true, false, cond}}
-use lib.{Dec.{T, ltb}, IntN.{ℤ, pos, negsuc, negℤ, natAbs, _+ℤ_, _-ℤ_, +ℤ-idl}, Signed.{mag, ltZ, nonNeg}}
-use mir.{Syntax.{w32, w64}, Val.{SFits, toZ, ofZ}, Facts.{toZ-ofZ, sfits-widen}}
-use borrow.Author.Tests.{ltb-true}
-use Rattle.numbers.proofs.{Spelling.{form-positive, form-negative}, Tests.{differ}}
+use Rattle.numbers.proofs.Prelude.{ℕ, zero, suc, _+_, _-_, _*_, _^_, _≤_, _<_, ltb-true, ltb, T, ℤ, pos, negsuc, _+ℤ_, _-ℤ_, negℤ, natAbs, mag, ltZ, Bool, true, false, cond, _≡_, refl, sym}
+use Rattle.numbers.proofs.{Prelude.{ap, _∙_, w32, w64, SFits, ofZ, toZ, arith}, Spelling.{form-positive, form-negative}, Tests.{differ}}
+use lib.{IntN.{+ℤ-idl}, Signed.{nonNeg}}
+use mir.Facts.{toZ-ofZ, sfits-widen}
 use Rattle.numbers.specs.Spelling.{signedForm}
 
 -- an i32 that is read as an i64
@@ -58,9 +55,7 @@ module _ (from to : ℤ) (h : SFits w32 from) (k : SFits w32 to) where
   gap = to -ℤ from
 
   gap-size : natAbs gap < 2 ^ 33
-  gap-size =
-      let x : mag from < 2 ^ 31 = h .sfits in
-      let y : mag to < 2 ^ 31 = k .sfits in
+  gap-size = let x : mag from < 2 ^ 31 = h .sfits in let y : mag to < 2 ^ 31 = k .sfits in
       omega (arith, size-sum to (negℤ from), size-neg from, size-mag to, size-mag from)
 
   gap-small : natAbs gap < 2 ^ 60
@@ -89,32 +84,28 @@ module _ (from to : ℤ) (h : SFits w32 from) (k : SFits w32 to) where
   away-small = rw away-read (omega (arith, size-neg gap, gap-size))
 
   pub away-sign : ltZ read (pos 0) ≡ true → T (nonNeg away)
-  away-sign e = rw away-read (sign gap (rw gap-read at e))
-    where
-      sign : (z : ℤ) → ltZ z (pos 0) ≡ true → T (nonNeg (negℤ z))
-      sign (pos n) e = absurd (omega (arith, ltb-true n 0 e))
-      sign (negsuc n) e = tt
+  away-sign e = rw away-read (sign gap (rw gap-read at e)) where
+    sign : (z : ℤ) → ltZ z (pos 0) ≡ true → T (nonNeg (negℤ z))
+    sign (pos n) e = absurd (omega (arith, ltb-true n 0 e))
+    sign (negsuc n) e = tt
 
   pub away-form : ltZ read (pos 0) ≡ true → natAbs away * 2 + 1 ≡ signedForm gap
-  away-form e = rw away-read (form gap (rw gap-read at e))
-    where
-      form : (z : ℤ) → ltZ z (pos 0) ≡ true → natAbs (negℤ z) * 2 + 1 ≡ signedForm z
-      form (pos n) e = absurd (omega (arith, ltb-true n 0 e))
-      form (negsuc n) e = omega (arith, form-negative n)
+  away-form e = rw away-read (form gap (rw gap-read at e)) where
+    form : (z : ℤ) → ltZ z (pos 0) ≡ true → natAbs (negℤ z) * 2 + 1 ≡ signedForm z
+    form (pos n) e = absurd (omega (arith, ltb-true n 0 e))
+    form (negsuc n) e = omega (arith, form-negative n)
 
   pub read-small : natAbs read < 2 ^ 33
   read-small = rw gap-read gap-size
 
   pub read-sign : ltZ read (pos 0) ≡ false → T (nonNeg read)
-  read-sign e = rw gap-read (sign gap (rw gap-read at e))
-    where
-      sign : (z : ℤ) → ltZ z (pos 0) ≡ false → T (nonNeg z)
-      sign (pos n) e = tt
-      sign (negsuc n) e = differ (sym e)
+  read-sign e = rw gap-read (sign gap (rw gap-read at e)) where
+    sign : (z : ℤ) → ltZ z (pos 0) ≡ false → T (nonNeg z)
+    sign (pos n) e = tt
+    sign (negsuc n) e = differ (sym e)
 
   pub read-form : ltZ read (pos 0) ≡ false → natAbs read * 2 ≡ signedForm gap
-  read-form e = rw gap-read (form gap (rw gap-read at e))
-    where
-      form : (z : ℤ) → ltZ z (pos 0) ≡ false → natAbs z * 2 ≡ signedForm z
-      form (pos n) e = omega (arith, form-positive n)
-      form (negsuc n) e = differ (sym e)
+  read-form e = rw gap-read (form gap (rw gap-read at e)) where
+    form : (z : ℤ) → ltZ z (pos 0) ≡ false → natAbs z * 2 ≡ signedForm z
+    form (pos n) e = omega (arith, form-positive n)
+    form (negsuc n) e = differ (sym e)

@@ -2,7 +2,7 @@
 // root is that of digits * 2^(place + 149), in the same units.
 ghost use mathlib.Core.{Path.{_≡_}, Bool.{true}};
 ghost use Prim.Native.Nat.{_+_, _*_, _^_, _≤_, _<_};
-ghost use lib.{Dec.{T}, Ieee.Positive.{positive}};
+ghost use lib.{Dec.{T}, Ieee.{size, Positive.{positive}}};
 ghost use Rattle.numbers.specs.Float.Root.{unitsOf, nearestRoot, root};
 use crate::float::nearest::assembled;
 use crate::float::nearest::digits;
@@ -10,57 +10,63 @@ use crate::float::nearest::power_of_two;
 
 struct Parts {
     digits: u64,
+    size: u64,
     place: u64,
 }
 
-// x as its digits times 2^place of the smallest f32. The exponent's fields 0 and 1 have the same place.
+// x as its digits, with their number, times 2^place of the smallest f32. The exponent's fields 0 and 1 have the same place.
 fn taken_apart(x: f32) -> Parts
     requires { ⌜ T (positive x) ⌝ }
     ensures whole { λ r. ⌜ r .digits * 2 ^ r .place ≡ unitsOf x ⌝ }
-    ensures small { λ r. ⌜ (0 < r .digits) × (r .digits < 16777216) × (r .place < 254) ⌝ }
+    ensures small { λ r. ⌜ (0 < r .digits) × (r .digits < 16777216) × (r .place < 254) × (r .size ≡ size (r .digits)) ⌝ }
 {
     let bits = f32::to_bits(x) as u64;
-    if bits < 16777216 {
+    if bits < 8388608 {
         return Parts {
             digits: bits,
+            size: digits(bits),
             place: 0,
         };
     }
     Parts {
         digits: bits % 8388608 + 8388608,
+        size: 24,
         place: bits / 8388608 - 1,
     }
 }
 
-// One more step of Newton's from a number that is not 0, and one more, so that it is not 0 either.
-fn nearer(n: u64, r: u64) -> u64
-    requires { ⌜ (n < 281474976710656) × (0 < r) × (r ≤ 281474976710656) ⌝ }
-    ensures { λ s. ⌜ (0 < s) × (s ≤ 281474976710656) ⌝ }
+// A guess at the root of the leading 32 digits of n, from two lines near the roots of 31 and of 32 digits.
+fn first_guess(top: u32) -> u32
+    ensures { λ r. ⌜ (16384 ≤ r) × (r < 131072) ⌝ }
 {
-    (r + n / r) / 2 + 1
+    if top < 0x8000_0000 {
+        return top / 79000 + 19500;
+    }
+    top / 111000 + 27400
 }
 
-// A guess at the whole part of √n, which is nearly always right for an n of 47 or 48 digits: from a line through the roots of both ends
-// three steps of Newton's. Whatever it gives is tried.
+// A guess at the whole number nearest to √n, which is nearly always right for an n of 47 or 48 digits: two steps of Newton's, of which the first
+// is worked out with few digits. Whatever it gives is tried.
 fn guessed_root(n: u64) -> u64
     requires { ⌜ n < 281474976710656 ⌝ }
-    ensures { λ r. ⌜ r ≤ 281474976710656 ⌝ }
+    ensures { λ r. ⌜ r < 2147483648 ⌝ }
 {
-    let line = n / 25165824 + 5830000;
-    nearer(n, nearer(n, nearer(n, line))) - 1
+    let top = (n / 65536) as u32;
+    let first = first_guess(top);
+    let near = (first + top / first) as u64 * 128;
+    (near + n / near + 1) / 2
 }
 
-// Whether r is the whole part of √n.
-fn is_root(n: u64, r: u64) -> bool
-    ensures { λ is. ⌜ (is ≡ true → (r * r ≤ n) × (n < (r + 1) * (r + 1)) × (r < 16777216)) ⌝ }
+// Whether r is the whole number nearest to √n.
+fn is_nearest(n: u64, r: u64) -> bool
+    requires { ⌜ (n < 281474976710656) × (r < 2147483648) ⌝ }
+    ensures { λ is. ⌜ (is ≡ true → (r * r < n + r) × (n ≤ r * r + r)) ⌝ }
 {
-    if 16777216 <= r {
+    let square = r * r;
+    if n + r <= square {
         return false;
     }
-    if n < r * r {
-        return false;
-    }
-    n < (r + 1) * (r + 1)
+    n <= square + r
 }
 
 // The whole part of √n, by halving the range that holds it.
@@ -81,22 +87,15 @@ fn halved_root(n: u64) -> u64
     low
 }
 
-fn whole_root(n: u64) -> u64
-    requires { ⌜ n < 281474976710656 ⌝ }
-    ensures { λ r. ⌜ (r * r ≤ n) × (n < (r + 1) * (r + 1)) × (r < 16777216) ⌝ }
-{
-    let guess = guessed_root(n);
-    if is_root(n, guess) {
-        return guess;
-    }
-    halved_root(n)
-}
-
 fn nearest_root(n: u64) -> u64
-    requires { ⌜ n < 281474976710656 ⌝ }
+    requires { ⌜ (0 < n) × (n < 281474976710656) ⌝ }
     ensures { λ r. ⌜ r ≡ nearestRoot n ⌝ }
 {
-    let low = whole_root(n);
+    let guess = guessed_root(n);
+    if is_nearest(n, guess) {
+        return guess;
+    }
+    let low = halved_root(n);
     if low * low + low < n { low + 1 } else { low }
 }
 
@@ -108,7 +107,7 @@ fn positive_root(x: f32) -> f32
     let p = taken_apart(x);
     let place = p.place;
     let significand = p.digits;
-    let half = (digits(significand) + place + 102) / 2;
+    let half = (p.size + place + 102) / 2;
     let square = significand * power_of_two(place + 149 - 2 * half);
     assembled(nearest_root(square), half)
 }

@@ -1,58 +1,49 @@
 -- The box of a yard's entry is that of its border's points. Assumes nothing.
-use Prim.Native.Nat.{ℕ, suc, _-_, _^_, _≤_, _<_}
-use borrow.Author.Tests.{ltb-true, ltb-false, leb-true, le-leb, lt-leb, eqb-true}
-use lib.{Dec.{ltb, leb, eqb}, IntN.{ℤ, pos, negsuc, natAbs}, ListN.{length}, Signed.{ltZ, leZ}}
-use mathlib.Core.{Bool.{Bool, true, false, _&&_}, List.{List, [], _∷_, zipWith}, Path.{_≡_, refl, sym, ap, _∙_}}
-use native.Mathlib.Omega.{arith}
-use Rattle.numbers.proofs.Tests.{both}
+use Rattle.numbers.proofs.Prelude.{ℕ, suc, _^_, _≤_, _<_, le-leb, leb-true, ltb-true, lt-leb, eqb-true, ltb-false, eqb, ltb, leb, ℤ, pos, negsuc, natAbs, length, ltZ, leZ, Bool, true, false, _&&_}
+use Rattle.numbers.{proofs.{Prelude.{List, [], _∷_, zipWith, _≡_, refl, sym, ap, _∙_, arith}, Tests.{both}}, specs.Answer.{if_then_else_}}
 use Rattle.border.specs.{Box.{minZ, maxZ, boxOver}, Place.{pointAt}}
 use Rattle.writer.specs.{Moves.{pointsOf}, Writer.{every, sized, near}}
-use Rattle.border.specs.Box as B
 use Rattle.builder.specs.Entries.{lesser, greater, bestBy, lowestOf, highestOf, boxOf, fromSouth}
 use Rattle.promises.specs.Built.Seats.{boundsIn}
-use Rattle.numbers.specs.Answer.{if_then_else_}
 use Rattle.table.specs.Ordered.{boundsAround}
+use Rattle.border.specs.Box as B
 
 -- ---- of two numbers
 lesser-of : (a b : ℕ) {A : Type 0} (x y : A) → (if ltb b a then y else x) ≡ (if leb a b then x else y)
-lesser-of a b {A} x y = go (ltb b a) refl
-  where
-    go : (t : Bool) → ltb b a ≡ t → (if t then y else x) ≡ (if leb a b then x else y)
-    go true e = rw (lt-leb a b (ltb-true b a e))
-    go false e = rw (le-leb a b (ltb-false b a e))
+lesser-of a b {A} x y = go (ltb b a) refl where
+  go : (t : Bool) → ltb b a ≡ t → (if t then y else x) ≡ (if leb a b then x else y)
+  go true e = rw (lt-leb a b (ltb-true b a e))
+  go false e = rw (le-leb a b (ltb-false b a e))
 
 greater-of : (a b : ℕ) {A : Type 0} (f : ℕ → A) → (if ltb a b then f b else f a) ≡ (if leb a b then f b else f a)
-greater-of a b {A} f = go (ltb a b) refl (leb a b) refl
-  where
-    go : (t : Bool) → ltb a b ≡ t → (s : Bool) → leb a b ≡ s → (if t then f b else f a) ≡ (if s then f b else f a)
-    go true e true k = refl
-    go true e false k = let z : _≡_ {A = Bool} true false = sym (le-leb a b (omega (arith, ltb-true a b e))) ∙ k in let w : _≡_ {A = ℕ} 0 1 = cc in absurd (omega arith)
-    go false e true k = ap f (omega (arith, ltb-false a b e, leb-true a b k))
-    go false e false k = refl
+greater-of a b {A} f = go (ltb a b) refl (leb a b) refl where
+  go : (t : Bool) → ltb a b ≡ t → (s : Bool) → leb a b ≡ s → (if t then f b else f a) ≡ (if s then f b else f a)
+  go true e true k = refl
+  go true e false k = let z : _≡_ {A = Bool} true false = sym (le-leb a b (omega (arith, ltb-true a b e))) ∙ k in let w : _≡_ {A = ℕ} 0 1 = cc in absurd (omega arith)
+  go false e true k = ap f (omega (arith, ltb-false a b e, leb-true a b k))
+  go false e false k = refl
 
 lesser-min : (a b : ℤ) → lesser a b ≡ minZ a b
 unfolding lesser minZ
 lesser-min (pos a) (pos b) = lesser-of a b (pos a) (pos b)
 lesser-min (pos a) (negsuc b) = refl
 lesser-min (negsuc a) (pos b) = refl
-lesser-min (negsuc a) (negsuc b) = go (ltb a b) refl
-  where
-    go : (t : Bool) → ltb a b ≡ t → (if t then negsuc b else negsuc a) ≡ (if leb b a then negsuc a else negsuc b)
-    go true e = rw (lt-leb b a (ltb-true a b e))
-    go false e = rw (le-leb b a (ltb-false a b e))
+lesser-min (negsuc a) (negsuc b) = go (ltb a b) refl where
+  go : (t : Bool) → ltb a b ≡ t → (if t then negsuc b else negsuc a) ≡ (if leb b a then negsuc a else negsuc b)
+  go true e = rw (lt-leb b a (ltb-true a b e))
+  go false e = rw (le-leb b a (ltb-false a b e))
 
 greater-max : (a b : ℤ) → greater a b ≡ maxZ a b
 unfolding greater maxZ
 greater-max (pos a) (pos b) = greater-of a b pos
 greater-max (pos a) (negsuc b) = refl
 greater-max (negsuc a) (pos b) = refl
-greater-max (negsuc a) (negsuc b) = go (ltb b a) refl (leb b a) refl
-  where
-    go : (t : Bool) → ltb b a ≡ t → (s : Bool) → leb b a ≡ s → (if t then negsuc b else negsuc a) ≡ (if s then negsuc b else negsuc a)
-    go true e true k = refl
-    go true e false k = let z : _≡_ {A = Bool} true false = sym (le-leb b a (omega (arith, ltb-true b a e))) ∙ k in let w : _≡_ {A = ℕ} 0 1 = cc in absurd (omega arith)
-    go false e true k = ap negsuc (omega (arith, ltb-false b a e, leb-true b a k))
-    go false e false k = refl
+greater-max (negsuc a) (negsuc b) = go (ltb b a) refl (leb b a) refl where
+  go : (t : Bool) → ltb b a ≡ t → (s : Bool) → leb b a ≡ s → (if t then negsuc b else negsuc a) ≡ (if s then negsuc b else negsuc a)
+  go true e true k = refl
+  go true e false k = let z : _≡_ {A = Bool} true false = sym (le-leb b a (omega (arith, ltb-true b a e))) ∙ k in let w : _≡_ {A = ℕ} 0 1 = cc in absurd (omega arith)
+  go false e true k = ap negsuc (omega (arith, ltb-false b a e, leb-true b a k))
+  go false e false k = refl
 
 -- ---- of a list
 best-alike : (f g : ℤ → ℤ → ℤ) → ((a b : ℤ) → f a b ≡ g a b) → (z : ℤ) (zs : List ℤ) → bestBy f z zs ≡ bestBy g z zs
@@ -95,15 +86,13 @@ best-near f keeps z (x ∷ zs) h k = let now = both (near x) (every near zs) k i
 pub lowest-small : (zs : List ℤ) → every near zs ≡ true → natAbs (lowestOf zs) < 2 ^ 30
 unfolding lowestOf every lesser
 lowest-small [] h = omega arith
-lowest-small (z ∷ zs) h =
-    let now = both (near z) (every near zs) h in
+lowest-small (z ∷ zs) h = let now = both (near z) (every near zs) h in
     near-small (bestBy lesser z zs) (best-near lesser (λ a b p q. chosen-near (ltZ b a) b a q p) z zs (now .0) (now .1))
 
 pub highest-small : (zs : List ℤ) → every near zs ≡ true → natAbs (highestOf zs) < 2 ^ 30
 unfolding highestOf every greater
 highest-small [] h = omega arith
-highest-small (z ∷ zs) h =
-    let now = both (near z) (every near zs) h in
+highest-small (z ∷ zs) h = let now = both (near z) (every near zs) h in
     near-small (bestBy greater z zs) (best-near greater (λ a b p q. chosen-near (ltZ a b) b a q p) z zs (now .0) (now .1))
 
 -- ---- counted from the south they keep their order

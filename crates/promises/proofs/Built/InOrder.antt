@@ -1,9 +1,5 @@
 -- The rows of a built file's table stand in order. Assumes nothing.
-use Prim.Native.Nat.{ℕ, _+_, _^_, _≤_, _<_}
-use borrow.Author.Tests.{le-ltb}
-use lib.{IntN.{ℤ, pos, natAbs}, ListN.{length, length-append}}
-use mathlib.Core.{List.{List, [], _∷_, map}, Path.{ap}}
-use native.Mathlib.{Nat.{le-refl}, Omega.{arith}}
+use Rattle.numbers.proofs.Prelude.{ℕ, _+_, _^_, _≤_, _<_, le-ltb, ℤ, pos, natAbs, length, length-append, List, [], _∷_, map, ap, le-refl, arith}
 use Rattle.builder.specs.{Borders.{Drawn}, Entries.{entryBytes, tableFrom, fromSouth}, File.{Room}, Yards.{Plan}}
 use Rattle.promises.proofs.Built.{Boxes.{south-order}, Parts.{Built}, Seating.{Sits, southOf, table-entries, all-sit, small}, TableRead.{entryIn}}
 use Rattle.layout.{proofs.{Everyone.{Every}, Orders.{sorted-rises}}, specs.Order.{Under, Rising}}
@@ -21,9 +17,7 @@ module _ (plan : Plan) (room : Room) (file : List ℕ) (b : Built plan room file
       → place + length (tableFrom r border (map entryIn es)) ≤ end → Ordered end floor (rowsOf (seatsFrom place id r border es))
   unfolding Every Rising Under seatsFrom rowsOf tableFrom
   ordered-from [] sit rises floor low under place id r border h = ends
-  ordered-from (e ∷ es) sit rises floor low under place id r border h =
-      let entry = e .entry in
-      let south = small plan room file b e (sit .0) .south in
+  ordered-from (e ∷ es) sit rises floor low under place id r border h = let entry = e .entry in let south = small plan room file b e (sit .0) .south in
       let size = length-append (entryBytes r border entry) (tableFrom (entry .record′) (entry .border) (map entryIn es)) in
       let here = place + length (entryBytes r border entry) in
       next (south-order floor (entry .bounds .south) low south (under .0)) (le-ltb end here (omega arith))
@@ -41,8 +35,7 @@ module _ (plan : Plan) (room : Room) (file : List ℕ) (b : Built plan room file
       → (floor : ℤ) × Ordered table-end floor (rowsOf (seatsFrom (tablePlace plan (b .drawn)) 0 0 0 es))
   unfolding Every Rising Under seatsFrom rowsOf
   from-first [] sit rise h = (pos 0, ends)
-  from-first (e ∷ es) sit rise h =
-      let south = e .entry .bounds .south in
+  from-first (e ∷ es) sit rise h = let south = e .entry .bounds .south in
       (south, ordered-from plan room file b table-end (e ∷ es) sit rise south (small plan room file b e (sit .0) .south) (le-refl (fromSouth south), rise .0) (tablePlace plan (b .drawn)) 0 0 0 h)
 
   -- No lower latitude is below the one before it, and no row runs past the end of the table.

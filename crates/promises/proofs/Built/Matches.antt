@@ -1,13 +1,8 @@
 -- Each match of a built file is numbered by a yard of its table, and has the yard's record. Assumes nothing.
-use Prim.Native.Nat.{ℕ, _+_, _≤_}
-use borrow.Author.Tests.{eq-eqb, ne-eqb}
-use lib.Dec.{eqb}
-use mathlib.Core.{Bool.{Bool, true, false}, List.{List, [], _∷_}, Path.{_≡_, refl, sym}}
-use native.Mathlib.Omega.{arith}
+use Rattle.numbers.{proofs.Prelude.{ℕ, _+_, _≤_, eq-eqb, ne-eqb, eqb, Bool, true, false, List, [], _∷_, _≡_, refl, sym, arith}, specs.Answer.{if_then_else_}}
 use Rattle.border.specs.declared.place.Point.{Point}
 use Rattle.layout.proofs.Everyone.{Every}
 use Rattle.promises.specs.Built.{Finds.{Alone, no-more, next, valuesAt}, Seats.{Entered, Seat, seatsFrom}}
-use Rattle.numbers.specs.Answer.{if_then_else_}
 use Rattle.table.{proofs.Merged.{Each, both, each-so, merged-each}, specs.{Merge.{merged}, Search.{kindOf, rowHit}, declared.hits.Hit.{Hit}}}
 use Rattle.table.proofs.Merged as M
 
@@ -22,11 +17,10 @@ SatOf seats hit = Sat (hit .polygon) (hit .metadata) seats
 
 pub alone-sat : {fix : Point} {seats : List Seat} {hits : List Hit} → Alone fix seats hits → Each (SatOf seats) hits
 alone-sat no-more = M.end
-alone-sat (next {s = s} {seats = seats} {hits = hits} verdict e rest) = both (own (eqb (kindOf verdict) 0)) (each-so (λ hit h. later h) (alone-sat rest))
-  where
-    own : (t : Bool) → Each (SatOf (s ∷ seats)) (if t then [] else (rowHit (s .at) (kindOf verdict) ∷ []))
-    own true = M.end
-    own false = M.next (here refl refl) M.end
+alone-sat (next {s = s} {seats = seats} {hits = hits} verdict e rest) = both (own (eqb (kindOf verdict) 0)) (each-so (λ hit h. later h) (alone-sat rest)) where
+  own : (t : Bool) → Each (SatOf (s ∷ seats)) (if t then [] else (rowHit (s .at) (kindOf verdict) ∷ []))
+  own true = M.end
+  own false = M.next (here refl refl) M.end
 
 -- a match has the number and the metadata id of a hit
 pub merged-sat : (seats : List Seat) {hits : List Hit} → Each (SatOf seats) hits → Each (SatOf seats) (merged hits)
@@ -49,7 +43,6 @@ module _ (P : Entered → Type 0) (number metadata : ℕ) where
   pub sat-means : (es : List Entered) → Every P es → (place id r b : ℕ) → Sat number metadata (seatsFrom place id r b es) → Means P (seatsFrom place id r b es) number metadata
   unfolding Every seatsFrom valuesAt
   sat-means (e ∷ es) h place id r b (here n m) = record { entered = e; so = h .0; record-is = m; values-are = rw (eq-eqb id number (sym n)) }
-  sat-means (e ∷ es) h place id r b (later s) =
-      let more = sat-means es (h .1) _ (id + 1) (e .entry .record′) (e .entry .border) s in
+  sat-means (e ∷ es) h place id r b (later s) = let more = sat-means es (h .1) _ (id + 1) (e .entry .record′) (e .entry .border) s in
       let past = at-least es _ (id + 1) (e .entry .record′) (e .entry .border) s in
       record { entered = more .entered; so = more .so; record-is = more .record-is; values-are = rw (ne-eqb id number (λ z. omega (arith, past, z))) (more .values-are) }

@@ -1,22 +1,15 @@
 -- A border of at most 65,535 points, with all coordinates below 2 ^ 30 in size, comes to a verdict about every such location, with the distance and without: nothing is refused. Assumes nothing.
-use Prim.Native.Nat.{ℕ, _+_, _-_, _*_, _%_, _^_, _≤_, _<_, min}
-use borrow.Author.Tests.{leb-true, le-leb, ltb-true}
-use lib.{Dec.{ltb, eqb, lit≤}, IntN.{ℤ, pos, negsuc, negℤ, natAbs, _+ℤ_, _-ℤ_, _*ℤ_}, ListN.{length}, Signed.{mag, leZ, ltZ}}
-use mathlib.Core.{Bool.{Bool, true, false, _&&_, _||_}, List.{List, [], _∷_, zipWith}, Path.{_≡_, refl, sym, _∙_}}
-use native.Mathlib.Omega.{arith}
-use Rattle.verdict.{proofs.{Checks.{checked-fits}, Squares.{square-test}}, specs.Distance.{squared, toSegment, toVertex, distanceOf, measured}}
-use Rattle.verdict.specs.{Edge.{sameZ, samePoint, between, inBox, quadrantOf, spotOf, edgeOf, straight, closestOn, cutOf}, Step.{Step, found, meets, _>>=_}}
-use Rattle.verdict.specs.Verdict.{Judgement, reached, Last, none, after, along, passing, closedAt, thenOn, judge}
-use Rattle.verdict.specs.Winding.{turned, quarterBy, halfTurn, turnAt, crossingOf, acrossBy, clearOf, woundBy}
-use Rattle.verdict.specs.declared.edge.{Spot.{Spot}, Edge.{Edge, the-variants.{Sloped, EqualLongitude, EqualLatitude}}}
-use Rattle.verdict.specs.declared.step.{Tally.{Tally}, Verdict.{Verdict, the-variants.{OnBorderSegment}}}
-use Rattle.numbers.proofs.Tests.{both}
-use Rattle.numbers.proofs.Tests.{differ}
+use Rattle.numbers.proofs.Prelude.{ℕ, _+_, _-_, _*_, _%_, _^_, _≤_, _<_, min, le-leb, leb-true, ltb-true, eqb, ltb, lit≤, ℤ, pos, negsuc, _+ℤ_, _-ℤ_, negℤ, natAbs, length, mag, ltZ, leZ, Bool, true}
+use Rattle.numbers.proofs.Prelude.{false, _&&_, _||_, List, [], _∷_, zipWith, _≡_, refl, sym, _∙_, arith}
+use Rattle.numbers.{proofs.{Tests.{both, differ}, write.Gaps.{size-sum, size-neg, mag-size}}, specs.{Answer.{if_then_else_}, Float.{cut64, _⊟_}}}
+use lib.IntN.{_*ℤ_}
+use Rattle.verdict.{proofs.{Checks.{checked-fits}, Squares.{square-test}}, specs.{Distance.{squared, toSegment, toVertex, distanceOf, measured}, Edge.{sameZ, samePoint, between, inBox, quadrantOf}}}
+use Rattle.verdict.specs.{Edge.{spotOf, edgeOf, straight, closestOn, cutOf}, Step.{Step, found, meets, _>>=_}, Verdict.{Judgement, reached, Last, none, after, along, passing, closedAt, thenOn}}
+use Rattle.verdict.specs.{Verdict.{judge}, Winding.{turned, quarterBy, halfTurn, turnAt, crossingOf, acrossBy, clearOf, woundBy}, declared.edge.Edge.{Edge, the-variants.{Sloped, EqualLongitude}}}
+use Rattle.verdict.specs.declared.{edge.{Edge.the-variants.{EqualLatitude}, Spot.{Spot}}, step.{Tally.{Tally}, Verdict.{Verdict, the-variants.{OnBorderSegment}}}}
 use Rattle.border.specs.{Trace.{point, closed}, Written.{pointsThen, roundTrip}, declared.place.{FixedLon.{FixedLon}, Point.{Point}}}
-use Rattle.numbers.proofs.write.Gaps.{size-sum, size-neg, mag-size}
 use Rattle.writer.specs.{Moves.{pointsOf}, Writer.{every, near}}
 use Rattle.promises.proofs.Built.NearFloats.{cut-upto, upto-cut, whole-upto, difference-upto}
-use Rattle.numbers.specs.{Answer.{if_then_else_}, Float.{cut64, _⊟_}}
 
 -- a point near the middle
 pub record Near (p : Point) : Type 0 where
@@ -36,21 +29,19 @@ in-between b (negsuc l) (negsuc n) high h k p q = omega (arith, leb-true n l h)
 
 either-way : (b : ℕ) (one n other : ℤ) → between one n other ≡ true → natAbs one < b → natAbs other < b → natAbs n < b
 unfolding between
-either-way b one n other e p q = go (leZ one n) refl (leZ n other) refl e
-  where
-    go : (s : Bool) → leZ one n ≡ s → (t : Bool) → leZ n other ≡ t → ((s && t) || (leZ other n && leZ n one)) ≡ true → natAbs n < b
-    go true s true t e = in-between b one n other s t p q
-    go true s false t e = let w = both (leZ other n) (leZ n one) e in in-between b other n one (w .0) (w .1) q p
-    go false s true t e = let w = both (leZ other n) (leZ n one) e in in-between b other n one (w .0) (w .1) q p
-    go false s false t e = let w = both (leZ other n) (leZ n one) e in in-between b other n one (w .0) (w .1) q p
+either-way b one n other e p q = go (leZ one n) refl (leZ n other) refl e where
+  go : (s : Bool) → leZ one n ≡ s → (t : Bool) → leZ n other ≡ t → ((s && t) || (leZ other n && leZ n one)) ≡ true → natAbs n < b
+  go true s true t e = in-between b one n other s t p q
+  go true s false t e = let w = both (leZ other n) (leZ n one) e in in-between b other n one (w .0) (w .1) q p
+  go false s true t e = let w = both (leZ other n) (leZ n one) e in in-between b other n one (w .0) (w .1) q p
+  go false s false t e = let w = both (leZ other n) (leZ n one) e in in-between b other n one (w .0) (w .1) q p
 
 -- ---- distances
 square-small : (z : ℤ) → natAbs z ≤ 2 ^ 31 → mag (z *ℤ z) < 2 ^ 63
-square-small z h = ltb-true (mag (z *ℤ z)) (2 ^ 63) (sym (square-test z) ∙ test z h)
-  where
-    test : (z : ℤ) → natAbs z ≤ 2 ^ 31 → (leZ (negsuc 3037000498) z && leZ z (pos 3037000499)) ≡ true
-    test (pos n) h = le-leb n 3037000499 (omega arith)
-    test (negsuc n) h = rw (le-leb n 3037000498 (omega arith))
+square-small z h = ltb-true (mag (z *ℤ z)) (2 ^ 63) (sym (square-test z) ∙ test z h) where
+  test : (z : ℤ) → natAbs z ≤ 2 ^ 31 → (leZ (negsuc 3037000498) z && leZ z (pos 3037000499)) ≡ true
+  test (pos n) h = le-leb n 3037000499 (omega arith)
+  test (negsuc n) h = rw (le-leb n 3037000498 (omega arith))
 
 -- a distance that was found
 pub data Measures : Step ℕ → Type 0 where
@@ -66,10 +57,13 @@ size-difference a b h k = omega (arith, size-sum a (negℤ b), size-neg b)
 module _ (fix : Point) (fix-near : Near fix) where
   vertex-found : (to : Point) → Near to → Measures (toVertex to fix)
   unfolding toVertex
-  vertex-found to h =
-      let lat = size-difference (to .lat .0) (fix .lat .0) (h .lat) (fix-near .lat) in
+  vertex-found to h = let lat = size-difference (to .lat .0) (fix .lat .0) (h .lat) (fix-near .lat) in
       let lon = size-difference (to .lon .0) (fix .lon .0) (h .lon) (fix-near .lon) in
-      rw (checked-fits 31 (to .lat .0 -ℤ fix .lat .0) (omega (arith, mag-size (to .lat .0 -ℤ fix .lat .0))), checked-fits 31 (to .lon .0 -ℤ fix .lon .0) (omega (arith, mag-size (to .lon .0 -ℤ fix .lon .0))))
+      rw (
+        checked-fits 31 (to .lat .0 -ℤ fix .lat .0) (omega (arith, mag-size (to .lat .0 -ℤ fix .lat .0))),
+        checked-fits 31 (to .lon .0 -ℤ fix .lon .0)
+            (omega (arith, mag-size (to .lon .0 -ℤ fix .lon .0))),
+      )
       (squared-found (to .lat .0 -ℤ fix .lat .0) (to .lon .0 -ℤ fix .lon .0) (omega arith) (omega arith))
 
   segment-found : (from to : Point) (near : Spot) → Near from → Near to → inBox to (cutOf near) from ≡ true → Measures (toSegment near (spotOf fix))
@@ -84,14 +78,13 @@ module _ (fix : Point) (fix-near : Near fix) where
 
   distance-found : (from to : Point) → Near from → Near to → Measures (distanceOf fix from to)
   unfolding distanceOf
-  distance-found from to h k = go (inBox to (cutOf near) from) refl
-    where
-      near : Spot
-      near = closestOn (edgeOf from to) (spotOf fix)
+  distance-found from to h k = go (inBox to (cutOf near) from) refl where
+    near : Spot
+    near = closestOn (edgeOf from to) (spotOf fix)
 
-      go : (t : Bool) → inBox to (cutOf near) from ≡ t → Measures (if t then toSegment near (spotOf fix) else toVertex to fix)
-      go true e = segment-found from to near h k e
-      go false e = vertex-found to k
+    go : (t : Bool) → inBox to (cutOf near) from ≡ t → Measures (if t then toSegment near (spotOf fix) else toVertex to fix)
+    go true e = segment-found from to near h k e
+    go false e = vertex-found to k
 
 -- the last point, if there is one, is near
 abbrev NearLast : Last → Type 0
@@ -111,39 +104,37 @@ goes-either false h k = k
 module _ (fix : Point) (fix-near : Near fix) (most : ℕ) (room : most + 2 < 2 ^ 31) where
   turned-goes : (by : ℤ) (t : Tally) → natAbs by ≤ 2 → natAbs (t .winding) ≤ most → Goes (most + 2) (turned by t)
   unfolding turned
-  turned-goes by t h k =
-      let sum : natAbs (t .winding +ℤ by) ≤ most + 2 = omega (arith, size-sum (t .winding) by) in
+  turned-goes by t h k = let sum : natAbs (t .winding +ℤ by) ≤ most + 2 = omega (arith, size-sum (t .winding) by) in
       rw (checked-fits 31 (t .winding +ℤ by) (omega (arith, mag-size (t .winding +ℤ by)))) (on sum)
 
   quarter-goes : (n : ℕ) (t : Tally) → natAbs (t .winding) ≤ most → Goes (most + 2) (quarterBy n t)
   unfolding quarterBy
-  quarter-goes n t h =
-      let more : natAbs (t .winding) ≤ most + 2 = omega arith in
+  quarter-goes n t h = let more : natAbs (t .winding) ≤ most + 2 = omega arith in
       goes-either (eqb n 1) (turned-goes (pos 1) t (omega arith) h) (goes-either (eqb n 3) (turned-goes (negsuc 0) t (omega arith) h) (on more))
 
   half-size : (west : Bool) (q : ℕ) → natAbs (halfTurn west q) ≤ 2
   unfolding halfTurn
-  half-size west q = go (ltb q 2) west
-    where
-      go : (t w : Bool) → natAbs (if t then (if w then negsuc 1 else pos 2) else (if w then pos 2 else negsuc 1)) ≤ 2
-      go true true = lit≤ tt
-      go true false = lit≤ tt
-      go false true = lit≤ tt
-      go false false = lit≤ tt
+  half-size west q = go (ltb q 2) west where
+    go : (t w : Bool) → natAbs (if t then (if w then negsuc 1 else pos 2) else (if w then pos 2 else negsuc 1)) ≤ 2
+    go true true = lit≤ tt
+    go true false = lit≤ tt
+    go false true = lit≤ tt
+    go false false = lit≤ tt
 
   -- a crossing turns by two, or is on the border
   turn-goes : (crossing : FixedLon) (q : ℕ) (t : Tally) → natAbs (t .winding) ≤ most → Goes (most + 2) (turnAt crossing (fix .lon) q >>= λ turn. turned turn t)
   unfolding turnAt
-  turn-goes crossing q t h =
-      let left = size-sum (fix .lon .0) (negsuc 0) in
-      let right = size-sum (fix .lon .0) (pos 1) in
-      rw (checked-fits 31 (fix .lon .0 -ℤ pos 1) (omega (arith, mag-size (fix .lon .0 -ℤ pos 1), left, fix-near .lon)), checked-fits 31 (fix .lon .0 +ℤ pos 1) (omega (arith, mag-size (fix .lon .0 +ℤ pos 1), right, fix-near .lon)))
-      (by-left (ltZ (crossing .0) (fix .lon .0 -ℤ pos 1)) (ltZ (fix .lon .0 +ℤ pos 1) (crossing .0)))
-    where
-      by-left : (l r : Bool) → Goes (most + 2) ((if l then found (halfTurn true q) else (if r then found (halfTurn false q) else meets OnBorderSegment)) >>= λ turn. turned turn t)
-      by-left true r = turned-goes (halfTurn true q) t (half-size true q) h
-      by-left false true = turned-goes (halfTurn false q) t (half-size false q) h
-      by-left false false = met
+  turn-goes crossing q t h = let left = size-sum (fix .lon .0) (negsuc 0) in let right = size-sum (fix .lon .0) (pos 1) in
+      rw (
+        checked-fits 31 (fix .lon .0 -ℤ pos 1) (omega (arith, mag-size (fix .lon .0 -ℤ pos 1), left, fix-near .lon)),
+        checked-fits 31 (fix .lon .0 +ℤ pos 1)
+            (omega (arith, mag-size (fix .lon .0 +ℤ pos 1), right, fix-near .lon)),
+      )
+      (by-left (ltZ (crossing .0) (fix .lon .0 -ℤ pos 1)) (ltZ (fix .lon .0 +ℤ pos 1) (crossing .0))) where
+        by-left : (l r : Bool) → Goes (most + 2) ((if l then found (halfTurn true q) else (if r then found (halfTurn false q) else meets OnBorderSegment)) >>= λ turn. turned turn t)
+        by-left true r = turned-goes (halfTurn true q) t (half-size true q) h
+        by-left false true = turned-goes (halfTurn false q) t (half-size false q) h
+        by-left false false = met
 
   across-goes : (edge : Edge) (q : ℕ) (t : Tally) → natAbs (t .winding) ≤ most → Goes (most + 2) (acrossBy fix edge q t)
   unfolding acrossBy
@@ -158,19 +149,16 @@ module _ (fix : Point) (fix-near : Near fix) (most : ℕ) (room : most + 2 < 2 ^
 
   wound-goes : (from to : Point) (t : Tally) → natAbs (t .winding) ≤ most → Goes (most + 2) (woundBy fix from to t)
   unfolding woundBy
-  wound-goes from to t h =
-      let q = quadrantOf fix to in
-      let n = (q + 4 - quadrantOf fix from) % 4 in
+  wound-goes from to t h = let q = quadrantOf fix to in let n = (q + 4 - quadrantOf fix from) % 4 in
       goes-either (eqb n 2) (across-goes (edgeOf from to) q t h) (clear-goes from to (quarter-goes n t h))
 
   measured-goes : (asked : Bool) (from to : Point) → Near from → Near to → {step : Step Tally} → Goes (most + 2) step → Goes (most + 2) (step >>= measured asked fix from to)
   unfolding measured
   measured-goes asked from to h k met = met
   measured-goes false from to h k (on w) = on w
-  measured-goes true from to h k (on {t = t} w) = go (distance-found fix fix-near from to h k)
-    where
-      go : {d : Step ℕ} → Measures d → Goes (most + 2) (d >>= λ new. found (record { winding = t .winding; least = min new (t .least) }))
-      go is = on w
+  measured-goes true from to h k (on {t = t} w) = go (distance-found fix fix-near from to h k) where
+    go : {d : Step ℕ} → Measures d → Goes (most + 2) (d >>= λ new. found (record { winding = t .winding; least = min new (t .least) }))
+    go is = on w
 
   passing-goes : (asked : Bool) (last : Last) → NearLast last → (to : Point) → Near to → (t : Tally) → natAbs (t .winding) ≤ most → Goes (most + 2) (passing fix asked last to t)
   unfolding passing along
@@ -190,13 +178,14 @@ module _ (fix : Point) (fix-near : Near fix) (asked : Bool) where
   unfolding closedAt
   closed-comes t = comes-either (sameZ (t .winding) (negsuc 3)) verdict (comes-either (sameZ (t .winding) (pos 4)) verdict (comes-either (sameZ (t .winding) (pos 0)) verdict verdict))
 
-  then-comes : {most : ℕ} {step : Step Tally} (least : ℕ) (rest : Tally → Judgement) → Goes most step → ((t : Tally) → natAbs (t .winding) ≤ most → ComesTo (rest t)) → ComesTo (thenOn asked least step rest)
+  then-comes : {most : ℕ} {step : Step Tally} (least : ℕ) (rest : Tally → Judgement) → Goes most step → ((t : Tally) → natAbs (t .winding) ≤ most → ComesTo (rest t))
+      → ComesTo (thenOn asked least step rest)
   unfolding thenOn
   then-comes least rest (on {t = t} h) k = k t h
   then-comes least rest met k = verdict
 
-  through-comes : (ps : List Point) → AllNear ps → (first : Point) → Near first → (most : ℕ) → most + 2 * length ps + 2 < 2 ^ 31 → (last : Last) → NearLast last → (t : Tally) → natAbs (t .winding) ≤ most
-      → ComesTo (judge fix asked last t (pointsThen ps (point first closed)))
+  through-comes : (ps : List Point) → AllNear ps → (first : Point) → Near first → (most : ℕ) → most + 2 * length ps + 2 < 2 ^ 31 → (last : Last) → NearLast last
+      → (t : Tally) → natAbs (t .winding) ≤ most → ComesTo (judge fix asked last t (pointsThen ps (point first closed)))
   unfolding pointsThen judge AllNear
   through-comes [] all first h most room last l t w = then-comes (t .least) _ (passing-goes fix fix-near most (omega arith) asked last l first h t w) (λ t′ w′. closed-comes t′)
   through-comes (p ∷ ps) all first h most room last l t w =
@@ -212,7 +201,5 @@ pub all-near : (lats lons : List ℤ) → every near lats ≡ true → every nea
 unfolding pointsOf zipWith every near AllNear
 all-near [] lons h k = tt
 all-near (y ∷ lats) [] h k = tt
-all-near (y ∷ lats) (x ∷ lons) h k =
-    let p = both (near y) (every near lats) h in
-    let q = both (near x) (every near lons) k in
+all-near (y ∷ lats) (x ∷ lons) h k = let p = both (near y) (every near lats) h in let q = both (near x) (every near lons) k in
     (record { lat = omega (arith, leb-true (natAbs y) 1073741823 (p .0)); lon = omega (arith, leb-true (natAbs x) 1073741823 (q .0)) }, all-near lats lons (p .1) (q .1))

@@ -1,12 +1,10 @@
 -- Differences of floats up to 2 ^ 30 in size are at most 2 ^ 31. Assumes nothing.
-use Prim.Native.Nat.{ℕ, zero, suc, _+_, _-_, _*_, _/_, _^_, _≤_, _<_, min}
-use lib.Dec.{T, ltb, eqb, ltb→lt, eqb→eq, lit<}
-use lib.Ieee.{Float, nan, inf, fin, binary32, prec, emax, low, up, down, odd, units, round, neg, sum, add, sub, lt, eq, le, ofInt, toSigned, Fits.{down-pos, round-is}}
-use lib.{Ieee.{Nearest.{div-mono}, Order.{round-mono}}, IntN.{ℤ, pos, negsuc, negℤ, natAbs}}
-use mathlib.Core.{Bool.{Bool, true, false, cond, _&&_, _||_, Bool·beq}, Path.{_≡_, refl, sym, subst}}
-use native.Mathlib.{Nat.{div-one, mul-one, one-mul, mul-pos, mul-assoc, mul-comm, mul-le-mul-right, div-lt-iff-lt-mul, le-of-lt}, Omega.{arith}}
-use Rattle.numbers.proofs.write.Gaps.{size-neg}
-use Rattle.numbers.{proofs.float.Rounding.{round-neg}, specs.Float.{toF32, cut32, _⊟_}}
+use Rattle.numbers.proofs.Prelude.{ℕ, zero, suc, _+_, _-_, _*_, _/_, _^_, _≤_, _<_, min, eqb, ltb, T, lit<, Float, binary32, fin, nan, inf, ofInt, toSigned, add, sub, neg, ℤ, pos, negsuc, negℤ}
+use Rattle.numbers.proofs.Prelude.{natAbs, Bool, true, false, _&&_, _||_, cond, _≡_, refl, sym, subst, le-of-lt, mul-comm, mul-assoc, mul-one, one-mul, mul-pos, mul-le-mul-right, div-lt-iff-lt-mul}
+use Rattle.numbers.{proofs.{Prelude.{arith}, float.Rounding.{round-neg}, write.Gaps.{size-neg}}, specs.Float.{toF32, cut32, _⊟_}}
+use lib.{Dec.{ltb→lt, eqb→eq}, Ieee.{prec, emax, low, up, down, odd, units, round, sum, lt, eq, le, Fits.{down-pos, round-is}, Nearest.{div-mono}, Order.{round-mono}}}
+use mathlib.Core.Bool.{Bool·beq}
+use native.Mathlib.Nat.{div-one}
 
 -- a float is no number, or finite and at most so great in size
 abbrev pub Upto : ℕ → Float → Type 0
@@ -59,30 +57,27 @@ odd-plus d (suc q) k l = finite
 
 units-plus : (q k : ℕ) → Plus (units binary32 false q k)
 unfolding units
-units-plus q k = go (ltb (q * 2 ^ k) (2 ^ (low binary32 + suc (emax binary32))))
-  where
-    go : (t : Bool) → Plus (cond t (odd (suc (prec binary32)) false q k (low binary32)) (inf false))
-    go true = odd-plus (suc (prec binary32)) q k (low binary32)
-    go false = infinite
+units-plus q k = go (ltb (q * 2 ^ k) (2 ^ (low binary32 + suc (emax binary32)))) where
+  go : (t : Bool) → Plus (cond t (odd (suc (prec binary32)) false q k (low binary32)) (inf false))
+  go true = odd-plus (suc (prec binary32)) q k (low binary32)
+  go false = infinite
 
 round-plus : (a c : ℕ) → Plus (round binary32 false a c)
 round-plus a c = subst Plus (sym (round-is binary32 false a c)) (units-plus _ _)
 
 or-le : (a b : ℕ) → T (ltb a b || (eqb a b && true)) → a ≤ b
-or-le a b = go (ltb a b) refl (eqb a b) refl
-  where
-    go : (s : Bool) → ltb a b ≡ s → (t : Bool) → eqb a b ≡ t → T (s || (t && true)) → a ≤ b
-    go true p t q h = le-of-lt (ltb→lt a b (subst T (sym p) tt))
-    go false p true q h = let e = eqb→eq a b (subst T (sym q) tt) in omega arith
-    go false p false q h = absurd h
+or-le a b = go (ltb a b) refl (eqb a b) refl where
+  go : (s : Bool) → ltb a b ≡ s → (t : Bool) → eqb a b ≡ t → T (s || (t && true)) → a ≤ b
+  go true p t q h = le-of-lt (ltb→lt a b (subst T (sym p) tt))
+  go false p true q h = let e = eqb→eq a b (subst T (sym q) tt) in omega arith
+  go false p false q h = absurd h
 
 at-most : (b : ℕ) (k : ℕ) → b ≡ 2 ^ k → {x : Float} → Plus x → T (le x (fin false 1 (pos k))) → Upto b x
 unfolding le lt eq
 at-most b k same infinite h = h
-at-most b k same (finite {m = m} {e = e}) h = rw same (or-le (m * up e) (2 ^ k * down e) (plain h))
-  where
-    plain : T (ltb (m * up e * 1) (1 * 2 ^ k * down e) || (eqb (m * up e * 1) (1 * 2 ^ k * down e) && true)) → T (ltb (m * up e) (2 ^ k * down e) || (eqb (m * up e) (2 ^ k * down e) && true))
-    plain h = simp (mul-one, one-mul) at h
+at-most b k same (finite {m = m} {e = e}) h = rw same (or-le (m * up e) (2 ^ k * down e) (plain h)) where
+  plain : T (ltb (m * up e * 1) (1 * 2 ^ k * down e) || (eqb (m * up e * 1) (1 * 2 ^ k * down e) && true)) → T (ltb (m * up e) (2 ^ k * down e) || (eqb (m * up e) (2 ^ k * down e) && true))
+  plain h = simp (mul-one, one-mul) at h
 
 thirty : round binary32 false (2 ^ 30) 1 ≡ fin false 1 (pos 30)
 unfolding round
@@ -114,16 +109,16 @@ sum-upto : (s : Bool) (a : ℕ) (t : Bool) (b c : ℕ) → 0 < c → a ≤ 2 ^ 3
 unfolding sum
 sum-upto s a t b c some h k =
     choose (2 ^ 31) (Bool·beq s t) (round binary32 s (a + b) c) _ (round-upto 31 thirty-one (a + b) c some (omega arith) s)
-    (choose (2 ^ 31) (ltb a b) (round binary32 t (b - a) c) (round binary32 (s && ltb b a) (a - b) c) (round-upto 31 thirty-one (b - a) c some (omega arith) t) (round-upto 31 thirty-one (a - b) c some (omega arith) (s && ltb b a)))
+    (choose (2 ^ 31) (ltb a b) (round binary32 t (b - a) c) (round binary32 (s && ltb b a) (a - b) c) (round-upto 31 thirty-one (b - a) c some (omega arith) t)
+    (round-upto 31 thirty-one (a - b) c some (omega arith) (s && ltb b a)))
 
 add-upto : (x y : Float) → Upto (2 ^ 30) x → Upto (2 ^ 30) y → Upto (2 ^ 31) (add binary32 x y)
 unfolding add
 add-upto nan y h k = tt
 add-upto (fin s m e) nan h k = tt
 add-upto (fin s m e) (fin t n d) h k =
-    sum-upto s (m * up e * down d) t (n * up d * down e) (down e * down d) (mul-pos (down-pos e) (down-pos d))
-    (rw (← mul-assoc (2 ^ 30) (down e) (down d)) (mul-le-mul-right (down d) h))
-    (rw (mul-comm (down e) (down d), ← mul-assoc (2 ^ 30) (down d) (down e)) (mul-le-mul-right (down e) k))
+    sum-upto s (m * up e * down d) t (n * up d * down e) (down e * down d) (mul-pos (down-pos e) (down-pos d)) (rw (← mul-assoc (2 ^ 30) (down e) (down d))
+    (mul-le-mul-right (down d) h)) (rw (mul-comm (down e) (down d), ← mul-assoc (2 ^ 30) (down d) (down e)) (mul-le-mul-right (down e) k))
 
 pub difference-upto : (x y : Float) → Upto (2 ^ 30) x → Upto (2 ^ 30) y → Upto (2 ^ 31) (x ⊟ y)
 unfolding sub

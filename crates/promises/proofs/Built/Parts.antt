@@ -1,20 +1,9 @@
 -- What an answered build is made of: the file's parts, one after the other, and where each begins. Assumes nothing.
-use Prim.Native.Nat.{ℕ, _+_, _^_, _≤_, min}
-use borrow.Author.Tests.{leb-true}
-use lib.{Dec.{leb}, ListN.{length, length-append}}
-use mathlib.Core.{Bool.{true, _&&_}, List.{List, [], _++_, append-nil, append-assoc}, Path.{_≡_, refl, sym, ap, _∙_}}
-use native.Mathlib.Omega.{arith}
-use Rattle.border.proofs.AtPlace.{at-behind, at-place}
-use Rattle.border.proofs.OnWay.{At, at-first, at-next}
-use Rattle.numbers.proofs.Tests.{both}
+use Rattle.numbers.proofs.Prelude.{ℕ, _+_, _^_, _≤_, min, leb-true, leb, length, length-append, true, _&&_, List, [], _++_, append-assoc, append-nil, _≡_, sym, ap, _∙_, arith}
+use Rattle.numbers.{proofs.{Replies.{given-from, demanded, looked}, Tests.{both}}, specs.{Reply.{given, plain}, Spelling.{varintOf}}}
+use Rattle.border.proofs.{AtPlace.{at-behind, at-place}, OnWay.{At, at-first, at-next}}
 use Rattle.builder.specs.{Borders.{Drawn, drawnOf}, File.{Room, upTo, bordersGood, counted, readable, known, headOf, assembled, fileOf, builtOf}, Yards.{Plan}}
 use Rattle.promises.specs.Built.Seats.{tableIn, metadataIn, tablePlace}
-use Rattle.numbers.{proofs.Replies.{given-from, demanded}, specs.{Reply.{Reply, given, refused, plain, _>>_}, Spelling.{varintOf}}}
-
--- what is only looked at was given
-pub looked-at : {B : Type 0} {b : B} (r : Reply (Unit {0})) (next : Reply B) → given b ≡ (r >> next) → (r ≡ given tt) × (given b ≡ next)
-looked-at (given tt) next e = (refl, e)
-looked-at (refused why) next e = let z : _≡_ {A = ℕ} 0 1 = cc in absurd (omega arith)
 
 pub record Built (plan : Plan) (room : Room) (file : List ℕ) : Type 0 where
   pub drawn : Drawn
@@ -28,17 +17,12 @@ pub record Built (plan : Plan) (room : Room) (file : List ℕ) : Type 0 where
 
 pub built-from : (plan : Plan) (room : Room) (file : List ℕ) → builtOf plan room ≡ given file → Built plan room file
 unfolding builtOf
-built-from plan room file e =
-    let first = looked-at (bordersGood (plan .yards)) _ (sym e) in
-    let second = demanded (counted plan) (plain 25) (first .1) in
-    let third = demanded (readable plan) (plain 26) (second .1) in
-    let fourth = demanded (known plan) (plain 27) (third .1) in
-    let fifth = given-from (drawnOf (plan .version) (upTo (min (room .file) (room .bytes))) (plan .yards)) _ (fourth .1) in
-    let drawn = fifth .it in
+built-from plan room file e = let first = looked (bordersGood (plan .yards)) _ (sym e) in let second = demanded (counted plan) (plain 25) (first .1) in
+    let third = demanded (readable plan) (plain 26) (second .1) in let fourth = demanded (known plan) (plain 27) (third .1) in
+    let fifth = given-from (drawnOf (plan .version) (upTo (min (room .file) (room .bytes))) (plan .yards)) _ (fourth .1) in let drawn = fifth .it in
     let sixth = demanded (room .work && leb (length (fileOf plan drawn)) (upTo (room .file))) (plain 28) (fifth .onto) in
     let same : file ≡ fileOf plan drawn = cc in
-    let fits : length (fileOf plan drawn) ≤ upTo (room .file) = leb-true _ _ (both (room .work) (leb (length (fileOf plan drawn)) (upTo (room .file))) (sixth .0) .1) in
-    record {
+    let fits : length (fileOf plan drawn) ≤ upTo (room .file) = leb-true _ _ (both (room .work) (leb (length (fileOf plan drawn)) (upTo (room .file))) (sixth .0) .1) in record {
       drawn = drawn;
       good = first .0;
       counts = second .0;
@@ -67,18 +51,25 @@ module _ (plan : Plan) (drawn : Drawn) (file : List ℕ) (is : file ≡ fileOf p
   sizes-length : length (headOf plan) + length sizes ≡ tablePlace plan drawn
   unfolding tablePlace
   sizes-length =
-      omega (arith, length-append (varintOf (length (tableIn plan drawn))) (varintOf (length (metadataIn plan)) ++ varintOf (length (drawn .bytes))), length-append (varintOf (length (metadataIn plan))) (varintOf (length (drawn .bytes))))
+      omega (
+        arith,
+        length-append (varintOf (length (tableIn plan drawn))) (varintOf (length (metadataIn plan)) ++ varintOf (length (drawn .bytes))),
+        length-append
+            (varintOf (length (metadataIn plan))) (varintOf (length (drawn .bytes))),
+      )
 
   at-sections : At file (tablePlace plan drawn) sections
   at-sections =
-      at-place (length-append (headOf plan) sizes ∙ sizes-length) (at-behind (headOf plan ++ sizes) sections [] (in-parts ∙ (sym (append-assoc (headOf plan) sizes sections) ∙ ap (λ (s : List ℕ). (headOf plan ++ sizes) ++ s) (sym (append-nil sections)))))
+      at-place (length-append (headOf plan) sizes ∙ sizes-length) (at-behind (headOf plan ++ sizes) sections [] (in-parts ∙ (sym (append-assoc (headOf plan) sizes sections)
+      ∙ ap (λ (s : List ℕ). (headOf plan ++ sizes) ++ s) (sym (append-nil sections)))))
 
   pub at-table : At file (tablePlace plan drawn) (tableIn plan drawn)
   at-table = at-first file (tablePlace plan drawn) (tableIn plan drawn) (metadataIn plan ++ drawn .bytes) at-sections
 
   pub at-metadata : At file (tablePlace plan drawn + length (tableIn plan drawn)) (metadataIn plan)
   at-metadata =
-      at-first file (tablePlace plan drawn + length (tableIn plan drawn)) (metadataIn plan) (drawn .bytes) (at-next file (tablePlace plan drawn) (tableIn plan drawn) (metadataIn plan ++ drawn .bytes) at-sections)
+      at-first file (tablePlace plan drawn + length (tableIn plan drawn)) (metadataIn plan) (drawn .bytes) (at-next file (tablePlace plan drawn)
+      (tableIn plan drawn) (metadataIn plan ++ drawn .bytes) at-sections)
 
   -- all that stands before the data, and its length
   abbrev pub front : List ℕ

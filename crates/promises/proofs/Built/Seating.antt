@@ -1,17 +1,12 @@
 -- The rows of a built file's table are those of the sorted yards, each with its box, its record and its border; and they stand in order. Assumes nothing.
-use Prim.Native.Nat.{ℕ, suc, _+_, _-_, _^_, _≤_}
-use borrow.Author.Tests.{leb-true}
-use lib.{Dec.{leb, ltb}, ListN.{length, length-append}}
-use mathlib.Core.{Bool.{Bool, true}, List.{List, [], _∷_, _++_, map, flatMap, zipWith, append-assoc}, Path.{_≡_, refl, sym, ap, _∙_}}
-use native.Mathlib.Omega.{arith}
-use Rattle.numbers.proofs.Tests.{both}
+use Rattle.numbers.proofs.Prelude.{ℕ, suc, _+_, _^_, _≤_, leb-true, ltb, leb, length, length-append, Bool, true, List, [], _∷_, _++_, map, append-assoc, flatMap, zipWith, _≡_, refl, sym, ap, _∙_}
+use Rattle.numbers.proofs.{Prelude.{arith}, Tests.{both}}
 use Rattle.writer.specs.Writer.{every}
 use Rattle.builder.specs.{Borders.{Drawn, drawnOf}, Entries.{Entry, tableFrom, fromSouth, tableOf}, File.{Room, isText, readable, counted, entryOf}}
 use Rattle.builder.specs.{Metadata.{inlined, recordsOf, fieldsOf, remotes, written, layoutOf, startOf, metadataOf}, Sharing.{sameTexts, isIn}, Yards.{Text, Yard, Plan}}
-use Rattle.promises.proofs.Built.{Boxes.{lowest-small, highest-small}, Drawn.{Lies, AllLie, none, one, all-lie, accepted-checked}, Fields.{fields-flat}}
-use Rattle.promises.proofs.Built.{Parts.{Built, at-table, file-length}, Shared.{stood, firsts-in, map-in, records-decided}}
+use Rattle.promises.proofs.Built.{Boxes.{lowest-small, highest-small}, Drawn.{Lies, AllLie, none, one, all-lie, accepted-checked}, Fields.{fields-flat}, Parts.{Built, at-table, file-length}}
+use Rattle.promises.proofs.Built.{Shared.{stood, firsts-in, map-in, records-decided}, TableRead.{Small, AllSmall, entryIn, rows-read}}
 use Rattle.border.proofs.AtPlace.{at-as}
-use Rattle.promises.proofs.Built.TableRead.{Small, AllSmall, entryIn, rows-read}
 use Rattle.layout.{proofs.{Everyone.{Every, every-sorted}, Orders.{sorted-map, sorted-size}}, specs.Order.{sortedBy}}
 use Rattle.promises.specs.Built.Seats.{Entered, enteredOf, tableIn, metadataIn, tablePlace, headIn, seatsOf, rowsOf}
 use Rattle.table.specs.Rows.{rowsIn}
@@ -28,8 +23,8 @@ abbrev pub enteredAt : Plan → Yard → ℕ → Entered
 enteredAt plan yard place = record { yard = yard; entry = entryOf (plan .yards) yard place }
 
 module _ (plan : Plan) (drawn : Drawn) where
-  sit-from : (before yards : List Yard) (places : List ℕ) → plan .yards ≡ before ++ yards → every (λ (y : Yard). every isText (y .values)) yards ≡ true → AllLie (plan .version) (drawn .bytes) yards places
-      → Every (Sits plan drawn) (zipWith (enteredAt plan) yards places)
+  sit-from : (before yards : List Yard) (places : List ℕ) → plan .yards ≡ before ++ yards → every (λ (y : Yard). every isText (y .values)) yards ≡ true
+      → AllLie (plan .version) (drawn .bytes) yards places → Every (Sits plan drawn) (zipWith (enteredAt plan) yards places)
   unfolding zipWith Every every
   sit-from before [] [] is good none = tt
   sit-from before (yard ∷ yards) (place ∷ places) is good (one lies later) =
@@ -62,15 +57,21 @@ module _ (plan : Plan) (drawn : Drawn) where
   pub table-entries : tableIn plan drawn ≡ tableFrom 0 0 (map entryIn (enteredOf plan drawn))
   unfolding tableIn tableOf enteredOf
   table-entries =
-      ap (tableFrom 0 0) (sym (sorted-map southOf (λ (e : Entry). fromSouth (e .bounds .south)) entryIn (λ e. refl) (zipWith (enteredAt plan) (plan .yards) (drawn .places)) ∙ ap (sortedBy (λ (e : Entry). fromSouth (e .bounds .south))) (entries-in (plan .yards) (drawn .places))))
+      ap (tableFrom 0 0) (sym (sorted-map southOf (λ (e : Entry). fromSouth (e .bounds .south)) entryIn (λ e. refl) (zipWith (enteredAt plan) (plan .yards) (drawn .places))
+      ∙ ap (sortedBy (λ (e : Entry). fromSouth (e .bounds .south))) (entries-in (plan .yards) (drawn .places))))
 
 -- ---- where a record begins
 pub start-within : (records : List (List Text)) (values : List Text) → isIn sameTexts values records ≡ true → startOf records values ≤ length (metadataOf records)
 unfolding startOf metadataOf
-start-within records values known =
-    let f = written (fieldsOf records) (layoutOf (fieldsOf records)) in
+start-within records values known = let f = written (fieldsOf records) (layoutOf (fieldsOf records)) in
     let s = stood sameTexts records-decided (flatMap f) values records known in
-    omega (arith, s .size, ap length (fields-flat f records ∙ s .is) ∙ length-append (s .before) (flatMap f values ++ s .behind), length-append (flatMap f (fieldsOf records)) (flatMap inlined (remotes (fieldsOf records))))
+    omega (
+      arith,
+      s .size,
+      ap length (fields-flat f records ∙ s .is) ∙ length-append (s .before) (flatMap f values ++ s .behind),
+      length-append (flatMap f (fieldsOf records))
+          (flatMap inlined (remotes (fieldsOf records))),
+    )
 
 -- ---- in a built file
 module _ (plan : Plan) (room : Room) (file : List ℕ) (b : Built plan room file) where
@@ -83,10 +84,7 @@ module _ (plan : Plan) (room : Room) (file : List ℕ) (b : Built plan room file
 
   pub all-sit : Every (Sits plan drawn) (enteredOf plan drawn)
   unfolding enteredOf readable
-  all-sit =
-      let first = both (plan .whole) _ (b .texts) in
-      let second = both (every isText (plan .names)) _ (first .1) in
-      let third = both (isText (plan .notice)) _ (second .1) in
+  all-sit = let third = both (isText (plan .notice)) _ (both (every isText (plan .names)) _ (both (plan .whole) _ (b .texts) .1) .1) in
       every-sorted (southOf plan drawn) (Sits plan drawn) (zipWith (enteredAt plan) (plan .yards) (drawn .places)) (sit-from plan drawn [] (plan .yards) (drawn .places) refl (third .1) lie)
 
   how-many : length (enteredOf plan drawn) ≡ length (plan .yards)
@@ -98,8 +96,7 @@ module _ (plan : Plan) (room : Room) (file : List ℕ) (b : Built plan room file
   unfolding metadataIn
   small e s =
       let good = accepted-checked (plan .version) (e .yard .lats) (e .yard .lons) (e .yard .pieces) (s .lies .earlier) (s .lies .bytes) (s .lies .accepted) in
-      let size = file-length plan drawn file (b .is) in
-      let fit : length (metadataIn plan) ≤ 2 ^ 30 = omega (arith, size, b .small) in
+      let size = file-length plan drawn file (b .is) in let fit : length (metadataIn plan) ≤ 2 ^ 30 = omega (arith, size, b .small) in
       let data-fit : length (drawn .bytes) ≤ 2 ^ 30 = omega (arith, size, b .small) in
       rw (s .is) (record {
         south = omega (arith, lowest-small (e .yard .lats) (good .near-lats));
@@ -117,14 +114,13 @@ module _ (plan : Plan) (room : Room) (file : List ℕ) (b : Built plan room file
 
   few : length (enteredOf plan drawn) ≤ 4096
   unfolding counted
-  few =
-      let first = both (ltb 0 (length (plan .yards))) _ (b .counts) in
-      let second = both (leb (length (plan .yards)) 4096) _ (first .1) in
+  few = let first = both (ltb 0 (length (plan .yards))) _ (b .counts) in let second = both (leb (length (plan .yards)) 4096) _ (first .1) in
       omega (arith, how-many, leb-true (length (plan .yards)) 4096 (second .0))
 
   -- The rows of the table are the sorted yards' entries, each read back.
   pub rows-are : (strict : Bool) → rowsIn file (headIn strict plan drawn) ≡ rowsOf (seatsOf plan drawn)
   unfolding rowsIn headIn seatsOf
   rows-are strict =
-      rows-read strict file (tablePlace plan drawn + length (tableIn plan drawn)) (enteredOf plan drawn) (all-small (enteredOf plan drawn) all-sit) (tablePlace plan drawn) 0 0 0 (omega arith) (omega arith) (omega (arith, few))
+      rows-read strict file (tablePlace plan drawn + length (tableIn plan drawn)) (enteredOf plan drawn) (all-small (enteredOf plan drawn) all-sit)
+      (tablePlace plan drawn) 0 0 0 (omega arith) (omega arith) (omega (arith, few))
       (at-as (table-entries plan drawn) (at-table plan drawn file (b .is))) (ap (λ (l : List ℕ). tablePlace plan drawn + length l) (sym (table-entries plan drawn)))

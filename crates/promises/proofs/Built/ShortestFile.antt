@@ -1,16 +1,11 @@
 -- Of the layouts that fit, the definition's gives the shortest file: any other gives a longer one. Assumes nothing.
-use Prim.Native.Nat.{ℕ, _+_, _-_, _%_, _^_, _≤_, _<_}
-use borrow.Author.Tests.{leb-true, leb-false, eqb-true}
-use lib.{Dec.{leb}, IntN.{pos, _-ℤ_}, ListN.{length, length-append}}
-use mathlib.Core.{Bool.{Bool, true, false}, List.{List, [], _∷_, _++_, map, flatMap, zipWith}, Path.{_≡_, refl, sym, ap, _∙_}}
-use native.Mathlib.{Nat.{le-refl}, Omega.{arith}}
-use Rattle.builder.proofs.{Shortest.{records-size, layout-least, shortest-section}, Steps.{step-down, step-up}}
-use Rattle.builder.specs.{Borders.{Drawn}, Entries.{Entry, boxOf, lowestOf, boxBytes, entryBytes, tableFrom, fromSouth, tableOf}, File.{headOf, assembled, fileOf}}
-use Rattle.builder.specs.Metadata.{inlined, recordsOf, fieldsOf, isRemote, remotes, offsetOf, written, fits, layoutOf, startOf, metadataOf}
-use Rattle.builder.specs.{Sharing.{sameTexts, sizeBefore}, Yards.{Text, Yard, Plan}}
+use Rattle.numbers.proofs.Prelude.{ℕ, _+_, _-_, _%_, _^_, _≤_, _<_, leb-true, eqb-true, leb-false, leb, pos, _-ℤ_, length, length-append, Bool, true, false, List, [], _∷_, _++_, map, flatMap}
+use Rattle.numbers.{proofs.Prelude.{zipWith, _≡_, refl, sym, ap, _∙_, le-refl, arith}, specs.{Answer.{if_then_else_}, Spelling.{varintOf, signedForm}}}
+use Rattle.builder.{proofs.{Shortest.{records-size, layout-least, shortest-section}, Steps.{step-down, step-up}}, specs.{Borders.{Drawn}, Entries.{Entry, boxOf, lowestOf, boxBytes, entryBytes}}}
+use Rattle.builder.specs.{Entries.{tableFrom, fromSouth, tableOf}, File.{headOf, assembled, fileOf}, Metadata.{inlined, recordsOf, fieldsOf, isRemote, remotes, offsetOf, written, fits, layoutOf}}
+use Rattle.builder.specs.{Metadata.{startOf, metadataOf}, Sharing.{sameTexts, sizeBefore}, Yards.{Text, Yard, Plan}}
 use Rattle.promises.specs.Built.Laid.{startFor, metadataFor, entryFor, fileFor}
-use Rattle.layout.{proofs.{Orders.{sorted-map}, Sizes.{size-rises}}, specs.{inner.Layout.{Fits}, Order.{sortedBy}}}
-use Rattle.numbers.specs.{Answer.{if_then_else_}, Spelling.{varintOf, signedForm}}
+use Rattle.layout.{proofs.{Orders.{sorted-map}, Sizes.{size-rises}}, specs.{Order.{sortedBy}, inner.Layout.{Fits}}}
 
 -- ---- two places of one layout and the same two of another: in the same order, and no nearer to each other
 pub data Apart (a a′ b b′ : ℕ) : Type 0 where
@@ -19,38 +14,35 @@ pub data Apart (a a′ b b′ : ℕ) : Type 0 where
 
 form-rises : (a a′ b b′ : ℕ) → Apart a a′ b b′ → signedForm (pos b -ℤ pos a) ≤ signedForm (pos b′ -ℤ pos a′)
 form-rises a a′ b b′ (up h k l) = rw (← step-up a b h, ← step-up a′ b′ k) (omega arith)
-form-rises a a′ b b′ (down h k l) = go (leb a b) refl (leb a′ b′) refl
-  where
-    go : (s : Bool) → leb a b ≡ s → (t : Bool) → leb a′ b′ ≡ t → signedForm (pos b -ℤ pos a) ≤ signedForm (pos b′ -ℤ pos a′)
-    go true s true t = rw (← step-up a b (leb-true a b s), ← step-up a′ b′ (leb-true a′ b′ t)) (omega (arith, leb-true a b s, leb-true a′ b′ t))
-    go true s false t = rw (← step-up a b (leb-true a b s), ← step-down a′ b′ (leb-false a′ b′ t)) (omega (arith, leb-true a b s, leb-false a′ b′ t))
-    go false s true t = absurd (omega (arith, leb-false a b s, leb-true a′ b′ t))
-    go false s false t = rw (← step-down a b (leb-false a b s), ← step-down a′ b′ (leb-false a′ b′ t)) (omega (arith, leb-false a b s, leb-false a′ b′ t))
+form-rises a a′ b b′ (down h k l) = go (leb a b) refl (leb a′ b′) refl where
+  go : (s : Bool) → leb a b ≡ s → (t : Bool) → leb a′ b′ ≡ t → signedForm (pos b -ℤ pos a) ≤ signedForm (pos b′ -ℤ pos a′)
+  go true s true t = rw (← step-up a b (leb-true a b s), ← step-up a′ b′ (leb-true a′ b′ t)) (omega (arith, leb-true a b s, leb-true a′ b′ t))
+  go true s false t = rw (← step-up a b (leb-true a b s), ← step-down a′ b′ (leb-false a′ b′ t)) (omega (arith, leb-true a b s, leb-false a′ b′ t))
+  go false s true t = absurd (omega (arith, leb-false a b s, leb-true a′ b′ t))
+  go false s false t = rw (← step-down a b (leb-false a b s), ← step-down a′ b′ (leb-false a′ b′ t)) (omega (arith, leb-false a b s, leb-false a′ b′ t))
 
 -- ---- the sizes of those before one
 module _ {A : Type 0} (same : A → A → Bool) (f g : A → ℕ) (rises : (x : A) → f x ≤ g x) where
   before-rises : (x : A) (xs : List A) → sizeBefore same f x xs ≤ sizeBefore same g x xs
   unfolding sizeBefore
   before-rises x [] = le-refl 0
-  before-rises x (y ∷ ys) = go (same x y) (before-rises x ys)
-    where
-      go : (t : Bool) → sizeBefore same f x ys ≤ sizeBefore same g x ys → (if t then 0 else (f y + sizeBefore same f x ys)) ≤ (if t then 0 else (g y + sizeBefore same g x ys))
-      go true h = le-refl 0
-      go false h = omega (arith, rises y)
+  before-rises x (y ∷ ys) = go (same x y) (before-rises x ys) where
+    go : (t : Bool) → sizeBefore same f x ys ≤ sizeBefore same g x ys → (if t then 0 else (f y + sizeBefore same f x ys)) ≤ (if t then 0 else (g y + sizeBefore same g x ys))
+    go true h = le-refl 0
+    go false h = omega (arith, rises y)
 
   pub before-apart : (x y : A) (zs : List A) → Apart (sizeBefore same f x zs) (sizeBefore same g x zs) (sizeBefore same f y zs) (sizeBefore same g y zs)
   unfolding sizeBefore
   before-apart x y [] = up (le-refl 0) (le-refl 0) (le-refl 0)
-  before-apart x y (z ∷ zs) = go (same x z) (same y z) (before-rises x zs) (before-rises y zs) (before-apart x y zs)
-    where
-      go : (s t : Bool) → sizeBefore same f x zs ≤ sizeBefore same g x zs → sizeBefore same f y zs ≤ sizeBefore same g y zs
-          → Apart (sizeBefore same f x zs) (sizeBefore same g x zs) (sizeBefore same f y zs) (sizeBefore same g y zs)
-          → Apart (if s then 0 else (f z + sizeBefore same f x zs)) (if s then 0 else (g z + sizeBefore same g x zs)) (if t then 0 else (f z + sizeBefore same f y zs)) (if t then 0 else (g z + sizeBefore same g y zs))
-      go true true h k a = up (le-refl 0) (le-refl 0) (le-refl 0)
-      go true false h k a = up (omega arith) (omega arith) (omega (arith, rises z))
-      go false true h k a = down (omega arith) (omega arith) (omega (arith, rises z))
-      go false false h k (up p q r) = up (omega arith) (omega arith) (omega arith)
-      go false false h k (down p q r) = down (omega arith) (omega arith) (omega arith)
+  before-apart x y (z ∷ zs) = go (same x z) (same y z) (before-rises x zs) (before-rises y zs) (before-apart x y zs) where
+    go : (s t : Bool) → sizeBefore same f x zs ≤ sizeBefore same g x zs → sizeBefore same f y zs ≤ sizeBefore same g y zs → Apart (sizeBefore same f x zs)
+        (sizeBefore same g x zs) (sizeBefore same f y zs) (sizeBefore same g y zs) → Apart (if s then 0 else (f z + sizeBefore same f x zs))
+        (if s then 0 else (g z + sizeBefore same g x zs)) (if t then 0 else (f z + sizeBefore same f y zs)) (if t then 0 else (g z + sizeBefore same g y zs))
+    go true true h k a = up (le-refl 0) (le-refl 0) (le-refl 0)
+    go true false h k a = up (omega arith) (omega arith) (omega (arith, rises z))
+    go false true h k a = down (omega arith) (omega arith) (omega (arith, rises z))
+    go false false h k (up p q r) = up (omega arith) (omega arith) (omega arith)
+    go false false h k (down p q r) = down (omega arith) (omega arith) (omega arith)
 
 -- the entry of a yard, with where its border begins
 abbrev entryWith : List (List Text) → ℕ → Yard × ℕ → Entry
@@ -63,17 +55,22 @@ module _ (records : List (List Text)) (shorter longer : ℕ) (less : shorter ≤
 
   word-rises : (t : Text) → length (written fields shorter t) ≤ length (written fields longer t)
   unfolding written
-  word-rises t = go (isRemote fields t)
-    where
-      go : (far : Bool) → length (if far then varintOf (256 + shorter + offsetOf fields t) else inlined t) ≤ length (if far then varintOf (256 + longer + offsetOf fields t) else inlined t)
-      go true = size-rises (256 + shorter + offsetOf fields t) (256 + longer + offsetOf fields t) (omega arith)
-      go false = le-refl (length (inlined t))
+  word-rises t = go (isRemote fields t) where
+    go : (far : Bool) → length (if far then varintOf (256 + shorter + offsetOf fields t) else inlined t) ≤ length (if far then varintOf (256 + longer + offsetOf fields t) else inlined t)
+    go true = size-rises (256 + shorter + offsetOf fields t) (256 + longer + offsetOf fields t) (omega arith)
+    go false = le-refl (length (inlined t))
 
   words-rise : (ts : List Text) → length (flatMap (written fields shorter) ts) ≤ length (flatMap (written fields longer) ts)
   unfolding flatMap
   words-rise [] = le-refl 0
   words-rise (t ∷ ts) =
-      omega (arith, word-rises t, words-rise ts, length-append (written fields shorter t) (flatMap (written fields shorter) ts), length-append (written fields longer t) (flatMap (written fields longer) ts))
+      omega (
+        arith,
+        word-rises t,
+        words-rise ts,
+        length-append (written fields shorter t) (flatMap (written fields shorter) ts),
+        length-append (written fields longer t) (flatMap (written fields longer) ts),
+      )
 
   starts-apart : (v w : List Text) → Apart (startFor shorter records v) (startFor longer records v) (startFor shorter records w) (startFor longer records w)
   unfolding startFor
@@ -87,21 +84,33 @@ module _ (records : List (List Text)) (shorter longer : ℕ) (less : shorter ≤
   entry-rises : (r r′ b : ℕ) (y : Yard × ℕ) → Apart r r′ (startFor shorter records (y .0 .values)) (startFor longer records (y .0 .values))
       → length (entryBytes r b (entryWith records shorter y)) ≤ length (entryBytes r′ b (entryWith records longer y))
   unfolding entryBytes
-  entry-rises r r′ b y apart =
-      let box = boxBytes (boxOf (y .0 .lats) (y .0 .lons)) in
-      let border = varintOf ((y .1 + 2 ^ 32 - b) % 2 ^ 32) in
+  entry-rises r r′ b y apart = let box = boxBytes (boxOf (y .0 .lats) (y .0 .lons)) in let border = varintOf ((y .1 + 2 ^ 32 - b) % 2 ^ 32) in
       let one = varintOf (signedForm (pos (startFor shorter records (y .0 .values)) -ℤ pos r)) in
       let other = varintOf (signedForm (pos (startFor longer records (y .0 .values)) -ℤ pos r′)) in
-      omega (arith, length-append box (one ++ border), length-append one border, length-append box (other ++ border), length-append other border, size-rises _ _ (form-rises r r′ (startFor shorter records (y .0 .values)) (startFor longer records (y .0 .values)) apart))
+      omega (
+        arith,
+        length-append box (one ++ border),
+        length-append one border,
+        length-append box (other ++ border),
+        length-append other border,
+        size-rises _ _
+            (form-rises r r′ (startFor shorter records (y .0 .values)) (startFor longer records (y .0 .values)) apart),
+      )
 
   table-rises : (ys : List (Yard × ℕ)) (r r′ b : ℕ) → ((v : List Text) → Apart r r′ (startFor shorter records v) (startFor longer records v))
       → length (tableFrom r b (map (entryWith records shorter) ys)) ≤ length (tableFrom r′ b (map (entryWith records longer) ys))
   unfolding tableFrom
   table-rises [] r r′ b apart = le-refl 0
-  table-rises (y ∷ ys) r r′ b apart =
-      let start = startFor shorter records (y .0 .values) in
-      let start′ = startFor longer records (y .0 .values) in
-      omega (arith, entry-rises r r′ b y (apart (y .0 .values)), table-rises ys start start′ (y .1) (starts-apart (y .0 .values)), length-append (entryBytes r b (entryWith records shorter y)) (tableFrom start (y .1) (map (entryWith records shorter) ys)), length-append (entryBytes r′ b (entryWith records longer y)) (tableFrom start′ (y .1) (map (entryWith records longer) ys)))
+  table-rises (y ∷ ys) r r′ b apart = let start = startFor shorter records (y .0 .values) in let start′ = startFor longer records (y .0 .values) in
+      omega (
+        arith,
+        entry-rises r r′ b y (apart (y .0 .values)),
+        table-rises ys start start′ (y .1) (starts-apart (y .0 .values)),
+        length-append (entryBytes r b
+            (entryWith records shorter y)) (tableFrom start (y .1) (map (entryWith records shorter) ys)),
+        length-append (entryBytes r′ b (entryWith records longer y))
+            (tableFrom start′ (y .1) (map (entryWith records longer) ys)),
+      )
 
 -- ---- the table of a layout, over the yards in order
 abbrev pairs : List Yard → List ℕ → List (Yard × ℕ)
@@ -155,5 +164,13 @@ module _ (plan : Plan) (drawn : Drawn) where
       let metadata′ = flatMap (written all other) all ++ texts in
       let meta-less : length metadata < length metadata′ = omega (arith, length-append (flatMap (written all own) all) texts, length-append (flatMap (written all other) all) texts) in
       let table-less : length table ≤ length table′ =
-      rw (table-of yards own (drawn .places), table-of yards other (drawn .places)) (table-rises records own other less (sortedBy (south yards own) (pairs yards (drawn .places))) 0 0 0 (first-apart records own other less)) in
-      omega (arith, ap length own-layout ∙ assembled-length (headOf plan) table metadata (drawn .bytes), assembled-length (headOf plan) table′ metadata′ (drawn .bytes), size-rises (length table) (length table′) table-less, size-rises (length metadata) (length metadata′) (omega arith))
+      rw (table-of yards own (drawn .places), table-of yards other (drawn .places)) (table-rises records own other less (sortedBy (south yards own)
+      (pairs yards (drawn .places))) 0 0 0 (first-apart records own other less)) in
+      omega (
+        arith,
+        ap length own-layout ∙ assembled-length (headOf plan) table metadata (drawn .bytes),
+        assembled-length (headOf plan) table′ metadata′
+            (drawn .bytes),
+        size-rises (length table) (length table′) table-less,
+        size-rises (length metadata) (length metadata′) (omega arith),
+      )

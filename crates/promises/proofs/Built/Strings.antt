@@ -1,14 +1,10 @@
 -- Texts that stand at a place of a file, inline or elsewhere, are read back, plainly and strictly. Assumes nothing.
-use Prim.Native.Nat.{ℕ, _+_, _^_, _≤_, _<_}
-use lib.ListN.{length, take, drop, length-append, length-map}
-use mathlib.Core.{Bool.{Bool}, List.{List, map}, Path.{_≡_, sym, ap, _∙_}}
-use native.Mathlib.Omega.{arith}
-use Rattle.border.proofs.AtPlace.{at-inside, at-take, number-at}
-use Rattle.border.proofs.OnWay.{At, at-first, at-next}
+use Rattle.numbers.proofs.Prelude.{ℕ, _+_, _^_, _≤_, _<_, length, take, drop, length-append, length-map, Bool, List, map, _≡_, sym, ap, _∙_, arith}
+use Rattle.numbers.specs.{Spelling.{varintOf}, Varint.{numeral, readingOf}}
+use Rattle.border.proofs.{AtPlace.{at-inside, at-take, number-at}, OnWay.{At, at-first, at-next}}
 use Rattle.builder.{proofs.Masks.{unmask-twice}, specs.Metadata.{inlined}}
 use Rattle.header.{proofs.ReadBack.{Says, Masked}, specs.Utf8.{unmasked}}
 use Rattle.header.proofs.ReadBack as R
-use Rattle.numbers.specs.{Spelling.{varintOf}, Varint.{numeral, readingOf}}
 
 module _ (strict : Bool) (file t : List ℕ) (short : length t ≤ 255) (place : ℕ) (here : At file place (inlined t)) where
   abbrev behind : ℕ
@@ -23,12 +19,10 @@ module _ (strict : Bool) (file t : List ℕ) (short : length t ≤ 255) (place :
   bytes-at = at-next file place (varintOf (length t)) (map unmasked t) here
 
   masked : Masked file behind t
-  masked =
-      let size : length (map unmasked t) ≡ length t = length-map t unmasked in
-      record {
-        there = ap (map unmasked) (ap (λ (n : ℕ). take n (drop behind file)) (sym size) ∙ at-take bytes-at) ∙ unmask-twice t;
-        inside = λ some. omega (arith, size, at-inside bytes-at (omega (arith, size)));
-      }
+  masked = let size : length (map unmasked t) ≡ length t = length-map t unmasked in record {
+    there = ap (map unmasked) (ap (λ (n : ℕ). take n (drop behind file)) (sym size) ∙ at-take bytes-at) ∙ unmask-twice t;
+    inside = λ some. omega (arith, size, at-inside bytes-at (omega (arith, size)));
+  }
 
   inlined-size : length (inlined t) ≡ length (varintOf (length t)) + length t
   unfolding inlined
@@ -36,8 +30,7 @@ module _ (strict : Bool) (file t : List ℕ) (short : length t ≤ 255) (place :
 
   -- a text inline
   pub inline-says : (metadata : ℕ) → Says strict file metadata place t (place + length (inlined t))
-  inline-says metadata =
-      let says = R.inline-says strict file t short metadata place behind length-read masked in
+  inline-says metadata = let says = R.inline-says strict file t short metadata place behind length-read masked in
       record { text = says .text; reads = says .reads; bytes = says .bytes; after = says .after ∙ omega (arith, inlined-size) }
 
 -- a text elsewhere: the word says how far behind the metadata's begin it lies, and 256

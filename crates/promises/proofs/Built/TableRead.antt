@@ -1,17 +1,11 @@
 -- The entries of a written table are read back as its rows, plainly and strictly. Assumes nothing.
-use Prim.Native.Nat.{ℕ, zero, suc, _+_, _-_, _*_, _/_, _%_, _^_, _≤_, _<_}
-use borrow.Author.Tests.{leb-true, leb-false}
-use lib.{Dec.{leb}, IntN.{ℤ, pos, negℤ, natAbs, _-ℤ_}, ListN.{length, length-append}}
-use mathlib.Core.{Bool.{Bool, true, false}, List.{List, [], _∷_, _++_, map, append-assoc}, Logic.{_⊎_, inl, inr}, Path.{_≡_, refl, sym, ap, _∙_}}
-use native.Mathlib.Omega.{arith}
-use Rattle.border.proofs.OnWay.{At, at-first, at-next, some-bytes}
-use Rattle.builder.{proofs.Steps.{step-down, step-up}, specs.Entries.{Entry, boxBytes, entryBytes, tableFrom}}
-use Rattle.border.proofs.AtPlace.{at-as, number-at}
-use Rattle.promises.specs.Built.Seats.{Entered, boundsIn, seatsFrom, rowsOf}
-use Rattle.numbers.proofs.Spelling.{signed-back, signed-small, varint-whole}
+use Rattle.numbers.proofs.Prelude.{ℕ, zero, suc, _+_, _-_, _*_, _/_, _%_, _^_, _≤_, _<_, ℤ, pos, _-ℤ_, negℤ, natAbs, length, length-append, Bool, List, [], _∷_, _++_, map, append-assoc, _⊎_, inl}
+use Rattle.numbers.proofs.{Prelude.{inr, _≡_, refl, sym, ap, _∙_, arith}, Readings.{reading-grows}, Spelling.{signed-back, signed-small, varint-whole}, float.Squares.{le-or-lt}}
 use Rattle.numbers.specs.{Answer.{Answer, found}, Point.{low32, halfOf}, Spelling.{varintOf, signedForm}, Varint.{Numeral, numeral, readingOf}}
-use Rattle.table.proofs.{SixNumbers.{six-read, entry-row}, TableRows.{reading-grows, at-end, at-row}}
-use Rattle.table.specs.{Rows.{row, rowBy, rowsFrom}, Table.{entryBy}, declared.rows.Row.{Row}}
+use Rattle.border.proofs.{AtPlace.{at-as, number-at}, OnWay.{At, at-first, at-next, some-bytes}}
+use Rattle.builder.{proofs.Steps.{step-down, step-up}, specs.Entries.{Entry, boxBytes, entryBytes, tableFrom}}
+use Rattle.promises.specs.Built.Seats.{Entered, boundsIn, seatsFrom, rowsOf}
+use Rattle.table.{proofs.{SixNumbers.{six-read, entry-row}, TableRows.{at-end, at-row}}, specs.{Rows.{row, rowBy, rowsFrom}, Table.{entryBy}, declared.rows.Row.{Row}}}
 
 -- ---- the steps, and back
 low-negative : (n : ℕ) → n < 2 ^ 32 → low32 (negℤ (pos n)) ≡ (2 ^ 32 - n) % 2 ^ 32
@@ -19,38 +13,25 @@ low-negative zero h = refl
 low-negative (suc k) h = omega arith
 
 record-up : (from to : ℕ) → to < 2 ^ 32 → from ≤ to → (from + low32 (halfOf ((to - from) * 2))) % 2 ^ 32 ≡ to
-record-up from to h k =
-    let even : (to - from) * 2 % 2 ≡ 0 = omega arith in
-    let half : (to - from) * 2 / 2 ≡ to - from = omega arith in
+record-up from to h k = let even : (to - from) * 2 % 2 ≡ 0 = omega arith in let half : (to - from) * 2 / 2 ≡ to - from = omega arith in
     rw (even, half) (omega arith)
 
 record-down : (from to : ℕ) → from < 2 ^ 32 → to < from → (from + low32 (halfOf ((from - to) * 2 + 1))) % 2 ^ 32 ≡ to
-record-down from to h k =
-    let odd : ((from - to) * 2 + 1) % 2 ≡ 1 = omega arith in
-    let half : ((from - to) * 2 + 1) / 2 ≡ from - to = omega arith in
+record-down from to h k = let odd : ((from - to) * 2 + 1) % 2 ≡ 1 = omega arith in let half : ((from - to) * 2 + 1) / 2 ≡ from - to = omega arith in
     rw (odd, half, low-negative (from - to) (omega arith)) (omega arith)
-
-either : (from to : ℕ) → (from ≤ to) ⊎ (to < from)
-either from to = go (leb from to) refl
-  where
-    go : (t : Bool) → leb from to ≡ t → (from ≤ to) ⊎ (to < from)
-    go true e = inl (leb-true from to e)
-    go false e = inr (leb-false from to e)
 
 module _ (from to : ℕ) (h : from < 2 ^ 32) (k : to < 2 ^ 32) where
   pub record-back : (from + low32 (halfOf (signedForm (pos to -ℤ pos from)))) % 2 ^ 32 ≡ to
-  record-back = go (either from to)
-    where
-      go : (from ≤ to) ⊎ (to < from) → (from + low32 (halfOf (signedForm (pos to -ℤ pos from)))) % 2 ^ 32 ≡ to
-      go (inl l) = rw (← step-up from to l) (record-up from to k l)
-      go (inr l) = rw (← step-down from to l) (record-down from to h l)
+  record-back = go (le-or-lt from to) where
+    go : (from ≤ to) ⊎ (to < from) → (from + low32 (halfOf (signedForm (pos to -ℤ pos from)))) % 2 ^ 32 ≡ to
+    go (inl l) = rw (← step-up from to l) (record-up from to k l)
+    go (inr l) = rw (← step-down from to l) (record-down from to h l)
 
   step-small : signedForm (pos to -ℤ pos from) < 2 ^ 64
-  step-small = go (either from to)
-    where
-      go : (from ≤ to) ⊎ (to < from) → signedForm (pos to -ℤ pos from) < 2 ^ 64
-      go (inl l) = rw (← step-up from to l) (omega arith)
-      go (inr l) = rw (← step-down from to l) (omega arith)
+  step-small = go (le-or-lt from to) where
+    go : (from ≤ to) ⊎ (to < from) → signedForm (pos to -ℤ pos from) < 2 ^ 64
+    go (inl l) = rw (← step-up from to l) (omega arith)
+    go (inr l) = rw (← step-down from to l) (omega arith)
 
   pub border-back : (from + (to + 2 ^ 32 - from) % 2 ^ 32) % 2 ^ 32 ≡ to
   border-back = omega arith
@@ -86,7 +67,8 @@ module _ (strict : Bool) (file : List ℕ) (place r b : ℕ) (e : Entry) (r-smal
 
   pub some-entry : 0 < length (entryBytes r b e)
   some-entry =
-      omega (arith, ap length as-six ∙ length-append (word (e .bounds .south)) _, some-bytes (varint-whole (signedForm (e .bounds .south)) (omega (arith, signed-small (e .bounds .south) (small .south)))))
+      omega
+      (arith, ap length as-six ∙ length-append (word (e .bounds .south)) _, some-bytes (varint-whole (signedForm (e .bounds .south)) (omega (arith, signed-small (e .bounds .south) (small .south)))))
 
   signed-read : (z : ℤ) → natAbs z < 2 ^ 31 → (p : ℕ) (more : List ℕ) → At file p (word z ++ more) → read p ≡ numeral (signedForm z) (p + length (word z))
   signed-read z h p more at = number-at strict file p (signedForm z) (omega (arith, signed-small z h)) (at-first file p (word z) more at)
@@ -106,11 +88,21 @@ module _ (strict : Bool) (file : List ℕ) (place r b : ℕ) (e : Entry) (r-smal
       let a4 = at-next file p3 (word (e .bounds .east)) _ a3 in
       let a5 = at-next file p4 (varintOf metadata) _ a4 in
       let size : p6 ≡ place + length (entryBytes r b e) =
-      omega (arith, ap length as-six ∙ length-append (word (e .bounds .south)) _, length-append (word (e .bounds .west)) (word (e .bounds .north) ++ (word (e .bounds .east) ++ (varintOf metadata ++ varintOf polygon))), length-append (word (e .bounds .north)) (word (e .bounds .east) ++ (varintOf metadata ++ varintOf polygon)), length-append (word (e .bounds .east)) (varintOf metadata ++ varintOf polygon), length-append (varintOf metadata) (varintOf polygon)) in
-      six-read read (signed-read (e .bounds .south) (small .south) place _ a0) (signed-read (e .bounds .west) (small .west) p1 _ a1) (signed-read (e .bounds .north) (small .north) p2 _ a2) (signed-read (e .bounds .east) (small .east) p3 _ a3)
+      omega (
+        arith,
+        ap length as-six ∙ length-append (word (e .bounds .south)) _,
+        length-append (word (e .bounds .west)) (word (e .bounds .north) ++ (word
+            (e .bounds .east) ++ (varintOf metadata ++ varintOf polygon))),
+        length-append (word (e .bounds .north)) (word (e .bounds .east) ++ (varintOf metadata ++ varintOf polygon)),
+        length-append (word (e .bounds .east)) (varintOf metadata ++ varintOf polygon),
+        length-append (varintOf metadata) (varintOf polygon),
+      ) in
+      six-read read (signed-read (e .bounds .south) (small .south) place _ a0) (signed-read (e .bounds .west) (small .west) p1 _ a1)
+      (signed-read (e .bounds .north) (small .north) p2 _ a2) (signed-read (e .bounds .east) (small .east) p3 _ a3)
       (number-at strict file p4 metadata (step-small r (e .record′) r-small (small .record′)) (at-first file p4 (varintOf metadata) _ a4))
       (number-at strict file p5 polygon (omega arith) a5)
-      ∙ rw (signed-back (e .bounds .south) (small .south), signed-back (e .bounds .west) (small .west), signed-back (e .bounds .north) (small .north), signed-back (e .bounds .east) (small .east), size)
+      ∙ rw
+      (signed-back (e .bounds .south) (small .south), signed-back (e .bounds .west) (small .west), signed-back (e .bounds .north) (small .north), signed-back (e .bounds .east) (small .east), size)
 
   pub row-read : (id : ℕ) → rowBy read (record { place = place; id = id; metadata = r; polygon = b })
       ≡ found (record { place = place; id = id; metadata = e .record′; polygon = e .border; bounds = boundsIn (e .bounds); next = place + length (entryBytes r b e) })
@@ -132,17 +124,12 @@ pub rows-read : (strict : Bool) (file : List ℕ) (end : ℕ) (es : List Entered
 unfolding AllSmall tableFrom seatsFrom rowsOf
 rows-read strict file end [] small place id r b h k few here whole =
     at-end (readingOf strict file) (reading-grows strict file) (record { place = place; id = id; metadata = r; polygon = b }) (omega arith)
-rows-read strict file end (e ∷ es) small place id r b h k few here whole =
-    let entry = e .entry in
-    let rest = tableFrom (entry .record′) (entry .border) (map entryIn es) in
-    let first = at-first file place (entryBytes r b entry) rest here in
-    let next = place + length (entryBytes r b entry) in
-    let size = length-append (entryBytes r b entry) rest in
-    let some = some-entry strict file place r b entry h k (small .0) first in
-    let numbered : (id + 1) % 2 ^ 32 ≡ id + 1 = omega arith in
+rows-read strict file end (e ∷ es) small place id r b h k few here whole = let entry = e .entry in
+    let rest = tableFrom (entry .record′) (entry .border) (map entryIn es) in let first = at-first file place (entryBytes r b entry) rest here in
+    let next = place + length (entryBytes r b entry) in let size = length-append (entryBytes r b entry) rest in
+    let some = some-entry strict file place r b entry h k (small .0) first in let numbered : (id + 1) % 2 ^ 32 ≡ id + 1 = omega arith in
     let seat : Row = record { place = place; id = id; metadata = entry .record′; polygon = entry .border; bounds = boundsIn (entry .bounds); next = next } in
     at-row (readingOf strict file) (reading-grows strict file) (record { place = place; id = id; metadata = r; polygon = b }) (omega arith)
-    {next = record { place = next; id = id + 1; metadata = entry .record′; polygon = entry .border }}
-    (sym (row-read strict file place r b entry h k (small .0) first id))
-    (rw numbered)
-    ∙ ap (row seat) (rows-read strict file end es (small .1) next (id + 1) (entry .record′) (entry .border) (small .0 .record′) (small .0 .border) (omega arith) (at-next file place (entryBytes r b entry) rest here) (omega arith))
+    {next = record { place = next; id = id + 1; metadata = entry .record′; polygon = entry .border }} (sym (row-read strict file place r b entry h k (small .0) first id))
+    (rw numbered) ∙ ap (row seat) (rows-read strict file end es (small .1) next (id + 1) (entry .record′) (entry .border) (small .0 .record′) (small .0 .border)
+    (omega arith) (at-next file place (entryBytes r b entry) rest here) (omega arith))

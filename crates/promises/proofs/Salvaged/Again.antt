@@ -1,22 +1,14 @@
 -- `salvage-again`: salvaging the result of a salvage gives it back, with an empty list. Assumes nothing.
-use Prim.Native.Nat.{ℕ, suc, _+_, _-_, _^_, _≤_, _<_, min}
-use borrow.Author.Tests.{le-leb, lt-ltb}
-use lib.ListN.{length, take, drop}
-use mathlib.Core.{Bool.{true}, List.{List, [], _∷_, _++_, flatMap}, Path.{_≡_, refl, sym, ap, subst, _∙_}}
-use native.Mathlib.Omega.{arith}
-use Rattle.border.specs.Encoding.{versionOf}
-use Rattle.header.specs.{Header.{headBy}, Text.{textAt}, declared.{header.{Head.{Head}, Preamble.{Preamble}}, text.Text.{Text}}}
-use Rattle.salvage.specs.Moves.Moves.{endOf, movesAt, movesBytes}
+use Rattle.numbers.proofs.Prelude.{ℕ, suc, _+_, _-_, _^_, _≤_, _<_, min, lt-ltb, le-leb, length, take, drop, true, List, [], _∷_, _++_, flatMap, _≡_, refl, sym, ap, subst, _∙_, arith}
 use Rattle.numbers.specs.{Reply.{given}, Spelling.{varintOf, signedForm}, declared.point.RawPoint.{RawPoint}}
-use Rattle.salvage.specs.File.{headTexts, borderBytes, boxBytes, idStep, entryBytes, tableFrom, metadataOf, assembled, newFile}
-use Rattle.salvage.specs.Kept.{encodingIn, borderPlace, borderGood, stringInside, fieldGood, fieldsGood, recordPlace, entryGood, keptOf, linesFrom}
-use Rattle.salvage.specs.{Promises.{SalvageAgain}, Salvage.{salvagedOf}}
-use Rattle.table.specs.{Rows.{rowsIn}, declared.{rows.Row.{Row}, table.Bounds.{Bounds}}}
-use Rattle.border.proofs.AtPlace.{at-take}
-use Rattle.promises.proofs.Salvaged.{KeptAgain.{rows-are, rows-carried}, Opens.{new-opens, texts-inline, first-bytes}, Parts.{made-from, at-metadata}}
-use Rattle.promises.proofs.Salvaged.{Carried.{SameTexts, no-more, one-more, Carried, AllCarried, no-rows, next-row}, Sound.{Every, Sound, kept-sound}}
+use Rattle.border.{proofs.AtPlace.{at-take}, specs.Encoding.{versionOf}}
+use Rattle.header.specs.{Header.{headBy}, Text.{textAt}, declared.{header.{Head.{Head}, Preamble.{Preamble}}, text.Text.{Text}}}
+use Rattle.salvage.specs.{File.{headTexts, borderBytes, boxBytes, idStep, entryBytes, tableFrom, metadataOf, assembled, newFile}, Kept.{encodingIn, borderPlace, borderGood, stringInside, fieldGood}}
+use Rattle.salvage.specs.{Kept.{fieldsGood, recordPlace, entryGood, keptOf, linesFrom}, Moves.Moves.{endOf, movesAt, movesBytes}, Promises.{SalvageAgain}, Salvage.{salvagedOf}}
+use Rattle.table.specs.{Rows.{rowsIn, asRows}, declared.{rows.Row.{Row}, table.Bounds.{Bounds}}}
+use Rattle.promises.proofs.Salvaged.{Carried.{SameTexts, no-more, one-more, Carried, AllCarried, no-rows, next-row}, KeptAgain.{rows-are, rows-carried}}
+use Rattle.promises.proofs.Salvaged.{Opens.{new-opens, texts-inline, first-bytes}, Parts.{made-from, at-metadata}, Sound.{Every, Sound, kept-sound}}
 use Rattle.promises.specs.inner.Salvaged.Seats.{tablePlace, newHead, seatsOf}
-use Rattle.table.specs.Rows.{asRows}
 
 -- ---- an entry of the new file is good
 field-step : (file : List ℕ) (head : Head) (more place : ℕ) (text : Text) → textAt (head .strict) file (head .sections .metadata) place (record { number = 15; detail = 0 }) ≡ given text
@@ -27,7 +19,8 @@ field-step file head more place text e i = rw (e, i)
 fields-good : {file new : List ℕ} {head head′ : Head} {more place place′ : ℕ} → SameTexts file new head head′ more place place′ → fieldsGood new head′ more place′ ≡ given tt
 unfolding fieldsGood
 fields-good no-more = refl
-fields-good {new = new} {head′ = head′} {more = suc more} {place′ = place′} (one-more text text′ reads reads′ bytes placed later) = field-step new head′ more place′ text′ reads′ placed ∙ fields-good later
+fields-good {new = new} {head′ = head′} {more = suc more} {place′ = place′} (one-more text text′ reads reads′ bytes placed later) =
+    field-step new head′ more place′ text′ reads′ placed ∙ fields-good later
 
 module _ {file new : List ℕ} {head head′ : Head} (preamble : head′ .preamble ≡ head .preamble) where
   pub good-again : {old r : Row} → Carried file new head head′ old r → entryGood new head′ r ≡ given tt
@@ -39,7 +32,8 @@ module _ {file new : List ℕ} {head head′ : Head} (preamble : head′ .preamb
   border-again : {old r : Row} → Carried file new head head′ old r → borderBytes new head′ r ≡ borderBytes file head old
   unfolding borderBytes
   border-again {old} {r} c =
-      ap (λ (p : Preamble). movesBytes (versionOf (p .version)) (movesAt new (encodingIn new head′) (borderPlace new head′ r))) preamble ∙ ap (λ (ms : List RawPoint). movesBytes (versionOf (head .preamble .version)) ms) (c .border .same-moves)
+      ap (λ (p : Preamble). movesBytes (versionOf (p .version)) (movesAt new (encodingIn new head′) (borderPlace new head′ r))) preamble
+      ∙ ap (λ (ms : List RawPoint). movesBytes (versionOf (head .preamble .version)) ms) (c .border .same-moves)
 
   entry-again : {old r : Row} (id size : ℕ) → Carried file new head head′ old r → entryBytes id size r ≡ entryBytes id size old
   unfolding entryBytes
@@ -78,15 +72,15 @@ module _ {file new : List ℕ} {head head′ : Head} (preamble : head′ .preamb
   count-again (next-row c later) = ap suc (count-again later)
 
 -- ---- what salvage answers, from its parts
-answered : (file : List ℕ) (head : Head) (texts : List ℕ) (kept : List Row) (lines new : List ℕ) (words room : ℕ) → headBy true file ≡ given head → headTexts file head ≡ given texts
-    → keptOf file head (rowsIn file head) ≡ kept → linesFrom file head 0 (rowsIn file head) ≡ lines → newFile file head texts kept ≡ new → length new ≤ room → length new ≤ 2 ^ 30 → length lines ≤ words → 0 < length kept
-    → salvagedOf file words room ≡ given (record { file = new; lines = lines; kept = kept })
+answered : (file : List ℕ) (head : Head) (texts : List ℕ) (kept : List Row) (lines new : List ℕ) (words room : ℕ) → headBy true file ≡ given head
+    → headTexts file head ≡ given texts → keptOf file head (rowsIn file head) ≡ kept → linesFrom file head 0 (rowsIn file head) ≡ lines → newFile file head texts kept ≡ new
+    → length new ≤ room → length new ≤ 2 ^ 30 → length lines ≤ words → 0 < length kept → salvagedOf file words room ≡ given (record { file = new; lines = lines; kept = kept })
 unfolding salvagedOf
 answered file head texts kept lines new words room a b c d e h k l n =
     rw (a, b, c, d, e, le-leb (length new) (min room (2 ^ 30)) (omega arith), le-leb (length lines) words l, lt-ltb 0 (length kept) n)
 
-module _ (file : List ℕ) (head : Head) (texts : List ℕ) (kept : List Row) (new : List ℕ) (is : new ≡ newFile file head texts kept) (small : length new ≤ 2 ^ 30) (opens : headBy true file ≡ given head)
-    (inline : headTexts file head ≡ given texts) (sound : Every (Sound file head) kept) where
+module _ (file : List ℕ) (head : Head) (texts : List ℕ) (kept : List Row) (new : List ℕ) (is : new ≡ newFile file head texts kept) (small : length new ≤ 2 ^ 30)
+    (opens : headBy true file ≡ given head) (inline : headTexts file head ≡ given texts) (sound : Every (Sound file head) kept) where
   abbrev head′ : Head
   head′ = newHead file head true texts kept
 
@@ -102,24 +96,21 @@ module _ (file : List ℕ) (head : Head) (texts : List ℕ) (kept : List Row) (n
 
   metadata-again : metadataOf new head′ ≡ metadataOf file head
   unfolding newHead
-  metadata-again =
-      let table = tablePlace file head texts kept in
-      let size = length (tableFrom file head 0 0 kept) in
+  metadata-again = let table = tablePlace file head texts kept in let size = length (tableFrom file head 0 0 kept) in
       let n : table + (size + length (metadataOf file head)) - (table + size) ≡ length (metadataOf file head) = omega arith in
       ap (λ (k : ℕ). take k (drop (table + size) new)) n ∙ at-take (at-metadata file head texts kept new is)
 
   pub file-again : newFile new head′ texts seats ≡ new
   unfolding newFile
   file-again =
-      ap (λ (b : List ℕ). assembled (b ++ texts) (tableFrom new head′ 0 0 seats) (metadataOf new head′) (flatMap (borderBytes new head′) seats)) (first-bytes file head texts kept new is small opens inline true)
-      ∙ ap (λ (b : List ℕ). assembled (take 7 file ++ texts) b (metadataOf new head′) (flatMap (borderBytes new head′) seats)) (table-again same-preamble 0 0 carried)
-      ∙ ap (λ (b : List ℕ). assembled (take 7 file ++ texts) (tableFrom file head 0 0 kept) b (flatMap (borderBytes new head′) seats)) metadata-again
-      ∙ ap (λ (b : List ℕ). assembled (take 7 file ++ texts) (tableFrom file head 0 0 kept) (metadataOf file head) b) (borders-again same-preamble carried)
-      ∙ sym is
+      ap (λ (b : List ℕ). assembled (b ++ texts) (tableFrom new head′ 0 0 seats) (metadataOf new head′) (flatMap (borderBytes new head′) seats))
+      (first-bytes file head texts kept new is small opens inline true) ∙ ap (λ (b : List ℕ). assembled (take 7 file ++ texts) b (metadataOf new head′)
+      (flatMap (borderBytes new head′) seats)) (table-again same-preamble 0 0 carried) ∙ ap (λ (b : List ℕ). assembled (take 7 file ++ texts)
+      (tableFrom file head 0 0 kept) b (flatMap (borderBytes new head′) seats)) metadata-again ∙ ap (λ (b : List ℕ). assembled (take 7 file ++ texts)
+      (tableFrom file head 0 0 kept) (metadataOf file head) b) (borders-again same-preamble carried) ∙ sym is
 
   pub answers-again : (words room : ℕ) → length new ≤ room → 0 < length kept → salvagedOf new words room ≡ given (record { file = new; lines = []; kept = seats })
-  answers-again words room fits some =
-      let rows = rows-are file head texts kept new is small opens sound true in
+  answers-again words room fits some = let rows = rows-are file head texts kept new is small opens sound true in
       answered new head′ texts seats [] new words room (new-opens file head texts kept new is small opens inline true) (texts-inline file head texts kept new is small opens inline true)
       (ap (keptOf new head′) rows ∙ kept-again same-preamble carried) (ap (linesFrom new head′ 0) rows ∙ lines-again same-preamble 0 carried) file-again fits small (omega arith)
       (omega (arith, some, count-again same-preamble carried))
@@ -129,10 +120,8 @@ module _ (file : List ℕ) (head : Head) (texts : List ℕ) (kept : List Row) (n
 
 -- ---- the theorem
 pub salvage-again : SalvageAgain
-salvage-again file words words′ room room′ s e fits =
-    let m = made-from file words room s e in
-    let sound : Every (Sound file (m .head)) (s .kept) = subst (λ (rows : List Row). Every (Sound file (m .head)) rows) (sym (m .kept-are)) (kept-sound file (m .head)) in
-    record {
+salvage-again file words words′ room room′ s e fits = let m = made-from file words room s e in
+    let sound : Every (Sound file (m .head)) (s .kept) = subst (λ (rows : List Row). Every (Sound file (m .head)) rows) (sym (m .kept-are)) (kept-sound file (m .head)) in record {
       again = record { file = s .file; lines = []; kept = seatsOf file (m .head) (m .texts) (s .kept) };
       answered = answers-again file (m .head) (m .texts) (s .kept) (s .file) (m .is) (m .small) (m .opens) (m .inline) sound words′ room′ fits (m .some);
       same = record { same-file = refl; no-lines = refl; same-count = counts-again file (m .head) (m .texts) (s .kept) (s .file) (m .is) (m .small) (m .opens) (m .inline) sound };

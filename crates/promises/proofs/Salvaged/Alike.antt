@@ -1,20 +1,15 @@
 -- Lookups in two files whose tables have like rows, one by one, give the same matches, texts and safezone, or the same refusal: the end mark and the entries' places aside. Assumes nothing.
-use Prim.Native.Nat.{ℕ}
-use lib.{Dec.{ltb, eqb}, ListN.{length, length-map}}
-use mathlib.Core.{Bool.{Bool, true, false}, List.{List, [], _∷_, _++_}, Path.{_≡_, refl, sym, ap, _∙_}}
-use native.Mathlib.Omega.{arith}
+use Rattle.numbers.proofs.Prelude.{ℕ, eqb, ltb, length, length-map, Bool, true, false, List, [], _∷_, _++_, _≡_, refl, sym, ap, _∙_, arith}
+use Rattle.numbers.specs.{Answer.{if_then_else_}, Reply.{Reply, given, plain, _>>=_}}
 use Rattle.verdict.specs.Verdict.{Judgement, reached}
 use Rattle.border.specs.declared.place.Point.{Point}
-use Rattle.verdict.specs.Verdict as J
 use Rattle.header.specs.declared.header.Head.{Head}
-use Rattle.numbers.specs.{Answer.{if_then_else_}, Reply.{Reply, given, plain, _>>=_}}
-use Rattle.numbers.specs.Reply as R
-use Rattle.table.specs.{Find.{Matched}, Hits.{hitOf}, Rest.{restMark}, Rows.{row}, Search.{kindOf, rowHit, judgedTurn, rowTurn, Found, ended, afterTurn, seek, judgeIn}}
-use Rattle.table.specs.{Table.{isAbove, holds}, declared.{hits.Hit.{Hit}, rows.Row.{Row}, search.Turn.the-variants.{On, Met}, table.Bounds.{Bounds}}}
-use Rattle.table.proofs.Merged.{Each, end, next, both}
+use Rattle.table.{proofs.Merged.{Each, end, next, both}, specs.{Find.{Matched}, Hits.{hitOf}, Rest.{restMark}, Rows.{row, asRows}, Search.{kindOf, rowHit, judgedTurn, rowTurn, Found, ended}}}
+use Rattle.table.specs.{Search.{afterTurn, seek, judgeIn}, Table.{isAbove, holds}, declared.{hits.Hit.{Hit}, rows.Row.{Row}, search.Turn.the-variants.{On, Met}, table.Bounds.{Bounds}}}
 use Rattle.zones.{proofs.PlaceLeftOut.{bareHit, bare, bare-append}, specs.Fields.{fieldsPlace}}
 use Rattle.promises.proofs.Salvaged.Carried.{SameTexts}
-use Rattle.table.specs.Rows.{asRows}
+use Rattle.verdict.specs.Verdict as J
+use Rattle.numbers.specs.Reply as R
 
 -- what is compared
 abbrev pub compared : {A B : Type 0} → (A → B) → Reply A → Reply B
@@ -25,11 +20,6 @@ bareFound f = record { hits = bare (f .hits); mark = 0; least = f .least }
 
 abbrev pub bareMatched : Matched → Matched
 bareMatched f = record { matches = bare (f .matches); mark = 0; least = f .least }
-
--- both go on from one reply
-pub after : {A B : Type 0} (reply : Reply A) {k k′ : A → Reply B} → ((a : A) → k a ≡ k′ a) → (reply >>= k) ≡ (reply >>= k′)
-after (given a) e = e a
-after (R.refused why) e = refl
 
 -- two replies of which the same is seen
 pub both-given : {A B C D : Type 0} (look : A → B) (look′ : C → D) (r s : Reply A) (k k′ : A → Reply C) → compared look r ≡ compared look s
@@ -94,24 +84,24 @@ module _ (f f′ : List ℕ) (h h′ : Head) where
       by-row least =
           ap (λ (b : Bounds). compared bareFound (afterTurn (if holds b fix then judgedTurn r′ (judge′ (r′ .polygon) least) else On least) hits′ room go′)) (l .box)
           ∙ ap (λ (j : Judgement). compared bareFound (afterTurn (if holds (r .bounds) fix then judgedTurn r′ j else On least) hits′ room go′)) (l .border fix asked least)
-          ∙ go-on (holds (r .bounds) fix)
-        where
-          go-on : (held : Bool) → compared bareFound (afterTurn (if held then judgedTurn r′ (judge (r .polygon) least) else On least) hits′ room go′)
-              ≡ compared bareFound (afterTurn (if held then judgedTurn r (judge (r .polygon) least) else On least) hits room go)
-          go-on true = by-judgement (judge (r .polygon) least)
-          go-on false = on least hits hits′ e
+          ∙ go-on (holds (r .bounds) fix) where
+            go-on : (held : Bool) → compared bareFound (afterTurn (if held then judgedTurn r′ (judge (r .polygon) least) else On least) hits′ room go′)
+                ≡ compared bareFound (afterTurn (if held then judgedTurn r (judge (r .polygon) least) else On least) hits room go)
+            go-on true = by-judgement (judge (r .polygon) least)
+            go-on false = on least hits hits′ e
 
     pub seek-like : {rows rows′ : List Row} → AllLike rows rows′ → Alike (seek judge′ fix last′ room (asRows rows′)) (seek judge fix last room (asRows rows))
     unfolding seek asRows
     seek-like none-like least hits hits′ e = λ i. given (record { hits = e i; mark = 0; least = least })
     seek-like (next-like {r = r} {r′ = r′} {rows = rows} {rows′ = rows′} l later) least hits hits′ e =
-        ap (λ (b : Bounds). compared bareFound (if isAbove b fix then ended hits′ (restMark last′ fix (row r′ (asRows rows′))) least else afterTurn (rowTurn judge′ fix r′ least) hits′ room (seek judge′ fix last′ room (asRows rows′)))) (l .box)
-        ∙ by-above (isAbove (r .bounds) fix) _ _ (by-row (seek judge′ fix last′ room (asRows rows′)) (seek judge fix last room (asRows rows)) (seek-like later) r r′ l hits hits′ e least)
-      where
-        by-above : (above : Bool) (on′ on : Reply Found) → compared bareFound on′ ≡ compared bareFound on
-            → compared bareFound (if above then ended hits′ (restMark last′ fix (row r′ (asRows rows′))) least else on′) ≡ compared bareFound (if above then ended hits (restMark last fix (row r (asRows rows))) least else on)
-        by-above true on′ on k = λ i. given (record { hits = e i; mark = 0; least = least })
-        by-above false on′ on k = k
+        ap (λ (b : Bounds). compared bareFound (if isAbove b fix then ended hits′ (restMark last′ fix (row r′ (asRows rows′))) least else afterTurn
+        (rowTurn judge′ fix r′ least) hits′ room (seek judge′ fix last′ room (asRows rows′)))) (l .box)
+        ∙ by-above (isAbove (r .bounds) fix) _ _ (by-row (seek judge′ fix last′ room (asRows rows′)) (seek judge fix last room (asRows rows)) (seek-like later) r r′ l hits hits′ e least) where
+          by-above : (above : Bool) (on′ on : Reply Found) → compared bareFound on′ ≡ compared bareFound on
+              → compared bareFound (if above then ended hits′ (restMark last′ fix (row r′ (asRows rows′))) least else on′) ≡ compared bareFound (if above then
+              ended hits (restMark last fix (row r (asRows rows))) least else on)
+          by-above true on′ on k = λ i. given (record { hits = e i; mark = 0; least = least })
+          by-above false on′ on k = k
 
     -- ---- each hit is a row's, so its strings read alike
     abbrev pub Fielded : Hit → Type 0
@@ -124,32 +114,32 @@ module _ (f f′ : List ℕ) (h h′ : Head) where
     abbrev Stays : (ℕ → List Hit → Reply Found) → Type 0
     Stays go = (least : ℕ) (hits : List Hit) → Each Fielded hits → Each-given (go least hits)
 
-    turn-each : (go : ℕ → List Hit → Reply Found) → Stays go → (r : Row) → SameRecord (r .metadata) → (hits : List Hit) → Each Fielded hits → (least : ℕ) → Each-given (afterTurn (rowTurn judge fix r least) hits room go)
+    turn-each : (go : ℕ → List Hit → Reply Found) → Stays go → (r : Row) → SameRecord (r .metadata) → (hits : List Hit) → Each Fielded hits → (least : ℕ)
+        → Each-given (afterTurn (rowTurn judge fix r least) hits room go)
     unfolding rowTurn judgedTurn
-    turn-each go on r same hits each least = by-box (holds (r .bounds) fix)
-      where
-        by-room : (kind closer : ℕ) (t : Bool) → Each-given (if t then go closer (hits ++ rowHit r kind ∷ []) else R.refused (plain 17))
-        by-room kind closer true = on closer (hits ++ rowHit r kind ∷ []) (both each (next same end))
-        by-room kind closer false = tt
+    turn-each go on r same hits each least = by-box (holds (r .bounds) fix) where
+      by-room : (kind closer : ℕ) (t : Bool) → Each-given (if t then go closer (hits ++ rowHit r kind ∷ []) else R.refused (plain 17))
+      by-room kind closer true = on closer (hits ++ rowHit r kind ∷ []) (both each (next same end))
+      by-room kind closer false = tt
 
-        by-kind : (kind closer : ℕ) (t : Bool) → Each-given (afterTurn (if t then On closer else Met (rowHit r kind) closer) hits room go)
-        by-kind kind closer true = on closer hits each
-        by-kind kind closer false = by-room kind closer (ltb (length hits) room)
+      by-kind : (kind closer : ℕ) (t : Bool) → Each-given (afterTurn (if t then On closer else Met (rowHit r kind) closer) hits room go)
+      by-kind kind closer true = on closer hits each
+      by-kind kind closer false = by-room kind closer (ltb (length hits) room)
 
-        by-judgement : (judgement : Judgement) → Each-given (afterTurn (judgedTurn r judgement) hits room go)
-        by-judgement (reached verdict closer) = by-kind (kindOf verdict) closer (eqb (kindOf verdict) 0)
-        by-judgement (J.failed closer) = each
-        by-judgement (J.refused n) = tt
+      by-judgement : (judgement : Judgement) → Each-given (afterTurn (judgedTurn r judgement) hits room go)
+      by-judgement (reached verdict closer) = by-kind (kindOf verdict) closer (eqb (kindOf verdict) 0)
+      by-judgement (J.failed closer) = each
+      by-judgement (J.refused n) = tt
 
-        by-box : (held : Bool) → Each-given (afterTurn (if held then judgedTurn r (judge (r .polygon) least) else On least) hits room go)
-        by-box true = by-judgement (judge (r .polygon) least)
-        by-box false = on least hits each
+      by-box : (held : Bool) → Each-given (afterTurn (if held then judgedTurn r (judge (r .polygon) least) else On least) hits room go)
+      by-box true = by-judgement (judge (r .polygon) least)
+      by-box false = on least hits each
 
     pub seek-each : {rows rows′ : List Row} → AllLike rows rows′ → Stays (seek judge fix last room (asRows rows))
     unfolding seek asRows
     seek-each none-like least hits each = each
-    seek-each (next-like {r = r} {rows = rows} l later) least hits each = by-above (isAbove (r .bounds) fix) _ (turn-each (seek judge fix last room (asRows rows)) (seek-each later) r (l .strings) hits each least)
-      where
-        by-above : (above : Bool) (on : Reply Found) → Each-given on → Each-given (if above then ended hits (restMark last fix (row r (asRows rows))) least else on)
-        by-above true on k = each
-        by-above false on k = k
+    seek-each (next-like {r = r} {rows = rows} l later) least hits each =
+        by-above (isAbove (r .bounds) fix) _ (turn-each (seek judge fix last room (asRows rows)) (seek-each later) r (l .strings) hits each least) where
+          by-above : (above : Bool) (on : Reply Found) → Each-given on → Each-given (if above then ended hits (restMark last fix (row r (asRows rows))) least else on)
+          by-above true on k = each
+          by-above false on k = k

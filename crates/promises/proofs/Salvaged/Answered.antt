@@ -1,17 +1,13 @@
 -- An answered salvage in the words of its reply and of both lent outputs, so that the theorems speak of it. Assumes nothing.
-use Prim.Native.Nat.{ℕ, _+_, _-_, _*_, _/_, _≤_}
-use lib.{ListN.{length, take}, Seq.{take-append-seam}}
-use mathlib.Core.{Bool.{Bool, true}, List.{List, []}, Logic.{_⊎_, inl, inr}, Path.{_≡_, refl, sym, ap, subst, _∙_}}
-use native.Mathlib.Omega.{arith}
+use Rattle.numbers.proofs.Prelude.{ℕ, _+_, _-_, _*_, _/_, _≤_, length, take, take-append-seam, Bool, true, List, [], _⊎_, inl, inr, _≡_, refl, sym, ap, subst, _∙_, arith}
+use Rattle.numbers.{proofs.Replies.{given-one}, specs.{Lists.{zeros, padded}, Reply.{Reply, given, refused}}}
 use Rattle.header.specs.{Header.{headBy}, Opening.{openedBy}, declared.header.Head.{Head}}
-use Rattle.numbers.specs.{Lists.{zeros, padded}, Reply.{Reply, given, refused}}
-use Rattle.salvage.proofs.Listing.{salvage-list, two-words}
-use Rattle.salvage.specs.{Kept.{entryGood, lineIf, keptOf, linesFrom}, Promises.{ListOf, KeptFile}, Salvage.{Salvaged, salvagedOf, Counts, repliedOf, salvaged}}
+use Rattle.salvage.{proofs.Listing.{salvage-list, two-words}, specs.{Kept.{entryGood, lineIf, keptOf, linesFrom}, Promises.{ListOf, KeptFile}}}
+use Rattle.salvage.specs.Salvage.{Salvaged, salvagedOf, Counts, repliedOf, salvaged}
 use Rattle.promises.proofs.Salvaged.{Again.{salvage-again}, KeptAgain.{salvage-kept}, Opens.{salvaged-strict, salvaged-opens-alike}, Parts.{Made, made-from}}
 use Rattle.promises.proofs.Salvaged.SameLookups.{salvage-same, salvage-same-simply}
 use Rattle.promises.specs.Salvaged.{Opens.{OpensStrictly}, Same.{SameAnswers, SameSimply}}
 use Rattle.table.specs.Rows.{Rows, row, tableEnd, unreadable, rowsIn}
-use Rattle.numbers.proofs.Replies.{given-one}
 use Rattle.table.specs.Rows as T
 
 pub record Answered (file : List ℕ) (words room : ℕ) (counts : Counts) : Type 0 where
@@ -23,42 +19,39 @@ pub record Answered (file : List ℕ) (words room : ℕ) (counts : Counts) : Typ
 
 pub answered-from : (file : List ℕ) (words room : ℕ) (counts : Counts) → salvaged file words room .reply ≡ given counts → Answered file words room counts
 unfolding salvaged
-answered-from file words room counts e = go (salvagedOf file words room) refl e
-  where
-    go : (r : Reply Salvaged) → salvagedOf file words room ≡ r → repliedOf words room r .reply ≡ given counts → Answered file words room counts
-    go (given s) is e =
-        record {
-          s = s;
-          is = is;
-          counted = cc (e);
-          list = ap (λ (r : Reply Salvaged). repliedOf words room r .list) is;
-          out = ap (λ (r : Reply Salvaged). repliedOf words room r .out) is;
-        }
-    go (refused why) is e = let z : _≡_ {A = ℕ} 0 1 = cc in absurd (omega arith)
+answered-from file words room counts e = go (salvagedOf file words room) refl e where
+  go : (r : Reply Salvaged) → salvagedOf file words room ≡ r → repliedOf words room r .reply ≡ given counts → Answered file words room counts
+  go (given s) is e =
+      record {
+        s = s;
+        is = is;
+        counted = cc (e);
+        list = ap (λ (r : Reply Salvaged). repliedOf words room r .list) is;
+        out = ap (λ (r : Reply Salvaged). repliedOf words room r .out) is;
+      }
+  go (refused why) is e = let z : _≡_ {A = ℕ} 0 1 = cc in absurd (omega arith)
 
 -- ---- a line has two words, so no line is no word
 module _ (file : List ℕ) (head : Head) where
   none-or-some : (number : ℕ) (rows : Rows) → (linesFrom file head number rows ≡ []) ⊎ (2 ≤ length (linesFrom file head number rows))
   unfolding linesFrom
-  none-or-some number (row r rows) = go (entryGood file head r) (none-or-some (number + 1) rows)
-    where
-      go : (g : Reply (Unit {0})) {lines : List ℕ} → (lines ≡ []) ⊎ (2 ≤ length lines) → (lineIf g number lines ≡ []) ⊎ (2 ≤ length (lineIf g number lines))
-      go (given tt) h = h
-      go (refused why) h = inr (omega arith)
+  none-or-some number (row r rows) = go (entryGood file head r) (none-or-some (number + 1) rows) where
+    go : (g : Reply (Unit {0})) {lines : List ℕ} → (lines ≡ []) ⊎ (2 ≤ length lines) → (lineIf g number lines ≡ []) ⊎ (2 ≤ length (lineIf g number lines))
+    go (given tt) h = h
+    go (refused why) h = inr (omega arith)
   none-or-some number tableEnd = inl refl
   none-or-some number unreadable = inr (omega arith)
   none-or-some number (T.refused n) = inr (omega arith)
 
 -- "nothing is dropped"
 pub nothing-dropped : {file : List ℕ} {words room : ℕ} {counts : Counts} (a : Answered file words room counts) → counts .lines ≡ 0 → a .s .lines ≡ []
-nothing-dropped {file} {words} {room} {counts} a zero-lines =
-    let m = made-from file words room (a .s) (a .is) in
+nothing-dropped {file} {words} {room} {counts} a zero-lines = let m = made-from file words room (a .s) (a .is) in
     let few : length (a .s .lines) / 2 ≡ 0 = sym (ap (λ (c : Counts). c .lines) (a .counted)) ∙ zero-lines in
-    go m few (none-or-some file (m .head) 0 (rowsIn file (m .head)))
-  where
-    go : (m : Made file words room (a .s)) → length (a .s .lines) / 2 ≡ 0 → (linesFrom file (m .head) 0 (rowsIn file (m .head)) ≡ []) ⊎ (2 ≤ length (linesFrom file (m .head) 0 (rowsIn file (m .head)))) → a .s .lines ≡ []
-    go m few (inl none) = m .lines-are ∙ none
-    go m few (inr some) = absurd (omega (arith, few, some, ap length (m .lines-are)))
+    go m few (none-or-some file (m .head) 0 (rowsIn file (m .head))) where
+      go : (m : Made file words room (a .s)) → length (a .s .lines) / 2 ≡ 0 → (linesFrom file (m .head) 0 (rowsIn file (m .head)) ≡ []) ⊎
+          (2 ≤ length (linesFrom file (m .head) 0 (rowsIn file (m .head)))) → a .s .lines ≡ []
+      go m few (inl none) = m .lines-are ∙ none
+      go m few (inr some) = absurd (omega (arith, few, some, ap length (m .lines-are)))
 
 -- ---- the file that was written, and theorems in the words of the lent outputs
 pub written-file : {file : List ℕ} {words room : ℕ} {counts : Counts} (a : Answered file words room counts) → take (counts .length′) (salvaged file words room .out) ≡ a .s .file
@@ -126,8 +119,7 @@ module _ (file : List ℕ) (words room : ℕ) (counts : Counts) (e : salvaged fi
   pub lent-again : (words′ room′ : ℕ) → counts .length′ ≤ room′
       → salvaged written words′ room′ ≡ record { reply = given (record { length′ = counts .length′; lines = 0; kept = counts .kept }); list = padded words′ []; out = padded room′ written }
   unfolding salvaged
-  lent-again words′ room′ fits =
-      let same = written-file a in
+  lent-again words′ room′ fits = let same = written-file a in
       let long : length (a .s .file) ≡ counts .length′ = sym (ap (λ (c : Counts). c .length′) (a .counted)) in
       let many : length (a .s .kept) ≡ counts .kept = sym (ap (λ (c : Counts). c .kept) (a .counted)) in
       let g = salvage-again file words words′ room room′ (a .s) (a .is) (omega (arith, long, fits)) in
@@ -143,7 +135,8 @@ module _ (file : List ℕ) (words room : ℕ) (counts : Counts) (e : salvaged fi
   -- No line: the same answers of lookups in it and in the old file.
   module _ (dropped : counts .lines ≡ 0) where
     pub lent-same : (strict strict′ : Bool) → SameAnswers strict written strict′ file
-    lent-same strict strict′ = subst (λ (f : List ℕ). SameAnswers strict f strict′ file) (sym (written-file a)) (salvage-same file words room (a .s) (a .is) (nothing-dropped a dropped) strict strict′)
+    lent-same strict strict′ =
+        subst (λ (f : List ℕ). SameAnswers strict f strict′ file) (sym (written-file a)) (salvage-same file words room (a .s) (a .is) (nothing-dropped a dropped) strict strict′)
 
     pub lent-same-simply : SameSimply written file
     lent-same-simply = subst (λ (f : List ℕ). SameSimply f file) (sym (written-file a)) (salvage-same-simply file words room (a .s) (a .is) (nothing-dropped a dropped))

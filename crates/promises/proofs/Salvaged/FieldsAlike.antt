@@ -1,9 +1,6 @@
 -- The strings of a record that read alike in two files are the same fields. Assumes nothing.
-use Prim.Native.Nat.{ℕ, suc, _+_, _-_}
-use lib.{Dec.{leb}, ListN.{length}}
-use mathlib.Core.{Bool.{Bool, true, false}, List.{List, _++_}, Path.{_≡_, refl, sym, ap, _∙_}}
+use Rattle.numbers.{proofs.Prelude.{ℕ, suc, _+_, _-_, leb, length, Bool, true, false, List, _++_, _≡_, refl, sym, ap, _∙_}, specs.Reply.{Reply, given, plain, demand, _>>=_, _>>_}}
 use Rattle.header.specs.{Field.{Field, field, fieldAt}, Text.{bytesOf, textAt}, declared.{header.Head.{Head}, text.Text.{Text}}}
-use Rattle.numbers.specs.Reply.{Reply, given, plain, demand, _>>=_, _>>_}
 use Rattle.promises.proofs.Salvaged.Carried.{SameTexts, no-more, one-more}
 use Rattle.zones.specs.Fields.{fieldsFrom}
 
@@ -30,9 +27,9 @@ fields-from {file} {new} {head} {head′} {more = suc more} {place = place} {pla
     ap (λ (r : Reply Field). r >>= further new head′ room more tag text) (field-at (head′ .strict) new (head′ .sections .metadata) place′ t′ reads′ tag left)
     ∙ ap (λ (b : List ℕ). fitted (leb (length (field tag b)) left) tag b (t′ .next) >>= further new head′ room more tag text) bytes
     ∙ go (leb (length (field tag (bytesOf file t))) left) (fields-from later room (tag + 1) (text ++ field tag (bytesOf file t)))
-    ∙ sym (ap (λ (r : Reply Field). r >>= further file head room more tag text) (field-at (head .strict) file (head .sections .metadata) place t reads tag left))
-  where
-    go : (test : Bool) → fieldsFrom new head′ room more (tag + 1) (t′ .next) (text ++ field tag (bytesOf file t)) ≡ fieldsFrom file head room more (tag + 1) (t .next) (text ++ field tag (bytesOf file t))
-        → (fitted test tag (bytesOf file t) (t′ .next) >>= further new head′ room more tag text) ≡ (fitted test tag (bytesOf file t) (t .next) >>= further file head room more tag text)
-    go true e = e
-    go false e = refl
+    ∙ sym (ap (λ (r : Reply Field). r >>= further file head room more tag text) (field-at (head .strict) file (head .sections .metadata) place t reads tag left)) where
+      go : (test : Bool) → fieldsFrom new head′ room more (tag + 1) (t′ .next) (text ++ field tag (bytesOf file t)) ≡ fieldsFrom file head room more (tag + 1)
+          (t .next) (text ++ field tag (bytesOf file t)) → (fitted test tag (bytesOf file t) (t′ .next) >>= further new head′ room more tag text) ≡
+          (fitted test tag (bytesOf file t) (t .next) >>= further file head room more tag text)
+      go true e = e
+      go false e = refl

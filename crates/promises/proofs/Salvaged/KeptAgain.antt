@@ -1,22 +1,15 @@
 -- `salvage-kept`: a salvaged file opens strictly, and its entries are exactly the kept ones, in order, each with its old box, metadata id and strings, and with a border
 -- that gives the verdict and distance it gave before, at every location. Assumes nothing.
-use Prim.Native.Nat.{ℕ, suc, _+_, _-_, _^_, _≤_}
-use lib.{ListN.{length, drop, length-drop}, Seq.{length-take-le}}
-use mathlib.Core.{Bool.{Bool, true}, List.{List, _∷_, flatMap}, Path.{_≡_, refl, sym, ap, subst, _∙_}}
-use native.Mathlib.Omega.{arith}
+use Rattle.numbers.proofs.Prelude.{ℕ, suc, _+_, _-_, _^_, _≤_, length, drop, length-drop, length-take-le, Bool, true, List, _∷_, flatMap, _≡_, refl, sym, ap, subst, _∙_, arith}
+use Rattle.numbers.{proofs.Replies.{given-one}, specs.Reply.{Reply, given, _>>=_}}
 use Rattle.header.specs.{Header.{headBy}, Text.{bytesOf, textAt}, declared.{header.{Head.{Head}, Preamble.{Preamble}}, text.Text.{Text}}}
-use Rattle.salvage.proofs.moves.Again.{same-judgement}
-use Rattle.numbers.specs.Reply.{Reply, given, _>>=_}
-use Rattle.salvage.specs.{File.{borderBytes, tableFrom, metadataOf, newFile}, Kept.{encodingIn, borderPlace, recordPlace}}
+use Rattle.salvage.{proofs.moves.Again.{same-judgement}, specs.{File.{borderBytes, tableFrom, metadataOf, newFile}, Kept.{encodingIn, borderPlace, recordPlace}}}
 use Rattle.salvage.specs.Promises.{valuesFrom, KeptEntry, KeptAs, none, some, KeptFile, SalvageKept}
-use Rattle.table.specs.{Rows.{rowsIn}, declared.rows.Row.{Row}}
-use Rattle.promises.proofs.Salvaged.Carried.{SameTexts, no-more, one-more, Shifted, Carried, AllCarried, no-rows, next-row, all-carried}
-use Rattle.promises.proofs.Salvaged.{Opened.{Opened, opened-from, opened-small}, Opens.{new-opens}, Parts.{made-from, at-table, at-metadata, at-data, new-length}}
-use Rattle.promises.proofs.Salvaged.{Sound.{Every, Sound, kept-sound}, TableAgain.{rows-read, entries-many}}
+use Rattle.table.specs.{Rows.{rowsIn, asRows}, declared.rows.Row.{Row}}
+use Rattle.promises.proofs.Salvaged.{Carried.{SameTexts, no-more, one-more, Shifted, Carried, AllCarried, no-rows, next-row, all-carried}, Opened.{Opened, opened-from, opened-small}}
+use Rattle.promises.proofs.Salvaged.{Opens.{new-opens}, Parts.{made-from, at-table, at-metadata, at-data, new-length}, Sound.{Every, Sound, kept-sound}, TableAgain.{rows-read, entries-many}}
 use Rattle.border.proofs.AtPlace.{at-place}
 use Rattle.promises.specs.inner.Salvaged.Seats.{tablePlace, newHead, seatsOf}
-use Rattle.table.specs.Rows.{asRows}
-use Rattle.numbers.proofs.Replies.{given-one}
 
 -- ---- the values of a record
 values-step : (file : List ℕ) (head : Head) (more place : ℕ) (text : Text) → textAt (head .strict) file (head .sections .metadata) place (record { number = 15; detail = 0 }) ≡ given text
@@ -24,14 +17,13 @@ values-step : (file : List ℕ) (head : Head) (more place : ℕ) (text : Text) �
 unfolding valuesFrom
 values-step file head more place text e = rw e
 
-pub values-same : {file new : List ℕ} {head head′ : Head} {more place place′ : ℕ} → SameTexts file new head head′ more place place′ → valuesFrom new head′ more place′ ≡ valuesFrom file head more place
+pub values-same : {file new : List ℕ} {head head′ : Head} {more place place′ : ℕ} → SameTexts file new head head′ more place place′
+    → valuesFrom new head′ more place′ ≡ valuesFrom file head more place
 unfolding valuesFrom
 values-same no-more = refl
 values-same {file} {new} {head} {head′} {more = suc more} {place = place} {place′ = place′} (one-more text text′ reads reads′ bytes placed later) =
-    values-step new head′ more place′ text′ reads′
-    ∙ ap (λ (v : Reply (List (List ℕ))). v >>= λ rest. given (bytesOf new text′ ∷ rest)) (values-same later)
-    ∙ ap (λ (b : List ℕ). valuesFrom file head more (text .next) >>= λ rest. given (b ∷ rest)) bytes
-    ∙ sym (values-step file head more place text reads)
+    values-step new head′ more place′ text′ reads′ ∙ ap (λ (v : Reply (List (List ℕ))). v >>= λ rest. given (bytesOf new text′ ∷ rest)) (values-same later)
+    ∙ ap (λ (b : List ℕ). valuesFrom file head more (text .next) >>= λ rest. given (b ∷ rest)) bytes ∙ sym (values-step file head more place text reads)
 
 pub kept-entry : {file new : List ℕ} {head head′ : Head} {old r : Row} → head′ .preamble ≡ head .preamble → Carried file new head head′ old r → KeptEntry file new head head′ old r
 kept-entry {file} {new} {head} {head′} {old} {r} preamble c =
@@ -48,8 +40,8 @@ kept-as preamble no-rows = none
 kept-as preamble (next-row c later) = some (kept-entry preamble c) (kept-as preamble later)
 
 -- ---- the new file's rows
-module _ (file : List ℕ) (head : Head) (texts : List ℕ) (kept : List Row) (new : List ℕ) (is : new ≡ newFile file head texts kept) (small : length new ≤ 2 ^ 30) (opens : headBy true file ≡ given head)
-    (sound : Every (Sound file head) kept) where
+module _ (file : List ℕ) (head : Head) (texts : List ℕ) (kept : List Row) (new : List ℕ) (is : new ≡ newFile file head texts kept) (small : length new ≤ 2 ^ 30)
+    (opens : headBy true file ≡ given head) (sound : Every (Sound file head) kept) where
   opened : Opened file head
   opened = opened-from file head opens
 
@@ -58,7 +50,8 @@ module _ (file : List ℕ) (head : Head) (texts : List ℕ) (kept : List Row) (n
 
   metadata-length : length (metadataOf file head) ≡ head .sections .«data» - head .sections .metadata
   metadata-length =
-      length-take-le (head .sections .«data» - head .sections .metadata) (drop (head .sections .metadata) file) (omega (arith, length-drop (head .sections .metadata) file, opened .inside, opened .in-order))
+      length-take-le (head .sections .«data» - head .sections .metadata) (drop (head .sections .metadata) file)
+      (omega (arith, length-drop (head .sections .metadata) file, opened .inside, opened .in-order))
 
   module _ (strict : Bool) where
     pub shifted : Shifted file head new (newHead file head strict texts kept)
@@ -79,15 +72,15 @@ module _ (file : List ℕ) (head : Head) (texts : List ℕ) (kept : List Row) (n
     pub rows-are : rowsIn new (newHead file head strict texts kept) ≡ asRows (seatsOf file head texts kept)
     unfolding rowsIn newHead seatsOf
     rows-are =
-        rows-read file head strict new (tablePlace file head texts kept + length (tableFrom file head 0 0 kept)) kept sound (tablePlace file head texts kept) 0 0 0 0 (omega arith) (omega (arith, whole, small))
-        (at-table file head texts kept new is) refl (omega (arith, entries-many file head kept sound 0 0, whole, small))
+        rows-read file head strict new (tablePlace file head texts kept + length (tableFrom file head 0 0 kept)) kept sound (tablePlace file head texts kept) 0
+        0 0 0 (omega arith) (omega (arith, whole, small)) (at-table file head texts kept new is) refl (omega (arith, entries-many file head kept sound 0 0, whole, small))
 
     pub rows-carried : AllCarried file new head (newHead file head strict texts kept) kept (seatsOf file head texts kept)
     unfolding newHead seatsOf
-    rows-carried =
-        let start = tablePlace file head texts kept + (length (tableFrom file head 0 0 kept) + length (metadataOf file head)) in
+    rows-carried = let start = tablePlace file head texts kept + (length (tableFrom file head 0 0 kept) + length (metadataOf file head)) in
         let none-yet : start ≡ start + (0 + 0) = omega arith in
-        all-carried file head new (newHead file head strict texts kept) shifted kept sound (tablePlace file head texts kept) 0 0 0 0 (at-place none-yet (at-data file head texts kept new is)) (omega (arith, whole, small))
+        all-carried file head new (newHead file head strict texts kept) shifted kept sound (tablePlace file head texts kept) 0 0 0 0 (at-place none-yet
+        (at-data file head texts kept new is)) (omega (arith, whole, small))
 
 -- ---- the theorem
 pub salvage-kept : SalvageKept

@@ -1,23 +1,18 @@
 -- A salvaged file opens, plainly and strictly, with the type, version, precision, names and notice of the old one. Assumes nothing.
-use Prim.Native.Nat.{ℕ, _+_, _^_, _≤_}
-use lib.{Dec.{leb}, ListN.{length, take}}
-use mathlib.Core.{Bool.{Bool, true, false}, List.{List, [], _∷_, _++_}, Logic.{_⊎_, inl, inr}, Path.{_≡_, refl, sym, ap, _∙_}}
-use native.Mathlib.Omega.{arith}
-use Rattle.border.proofs.OnWay.{at-first, at-next}
-use Rattle.header.proofs.StrictHead.{strict-open-or-plain}
-use Rattle.header.specs.{Header.{preambleOf, textsOf, sectionsAt, Contents, contentsBy, headBy}, Opening.{fittingOf, Replied, repliedOf, openedBy}}
-use Rattle.header.specs.declared.{header.Head.{Head}, opening.Opening.{Opening}}
+use Rattle.numbers.proofs.Prelude.{ℕ, _+_, _^_, _≤_, leb, length, take, Bool, true, false, List, [], _∷_, _++_, _⊎_, inl, inr, _≡_, refl, sym, ap, _∙_, arith}
 use Rattle.numbers.specs.{Reply.{Reply, given, refused, plain, demand, _>>_}, Spelling.{varintOf}}
+use Rattle.border.proofs.{AtPlace.{at-behind, number-at}, OnWay.{at-first, at-next}}
+use Rattle.header.{proofs.StrictHead.{strict-open-or-plain}, specs.{Header.{preambleOf, textsOf, sectionsAt, Contents, contentsBy, headBy}, Opening.{fittingOf, Replied, repliedOf, openedBy}}}
+use Rattle.header.specs.declared.{header.Head.{Head}, opening.Opening.{Opening}}
 use Rattle.salvage.specs.{File.{headTexts, tableFrom, metadataOf, newFile}, Salvage.{Salvaged, salvagedOf}}
 use Rattle.table.specs.declared.rows.Row.{Row}
-use Rattle.border.proofs.AtPlace.{at-behind, number-at}
-use Rattle.promises.proofs.Salvaged.Opened.{Opened, Seven, opened-from, opened-seven, preamble-again}
-use Rattle.promises.proofs.Salvaged.{TextsAgain.{SameNames, Both, texts-again}, Parts.{made-from, dataIn, sizes, sections, in-parts, at-sizes, new-length}}
-use Rattle.header.proofs.ReadBack as R
+use Rattle.promises.proofs.Salvaged.{Opened.{Opened, Seven, opened-from, opened-seven, preamble-again}, Parts.{made-from, dataIn, sizes, sections, in-parts, at-sizes, new-length}}
+use Rattle.promises.proofs.Salvaged.TextsAgain.{SameNames, Both, texts-again}
 use Rattle.promises.specs.{Salvaged.Opens.{OpensStrictly}, inner.Salvaged.Seats.{tablePlace, newHead}}
+use Rattle.header.proofs.ReadBack as R
 
-module _ (file : List ℕ) (head : Head) (texts : List ℕ) (kept : List Row) (new : List ℕ) (is : new ≡ newFile file head texts kept) (small : length new ≤ 2 ^ 30) (opens : headBy true file ≡ given head)
-    (inline : headTexts file head ≡ given texts) (strict : Bool) where
+module _ (file : List ℕ) (head : Head) (texts : List ℕ) (kept : List Row) (new : List ℕ) (is : new ≡ newFile file head texts kept) (small : length new ≤ 2 ^ 30)
+    (opens : headBy true file ≡ given head) (inline : headTexts file head ≡ given texts) (strict : Bool) where
   opened : Opened file head
   opened = opened-from file head opens
 
@@ -46,7 +41,9 @@ module _ (file : List ℕ) (head : Head) (texts : List ℕ) (kept : List Row) (n
   head′ = newHead file head strict texts kept
 
   both : Both file head new head′ (head .preamble .count) (head .preamble .count + 1) 0 7 7 (opened .texts .bytes) texts
-  both = texts-again file head (opened .strict) new head′ (head .preamble .count) (head .preamble .count + 1) 0 7 7 (opened .texts) texts (opened .texts-are) inline (at-behind seven texts behind in-seven)
+  both =
+      texts-again file head (opened .strict) new head′ (head .preamble .count) (head .preamble .count + 1) 0 7 7 (opened .texts) texts (opened .texts-are)
+      inline (at-behind seven texts behind in-seven)
 
   read-texts : textsOf strict new (head .preamble .count) ≡ given (record { bytes = opened .texts .bytes; place = length (take 7 file ++ texts) })
   unfolding newHead
@@ -54,20 +51,14 @@ module _ (file : List ℕ) (head : Head) (texts : List ℕ) (kept : List Row) (n
 
   read-sections : sectionsAt strict new (length (take 7 file ++ texts)) ≡ given (head′ .sections)
   unfolding newHead tablePlace
-  read-sections =
-      let p = length (take 7 file ++ texts) in
-      let t = length (tableFrom file head 0 0 kept) in
-      let m = length (metadataOf file head) in
-      let d = length (dataIn file head texts kept new is) in
-      let whole = new-length file head texts kept new is in
-      let first = at-sizes file head texts kept new is in
-      let second = at-next new p (varintOf t) (varintOf m ++ varintOf d) first in
+  read-sections = let p = length (take 7 file ++ texts) in let t = length (tableFrom file head 0 0 kept) in let m = length (metadataOf file head) in
+      let d = length (dataIn file head texts kept new is) in let whole = new-length file head texts kept new is in
+      let first = at-sizes file head texts kept new is in let second = at-next new p (varintOf t) (varintOf m ++ varintOf d) first in
       let third = at-next new (p + length (varintOf t)) (varintOf m) (varintOf d) second in
-      R.sections-are strict new p (p + length (varintOf t)) (p + length (varintOf t) + length (varintOf m)) (p + length (varintOf t) + length (varintOf m) + length (varintOf d)) t m d small
-      (number-at strict new p t (omega arith) (at-first new p (varintOf t) (varintOf m ++ varintOf d) first))
+      R.sections-are strict new p (p + length (varintOf t)) (p + length (varintOf t) + length (varintOf m)) (p + length (varintOf t) + length (varintOf m)
+      + length (varintOf d)) t m d small (number-at strict new p t (omega arith) (at-first new p (varintOf t) (varintOf m ++ varintOf d) first))
       (number-at strict new (p + length (varintOf t)) m (omega arith) (at-first new (p + length (varintOf t)) (varintOf m) (varintOf d) second))
-      (number-at strict new (p + length (varintOf t) + length (varintOf m)) d (omega arith) third)
-      whole
+      (number-at strict new (p + length (varintOf t) + length (varintOf m)) d (omega arith) third) whole
 
   contents-are : contentsBy strict new ≡ given (record { head = head′; bytes = opened .texts .bytes })
   unfolding newHead
@@ -92,13 +83,11 @@ module _ (file : List ℕ) (head : Head) (texts : List ℕ) (kept : List Row) (n
   -- opened with so much room for text, it replies and lends what the old one does
   pub opens-so : (room : ℕ) → openedBy strict new room ≡ openedBy true file room
   unfolding openedBy fittingOf newHead
-  opens-so room = rw (contents-are, opened .contents) (go (leb (length (opened .texts .bytes)) room))
-    where
-      go : (fits : Bool)
-          → repliedOf room (demand fits (plain 18) >> given (record { head = head′; bytes = opened .texts .bytes }))
-          ≡ repliedOf room (demand fits (plain 18) >> given (record { head = head; bytes = opened .texts .bytes }))
-      go true = refl
-      go false = refl
+  opens-so room = rw (contents-are, opened .contents) (go (leb (length (opened .texts .bytes)) room)) where
+    go : (fits : Bool) → repliedOf room (demand fits (plain 18) >> given (record { head = head′; bytes = opened .texts .bytes })) ≡ repliedOf room
+        (demand fits (plain 18) >> given (record { head = head; bytes = opened .texts .bytes }))
+    go true = refl
+    go false = refl
 
 -- ---- the old file, which opens strictly, opens plainly to the same
 module _ (file : List ℕ) (head : Head) (opens : headBy true file ≡ given head) (room : ℕ) where
@@ -121,11 +110,10 @@ module _ (file : List ℕ) (head : Head) (opens : headBy true file ≡ given hea
   never-cut contents false e = let z : _≡_ {A = ℕ} 18 31 = ap numberIn e in omega arith
 
   plainly-so : openedBy true file room ≡ openedBy false file room
-  plainly-so = go (strict-open-or-plain file room)
-    where
-      go : (openedBy true file room ≡ repliedOf room (refused (plain 31))) ⊎ (openedBy true file room ≡ openedBy false file room) → openedBy true file room ≡ openedBy false file room
-      go (inl e) = absurd (never-cut (record { head = head; bytes = old .texts .bytes }) fitting (ap (λ (r : Replied). r .reply) (sym strictly-so ∙ e)))
-      go (inr e) = e
+  plainly-so = go (strict-open-or-plain file room) where
+    go : (openedBy true file room ≡ repliedOf room (refused (plain 31))) ⊎ (openedBy true file room ≡ openedBy false file room) → openedBy true file room ≡ openedBy false file room
+    go (inl e) = absurd (never-cut (record { head = head; bytes = old .texts .bytes }) fitting (ap (λ (r : Replied). r .reply) (sym strictly-so ∙ e)))
+    go (inr e) = e
 
   pub opens-either : (strict : Bool) → openedBy true file room ≡ openedBy strict file room
   opens-either true = refl
@@ -135,13 +123,11 @@ module _ (file : List ℕ) (head : Head) (opens : headBy true file ≡ given hea
 -- The result of a salvage, opened plainly or strictly and with whatever room for text, gives the reply and the text of the old file: type, version, precision, number of names, names and notice.
 pub salvaged-opens-alike : (file : List ℕ) (words room : ℕ) (s : Salvaged) → salvagedOf file words room ≡ given s → (strict strict′ : Bool) (text : ℕ)
     → openedBy strict (s .file) text ≡ openedBy strict′ file text
-salvaged-opens-alike file words room s e strict strict′ text =
-    let m = made-from file words room s e in
+salvaged-opens-alike file words room s e strict strict′ text = let m = made-from file words room s e in
     opens-so file (m .head) (m .texts) (s .kept) (s .file) (m .is) (m .small) (m .opens) (m .inline) strict text ∙ opens-either file (m .head) (m .opens) text strict′
 
 -- ---- `salvaged-strict`
 -- The result of a salvage opens strictly.
 pub salvaged-strict : (file : List ℕ) (words room : ℕ) (s : Salvaged) → salvagedOf file words room ≡ given s → OpensStrictly (s .file)
-salvaged-strict file words room s e =
-    let m = made-from file words room s e in
+salvaged-strict file words room s e = let m = made-from file words room s e in
     record { head = newHead file (m .head) true (m .texts) (s .kept); opens = new-opens file (m .head) (m .texts) (s .kept) (s .file) (m .is) (m .small) (m .opens) (m .inline) true }

@@ -1,16 +1,10 @@
 -- What an answered salvage is made of: the new file's parts, one after the other, and where each begins. Assumes nothing.
-use Prim.Native.Nat.{ℕ, _+_, _^_, _≤_, _<_, min}
-use borrow.Author.Tests.{leb-true, ltb-true}
-use lib.{Dec.{leb, ltb}, ListN.{length, take, length-append}}
-use mathlib.Core.{Bool.{true, _&&_}, List.{List, [], _++_, flatMap, append-nil, append-assoc}, Path.{_≡_, sym, ap, _∙_}}
-use native.Mathlib.Omega.{arith}
-use Rattle.border.proofs.OnWay.{At, at-first, at-next}
-use Rattle.numbers.proofs.Tests.{both}
+use Rattle.numbers.proofs.Prelude.{ℕ, _+_, _^_, _≤_, _<_, min, leb-true, ltb-true, ltb, leb, length, take, length-append, true, _&&_, List, [], _++_, append-assoc, append-nil, flatMap, _≡_, sym, ap}
+use Rattle.numbers.{proofs.{Prelude.{_∙_, arith}, Replies.{given-from, demanded}, Tests.{both}}, specs.{Reply.{given, plain}, Spelling.{varintOf}}}
+use Rattle.border.proofs.{AtPlace.{at-behind, at-place}, OnWay.{At, at-first, at-next}}
 use Rattle.header.specs.{Header.{headBy}, declared.header.Head.{Head}}
-use Rattle.numbers.{proofs.Replies.{given-from, demanded}, specs.{Reply.{given, plain}, Spelling.{varintOf}}}
 use Rattle.salvage.specs.{File.{headTexts, borderBytes, tableFrom, metadataOf, assembled, newFile}, Kept.{keptOf, linesFrom}, Salvage.{Salvaged, salvagedOf}}
 use Rattle.table.specs.{Rows.{rowsIn}, declared.rows.Row.{Row}}
-use Rattle.border.proofs.AtPlace.{at-behind, at-place}
 use Rattle.promises.specs.inner.Salvaged.Seats.{tablePlace}
 
 pub record Made (file : List ℕ) (words room : ℕ) (s : Salvaged) : Type 0 where
@@ -26,21 +20,13 @@ pub record Made (file : List ℕ) (words room : ℕ) (s : Salvaged) : Type 0 whe
 
 pub made-from : (file : List ℕ) (words room : ℕ) (s : Salvaged) → salvagedOf file words room ≡ given s → Made file words room s
 unfolding salvagedOf
-made-from file words room s e =
-    let first = given-from (headBy true file) _ (sym e) in
-    let head = first .it in
-    let second = given-from (headTexts file head) _ (first .onto) in
-    let texts = second .it in
-    let kept = keptOf file head (rowsIn file head) in
-    let lines = linesFrom file head 0 (rowsIn file head) in
-    let new = newFile file head texts kept in
+made-from file words room s e = let first = given-from (headBy true file) _ (sym e) in let head = first .it in
+    let second = given-from (headTexts file head) _ (first .onto) in let texts = second .it in let kept = keptOf file head (rowsIn file head) in
+    let lines = linesFrom file head 0 (rowsIn file head) in let new = newFile file head texts kept in
     let third = demanded (leb (length new) (min room (2 ^ 30)) && leb (length lines) words) (plain 28) (second .onto) in
-    let fourth = demanded (ltb 0 (length kept)) (plain 32) (third .1) in
-    let same : s ≡ record { file = new; lines = lines; kept = kept } = cc (fourth .1) in
+    let fourth = demanded (ltb 0 (length kept)) (plain 32) (third .1) in let same : s ≡ record { file = new; lines = lines; kept = kept } = cc (fourth .1) in
     let fits : length new ≤ min room (2 ^ 30) = leb-true _ _ (both (leb (length new) (min room (2 ^ 30))) (leb (length lines) words) (third .0) .0) in
-    let kept-are : s .kept ≡ kept = ap (λ (x : Salvaged). x .kept) same in
-    let file-is : s .file ≡ new = ap (λ (x : Salvaged). x .file) same in
-    record {
+    let kept-are : s .kept ≡ kept = ap (λ (x : Salvaged). x .kept) same in let file-is : s .file ≡ new = ap (λ (x : Salvaged). x .file) same in record {
       head = head;
       texts = texts;
       opens = sym (first .is);
@@ -79,11 +65,17 @@ module _ (file : List ℕ) (head : Head) (texts : List ℕ) (kept : List Row) (n
   sizes-length : length header + length sizes ≡ tablePlace file head texts kept
   unfolding tablePlace
   sizes-length =
-      omega (arith, length-append (varintOf (length tableIn)) (varintOf (length (metadataOf file head)) ++ varintOf (length dataIn)), length-append (varintOf (length (metadataOf file head))) (varintOf (length dataIn)))
+      omega (
+        arith,
+        length-append (varintOf (length tableIn)) (varintOf (length (metadataOf file head)) ++ varintOf (length dataIn)),
+        length-append
+            (varintOf (length (metadataOf file head))) (varintOf (length dataIn)),
+      )
 
   at-sections : At new (tablePlace file head texts kept) sections
   at-sections =
-      at-place (length-append header sizes ∙ sizes-length) (at-behind (header ++ sizes) sections [] (in-parts ∙ (sym (append-assoc header sizes sections) ∙ ap (λ (s : List ℕ). (header ++ sizes) ++ s) (sym (append-nil sections)))))
+      at-place (length-append header sizes ∙ sizes-length) (at-behind (header ++ sizes) sections [] (in-parts ∙ (sym (append-assoc header sizes sections)
+      ∙ ap (λ (s : List ℕ). (header ++ sizes) ++ s) (sym (append-nil sections)))))
 
   pub at-table : At new (tablePlace file head texts kept) tableIn
   at-table = at-first new (tablePlace file head texts kept) tableIn (metadataOf file head ++ dataIn) at-sections

@@ -1,27 +1,22 @@
 -- `salvage-same`: where nothing was dropped, the new file gives the same matches, texts and safezone, or the same refusal, for every location, however the two files are opened: the end mark and the
 -- places of the entries aside. Assumes nothing.
-use Prim.Native.Nat.{ℕ, zero, suc, _+_, _%_, _^_, _<_}
-use lib.{Dec.{ltb}, ListN.{length}}
-use mathlib.Core.{Bool.{Bool, true, false}, List.{List, [], _∷_}, Path.{_≡_, refl, sym, ap, subst, _∙_}}
-use native.Mathlib.Omega.{arith}
+use Rattle.numbers.proofs.{Answers.{All, then-all, any}, Prelude.{ℕ, zero, suc, _+_, _%_, _^_, _<_, ltb, length, Bool, true, false, List, [], _∷_, _≡_, refl, sym, ap, subst, _∙_, arith}}
+use Rattle.numbers.{proofs.Readings.{Grows, reading-grows}, specs.{Answer.{Answer, found, failed, if_then_else_}, Reply.{Reply, given, _>>=_}, Varint.{Numeral, readingOf}}}
 use Rattle.header.specs.{Header.{headBy}, declared.header.Head.{Head}}
-use Rattle.salvage.proofs.moves.Again.{same-judgement}
-use Rattle.numbers.{proofs.Answers.{All, then-all, any}, specs.{Answer.{Answer, found, failed, if_then_else_}, Reply.{Reply, given, _>>=_}, Varint.{Numeral, readingOf}}}
+use Rattle.salvage.{proofs.{data.Drawing.{kept-closes}, moves.Again.{same-judgement}}, specs.Kept.{encodingIn, borderPlace, entryGood, keptIf, lineIf, keptOf, linesFrom}}
+use Rattle.salvage.specs.Salvage.{Salvaged, salvagedOf}
+use Rattle.table.{proofs.TableRows.{rows-step}, specs.{Rows.{Rows, tableEnd, unreadable, after, startAt, rowsThen, rowBy, rowsFrom, rowsIn, asRows}, Table.{entryBy}}}
+use Rattle.table.specs.declared.{location.Location.{Location}, rows.{Cursor.{Cursor}, Row.{Row}}, table.Entry.{Entry}}
+use Rattle.zones.specs.{Fields.{fieldsPlace}, Lent.{Outcome}, Lookup.{zonesBy}, Simple.{describedWith, describedIn}, declared.{lookup.Zones.{Zones}, simple.Described.{Described}}}
+use Rattle.promises.proofs.Salvaged.{Alike.{AllLike, none-like, next-like}, Carried.{SameTexts, AllCarried, no-rows, next-row}, DescribedAlike.{described-like}}
+use Rattle.promises.proofs.Salvaged.{KeptAgain.{rows-are, rows-carried}, LookedAlike.{zones-like}, Opens.{new-opens, names-alike}, Parts.{Made, made-from, new-length}}
+use Rattle.promises.proofs.Salvaged.{PlainOld.{opened, plainly, plain-head, plain-judged, plain-texts, plain-rows-are, plain-names}, Sound.{Every, Sound, kept-sound}}
+use Rattle.promises.proofs.Salvaged.{TableAgain.{entries-many}, TextsAgain.{SameNames, no-names, one-name}}
+use Rattle.promises.specs.{Salvaged.Same.{unmarked, comparedBy, SameAnswers, unmarkedSimple, simplyCompared, SameSimply}, inner.Salvaged.Seats.{newHead, seatsFrom, seatsOf}}
 use Rattle.numbers.specs.Answer as A
 use Rattle.numbers.specs.Reply as R
-use Rattle.salvage.{proofs.data.Drawing.{kept-closes}, specs.{Kept.{encodingIn, borderPlace, entryGood, keptIf, lineIf, keptOf, linesFrom}, Salvage.{Salvaged, salvagedOf}}}
-use Rattle.table.{proofs.TableRows.{Grows, reading-grows, rows-step}, specs.{Rows.{Rows, tableEnd, unreadable, after, startAt, rowsThen, rowBy, rowsFrom, rowsIn}, Table.{entryBy}}}
-use Rattle.table.specs.declared.{location.Location.{Location}, rows.{Cursor.{Cursor}, Row.{Row}}, table.Entry.{Entry}}
 use Rattle.table.specs.Rows as T
-use Rattle.zones.specs.{Fields.{fieldsPlace}, Lent.{Outcome}, Lookup.{zonesBy}, Simple.{describedWith, describedIn}, declared.{lookup.Zones.{Zones}, simple.Described.{Described}}}
-use Rattle.promises.proofs.Salvaged.{Alike.{AllLike, none-like, next-like}, KeptAgain.{rows-are, rows-carried}, LookedAlike.{zones-like}}
-use Rattle.promises.proofs.Salvaged.Carried.{SameTexts, AllCarried, no-rows, next-row}
-use Rattle.promises.proofs.Salvaged.{PlainOld.{opened, plainly, plain-head, plain-judged, plain-texts, plain-rows-are, plain-names}, Opens.{new-opens, names-alike}}
-use Rattle.promises.proofs.Salvaged.{Parts.{Made, made-from, new-length}, Sound.{Every, Sound, kept-sound}, TableAgain.{entries-many}, DescribedAlike.{described-like}}
-use Rattle.promises.proofs.Salvaged.TextsAgain.{SameNames, no-names, one-name}
 use Rattle.promises.proofs.Salvaged.Sound as E
-use Rattle.promises.specs.{Salvaged.Same.{unmarked, comparedBy, SameAnswers, unmarkedSimple, simplyCompared, SameSimply}, inner.Salvaged.Seats.{newHead, seatsFrom, seatsOf}}
-use Rattle.table.specs.Rows.{asRows}
 
 -- ---- rows are numbered one by one
 data Numbered : ℕ → List Row → Type 0 where
@@ -36,22 +31,19 @@ module _ (read : ℕ → Answer Numeral) (grows : Grows read) (last : ℕ) where
   numbered : (rows : List Row) (at : Cursor) → rowsFrom read last at ≡ asRows rows → at .id + length rows < 2 ^ 32 → Numbered (at .id) rows
   unfolding asRows rowsThen
   numbered [] at e few = no-one
-  numbered (r ∷ rows) at e few = go (ltb (at .place) last) (sym (rows-step read grows last at) ∙ e) (numbered rows)
-    where
-      found-row : (answer : Answer Row) → All (λ (r : Row). r .id ≡ at .id) answer → rowsThen answer (rowsFrom read last) ≡ T.row r (asRows rows)
-          → ((at : Cursor) → rowsFrom read last at ≡ asRows rows → at .id + length rows < 2 ^ 32 → Numbered (at .id) rows) → Numbered (at .id) (r ∷ rows)
-      found-row (found q) own e later =
-          let same : q ≡ r = cc (e) in
-          let rest : rowsFrom read last (after q) ≡ asRows rows = cc (e) in
-          let next : (q .id + 1) % 2 ^ 32 ≡ at .id + 1 = omega (arith, own, few) in
-          one-by-one (ap (λ (x : Row). x .id) (sym same) ∙ own) (subst (λ (n : ℕ). Numbered n rows) next (later (after q) rest (omega (arith, next, few))))
-      found-row failed own e later = let z : _≡_ {A = ℕ} 0 1 = cc in absurd (omega arith)
-      found-row (A.refused n) own e later = let z : _≡_ {A = ℕ} 0 1 = cc in absurd (omega arith)
+  numbered (r ∷ rows) at e few = go (ltb (at .place) last) (sym (rows-step read grows last at) ∙ e) (numbered rows) where
+    found-row : (answer : Answer Row) → All (λ (r : Row). r .id ≡ at .id) answer → rowsThen answer (rowsFrom read last) ≡ T.row r (asRows rows)
+        → ((at : Cursor) → rowsFrom read last at ≡ asRows rows → at .id + length rows < 2 ^ 32 → Numbered (at .id) rows) → Numbered (at .id) (r ∷ rows)
+    found-row (found q) own e later = let same : q ≡ r = cc (e) in let rest : rowsFrom read last (after q) ≡ asRows rows = cc (e) in
+        let next : (q .id + 1) % 2 ^ 32 ≡ at .id + 1 = omega (arith, own, few) in
+        one-by-one (ap (λ (x : Row). x .id) (sym same) ∙ own) (subst (λ (n : ℕ). Numbered n rows) next (later (after q) rest (omega (arith, next, few))))
+    found-row failed own e later = let z : _≡_ {A = ℕ} 0 1 = cc in absurd (omega arith)
+    found-row (A.refused n) own e later = let z : _≡_ {A = ℕ} 0 1 = cc in absurd (omega arith)
 
-      go : (test : Bool) → (if test then rowsThen (rowBy read at) (rowsFrom read last) else tableEnd) ≡ T.row r (asRows rows)
-          → ((at : Cursor) → rowsFrom read last at ≡ asRows rows → at .id + length rows < 2 ^ 32 → Numbered (at .id) rows) → Numbered (at .id) (r ∷ rows)
-      go true e later = found-row (rowBy read at) (row-number at) e later
-      go false e later = let z : _≡_ {A = ℕ} 0 1 = cc in absurd (omega arith)
+    go : (test : Bool) → (if test then rowsThen (rowBy read at) (rowsFrom read last) else tableEnd) ≡ T.row r (asRows rows)
+        → ((at : Cursor) → rowsFrom read last at ≡ asRows rows → at .id + length rows < 2 ^ 32 → Numbered (at .id) rows) → Numbered (at .id) (r ∷ rows)
+    go true e later = found-row (rowBy read at) (row-number at) e later
+    go false e later = let z : _≡_ {A = ℕ} 0 1 = cc in absurd (omega arith)
 
 -- ---- the new file's rows are like the old ones
 module _ (file : List ℕ) (head : Head) (new : List ℕ) (head′ : Head) (preamble : head′ .preamble ≡ head .preamble) where
@@ -64,7 +56,8 @@ module _ (file : List ℕ) (head : Head) (new : List ℕ) (head′ : Head) (prea
         number = sym own;
         box = c .box;
         id = c .id;
-        border = λ fix asked least. same-judgement file new (encodingIn file head) (encodingIn new head′) (borderPlace file head old) (borderPlace new head′ r) (c .border) (fix .lat) (fix .lon) asked least;
+        border = λ fix asked least. same-judgement file new (encodingIn file head) (encodingIn new head′) (borderPlace file head old) (borderPlace new head′ r)
+            (c .border) (fix .lat) (fix .lon) asked least;
         strings = subst (λ (n : ℕ). SameTexts file new head head′ (head .preamble .count) (fieldsPlace head (old .metadata)) (fieldsPlace head′ n)) (c .id) (c .texts);
       }) (like-new rows _ (number + 1) (old .metadata) _ (polygon + size) more later)
 
@@ -72,12 +65,11 @@ module _ (file : List ℕ) (head : Head) (new : List ℕ) (head′ : Head) (prea
 module _ (file : List ℕ) (head : Head) where
   none-dropped : (number : ℕ) (rows : Rows) → linesFrom file head number rows ≡ [] → rows ≡ asRows (keptOf file head rows)
   unfolding linesFrom keptOf asRows
-  none-dropped number (T.row r rows) e = go (entryGood file head r) e (none-dropped (number + 1) rows)
-    where
-      go : (g : Reply (Unit {0})) → lineIf g number (linesFrom file head (number + 1) rows) ≡ [] → (linesFrom file head (number + 1) rows ≡ [] → rows ≡ asRows (keptOf file head rows))
-          → T.row r rows ≡ asRows (keptIf g r (keptOf file head rows))
-      go (given tt) e later = ap (T.row r) (later e)
-      go (R.refused why) e later = let z : _≡_ {A = ℕ} 0 1 = cc in absurd (omega arith)
+  none-dropped number (T.row r rows) e = go (entryGood file head r) e (none-dropped (number + 1) rows) where
+    go : (g : Reply (Unit {0})) → lineIf g number (linesFrom file head (number + 1) rows) ≡ [] → (linesFrom file head (number + 1) rows ≡ [] → rows ≡ asRows (keptOf file head rows))
+        → T.row r rows ≡ asRows (keptIf g r (keptOf file head rows))
+    go (given tt) e later = ap (T.row r) (later e)
+    go (R.refused why) e later = let z : _≡_ {A = ℕ} 0 1 = cc in absurd (omega arith)
   none-dropped number tableEnd e = refl
   none-dropped number unreadable e = let z : _≡_ {A = ℕ} 0 1 = cc in absurd (omega arith)
   none-dropped number (T.refused n) e = let z : _≡_ {A = ℕ} 0 1 = cc in absurd (omega arith)
@@ -141,10 +133,14 @@ module _ (file : List ℕ) (words room : ℕ) (s : Salvaged) (e : salvagedOf fil
 
     new-old : (strict : Bool) → answer (s .file) (given (head′ strict)) ≡ answer file (given head)
     unfolding newHead
-    new-old strict = zones-like file (s .file) head (head′ strict) refl (s .kept) seats (like strict) old-rows (rows-are file head (made .texts) (s .kept) (s .file) (made .is) (made .small) (made .opens) sound strict) location asked n space
+    new-old strict =
+        zones-like file (s .file) head (head′ strict) refl (s .kept) seats (like strict) old-rows (rows-are file head (made .texts) (s .kept) (s .file)
+        (made .is) (made .small) (made .opens) sound strict) location asked n space
 
     plain-old : answer file (given (plainly file head (made .opens))) ≡ answer file (given head)
-    plain-old = zones-like file file head (plainly file head (made .opens)) refl (s .kept) (s .kept) (plain-like file head (made .opens) (s .kept) sound) old-rows (plain-rows-are file head (made .opens) (s .kept) old-rows) location asked n space
+    plain-old =
+        zones-like file file head (plainly file head (made .opens)) refl (s .kept) (s .kept) (plain-like file head (made .opens) (s .kept) sound) old-rows
+        (plain-rows-are file head (made .opens) (s .kept) old-rows) location asked n space
 
     old-answer : (strict : Bool) → answer file (headBy strict file) ≡ answer file (given head)
     old-answer true = ap (answer file) (made .opens)
@@ -165,16 +161,14 @@ module _ (file : List ℕ) (words room : ℕ) (s : Salvaged) (e : salvagedOf fil
         (s .kept) seats (like false) old-rows (rows-are file head (made .texts) (s .kept) (s .file) (made .is) (made .small) (made .opens) sound false) location n space
 
     simple-plain : simply file (given (plainly file head (made .opens))) ≡ simply file (given head)
-    simple-plain =
-        let o = opened file head (made .opens) in
+    simple-plain = let o = opened file head (made .opens) in
         described-like file file head (plainly file head (made .opens)) refl
         (names-alone (head .preamble .count) (plain-names file head (made .opens) (head .preamble .count) (head .preamble .count + 1) 0 7 (o .texts) (o .texts-are)))
         (s .kept) (s .kept) (plain-like file head (made .opens) (s .kept) sound) old-rows (plain-rows-are file head (made .opens) (s .kept) old-rows) location n space
 
     simply-same : simply (s .file) (headBy false (s .file)) ≡ simply file (headBy false file)
     simply-same =
-        ap (simply (s .file)) (new-opens file head (made .texts) (s .kept) (s .file) (made .is) (made .small) (made .opens) (made .inline) false)
-        ∙ simple-new
+        ap (simply (s .file)) (new-opens file head (made .texts) (s .kept) (s .file) (made .is) (made .small) (made .opens) (made .inline) false) ∙ simple-new
         ∙ sym (ap (simply file) (plain-head file head (made .opens)) ∙ simple-plain)
 
 -- Where nothing was dropped, lookups in the new file and in the old one, each opened plainly or strictly, give the same matches, texts and safezone, or the same refusal, for every location.

@@ -1,15 +1,11 @@
 -- The rows that are kept: good, and with numbers that can be written. Assumes nothing.
-use Prim.Native.Nat.{ℕ, _^_, _<_}
-use lib.Signed.{mag}
-use mathlib.Core.{List.{List, [], _∷_}, Path.{_≡_, refl}}
-use native.Mathlib.Omega.{arith}
-use Rattle.header.specs.declared.header.Head.{Head}
-use Rattle.salvage.proofs.moves.Forms.{signed-mag}
+use Rattle.numbers.proofs.Prelude.{ℕ, _^_, _<_, mag, List, [], _∷_, _≡_, refl, arith}
 use Rattle.numbers.{proofs.Answers.{All, then-all, any}, specs.{Answer.{Answer, found, failed, _>>=_}, Reply.{Reply, given, refused}, Varint.{Numeral, readingOf}}}
+use Rattle.header.specs.declared.header.Head.{Head}
+use Rattle.salvage.{proofs.moves.Forms.{signed-mag}, specs.Kept.{entryGood, keptIf, keptOf}}
+use Rattle.table.{proofs.TableRows.{rows-so}, specs.{Rows.{Rows, row, rowBy, startAt, rowsIn}, Table.{stepsBy, entryBy}, declared.{rows.{Cursor.{Cursor}, Row.{Row}}, table.Bounds.{Bounds}}}}
+use Rattle.table.specs.declared.table.Entry.{Entry}
 use Rattle.numbers.specs.Answer as A
-use Rattle.salvage.specs.Kept.{entryGood, keptIf, keptOf}
-use Rattle.table.{proofs.TableRows.{rows-so}, specs.{Rows.{Rows, row, rowBy, startAt, rowsIn}, Table.{stepsBy, entryBy}}}
-use Rattle.table.specs.declared.{rows.{Cursor.{Cursor}, Row.{Row}}, table.{Bounds.{Bounds}, Entry.{Entry}}}
 
 pub data Every {A : Type 0} (P : A → Type 0) : List A → Type 0 where
   none : Every P []
@@ -36,8 +32,7 @@ module _ (read : ℕ → Answer Numeral) where
 
   entry-fits : (place : ℕ) → All (λ (entry : Entry). FitsBox (entry .bounds)) (entryBy read place)
   unfolding entryBy stepsBy
-  entry-fits place =
-      let Q : Entry → Type 0 = λ entry. FitsBox (entry .bounds) in
+  entry-fits place = let Q : Entry → Type 0 = λ entry. FitsBox (entry .bounds) in
       anyway Q place _
       λ a. anyway Q (a .place) _
       λ b. anyway Q (b .place) _
@@ -51,22 +46,21 @@ module _ (read : ℕ → Answer Numeral) where
   row-fits at = then-all (λ (entry : Entry). FitsBox (entry .bounds)) Fits (entryBy read (at .place)) _ (entry-fits (at .place)) (λ entry h. record { box = h; id = omega arith })
 
   found-fits : (at : Cursor) (r : Row) → found r ≡ rowBy read at → Fits r
-  found-fits at r e = go (rowBy read at) (row-fits at) e
-    where
-      go : (answer : Answer Row) → All Fits answer → found r ≡ answer → Fits r
-      go (found q) h e = let same : q ≡ r = cc (e) in rw (← same) h
-      go failed h e = let z : _≡_ {A = ℕ} 0 1 = cc in absurd (omega arith)
-      go (A.refused n) h e = let z : _≡_ {A = ℕ} 0 1 = cc in absurd (omega arith)
+  found-fits at r e = go (rowBy read at) (row-fits at) e where
+    go : (answer : Answer Row) → All Fits answer → found r ≡ answer → Fits r
+    go (found q) h e = let same : q ≡ r = cc (e) in rw (← same) h
+    go failed h e = let z : _≡_ {A = ℕ} 0 1 = cc in absurd (omega arith)
+    go (A.refused n) h e = let z : _≡_ {A = ℕ} 0 1 = cc in absurd (omega arith)
 
 -- ---- all that are kept
 module _ (file : List ℕ) (head : Head) where
-  keeps : (at : Cursor) (r : Row) (rest : Rows) → found r ≡ rowBy (readingOf (head .strict) file) at → Every (Sound file head) (keptOf file head rest) → Every (Sound file head) (keptOf file head (row r rest))
+  keeps : (at : Cursor) (r : Row) (rest : Rows) → found r ≡ rowBy (readingOf (head .strict) file) at → Every (Sound file head) (keptOf file head rest)
+      → Every (Sound file head) (keptOf file head (row r rest))
   unfolding keptOf
-  keeps at r rest e later = go (entryGood file head r) refl
-    where
-      go : (g : Reply (Unit {0})) → entryGood file head r ≡ g → Every (Sound file head) (keptIf g r (keptOf file head rest))
-      go (given tt) good = one (record { good = good; fits = found-fits (readingOf (head .strict) file) at r e }) later
-      go (refused why) good = later
+  keeps at r rest e later = go (entryGood file head r) refl where
+    go : (g : Reply (Unit {0})) → entryGood file head r ≡ g → Every (Sound file head) (keptIf g r (keptOf file head rest))
+    go (given tt) good = one (record { good = good; fits = found-fits (readingOf (head .strict) file) at r e }) later
+    go (refused why) good = later
 
   pub kept-sound : Every (Sound file head) (keptOf file head (rowsIn file head))
   unfolding rowsIn keptOf

@@ -1,20 +1,15 @@
 -- Two small files that are salvaged, one with an entry dropped and one without, so that each theorem speaks of something. Assumes nothing.
-use lib.{Dec.{lit≤}, IntN.{pos}, ListN.{take}}
-use mathlib.Core.{Bool.{Bool, true}, List.{List, [], _∷_, flatMap}, Path.{_≡_, refl, ap, subst}}
-use Prim.Native.Nat.{ℕ}
+use Rattle.numbers.{proofs.Prelude.{ℕ, lit≤, pos, take, Bool, true, List, [], _∷_, flatMap, _≡_, refl, ap, subst}, specs.{Answer.{checked}, Point.{signedOf, evenBits, pointOf}, Reply.{Reply, given}}}
+use Rattle.numbers.specs.{Spelling.{digitsOf, varintOf, signedForm, interleaved}, Varint.{readingOf, wholeOf, forwardAt, valueOf, sizeOf, tooLong}}
 use Rattle.writer.specs.Moves.{moveTo, packedNumber}
 use Rattle.border.specs.{Place.{isStill, movedBy}, Reader.{advanced, marker, packedTurn, turnOf}, Trace.{roundAgain, nextWithin, nextPoint, traceThen, traceWithin, traceOf}}
-use Rattle.header.specs.{Header.{preambleOf, textsFrom, sectionsFrom, sectionsAt, contentsBy, headBy}, Text.{within, remoteAt, stringAt, bytesOf, textAt}}
-use Rattle.header.specs.{Opening.{openedBy}, Utf8.{characters, startedBy, begunBy, followed, goesOn, isUtf8}, declared.header.Head.{Head}}
-use Rattle.salvage.specs.Moves.Moves.{endOf, stepsFrom, movesBy, movesAt, stepNumber, stepBytes, movesBytes}
-use Rattle.numbers.specs.{Answer.{checked}, Point.{signedOf, evenBits, pointOf}, Reply.{Reply, given}, Spelling.{digitsOf, varintOf, signedForm, interleaved}}
-use Rattle.numbers.specs.Varint.{readingOf, wholeOf, forwardAt, valueOf, sizeOf, tooLong}
-use Rattle.salvage.specs.File.{textsInline, borderBytes, boxBytes, entryBytes, tableFrom, assembled, newFile}
-use Rattle.salvage.specs.{Kept.{borderGood, spanInside, stringInside, fieldGood, fieldsGood, entryGood, keptOf, linesFrom}, Promises.{ListOf, KeptFile, Again}}
-use Rattle.salvage.specs.Salvage.{Salvaged, salvagedOf, Counts, Replied, repliedOf, salvaged}
-use Rattle.promises.proofs.Salvaged.{Again.{salvage-again}, KeptAgain.{salvage-kept}, Opens.{salvaged-strict, salvaged-opens-alike}}
-use Rattle.promises.proofs.Salvaged.Answered.{written, listed, lent-opens-alike, lent-kept, lent-list, lent-again, lent-same}
-use Rattle.promises.proofs.Salvaged.{PlainlyKept.{salvage-kept-plainly}, SameLookups.{salvage-same, salvage-same-simply}}
+use Rattle.header.specs.{Header.{preambleOf, textsFrom, sectionsFrom, sectionsAt, contentsBy, headBy}, Opening.{openedBy}, Text.{within, remoteAt, stringAt, bytesOf, textAt}}
+use Rattle.header.specs.{Utf8.{characters, startedBy, begunBy, followed, goesOn, isUtf8}, declared.header.Head.{Head}}
+use Rattle.salvage.specs.{File.{textsInline, borderBytes, boxBytes, entryBytes, tableFrom, assembled, newFile}, Kept.{borderGood, spanInside, stringInside, fieldGood, fieldsGood, entryGood, keptOf}}
+use Rattle.salvage.specs.{Kept.{linesFrom}, Moves.Moves.{endOf, stepsFrom, movesBy, movesAt, stepNumber, stepBytes, movesBytes}, Promises.{ListOf, KeptFile, Again}, Salvage.{Salvaged, salvagedOf}}
+use Rattle.salvage.specs.Salvage.{Counts, Replied, repliedOf, salvaged}
+use Rattle.promises.proofs.Salvaged.{Again.{salvage-again}, Answered.{written, listed, lent-opens-alike, lent-kept, lent-list, lent-again, lent-same}, KeptAgain.{salvage-kept}}
+use Rattle.promises.proofs.Salvaged.{Opens.{salvaged-strict, salvaged-opens-alike}, PlainlyKept.{salvage-kept-plainly}, SameLookups.{salvage-same, salvage-same-simply}}
 use Rattle.promises.specs.Salvaged.{Opens.{OpensStrictly, KeptPlainly}, Same.{SameAnswers, SameSimply}}
 use Rattle.table.specs.{Rows.{rowsThen, rowBy, rowsWithin, rowsFrom, rowsIn}, Table.{stepsBy, entryBy}, declared.rows.Row.{Row}}
 
@@ -54,15 +49,24 @@ abbrev none-dropped : Salvaged
 none-dropped = record { file = mended; lines = []; kept = firstRow ∷ [] }
 
 damaged-opens : headBy true damaged ≡ given (headAt 25 27)
-unfolding readingOf wholeOf forwardAt valueOf sizeOf tooLong preambleOf textsFrom sectionsFrom sectionsAt contentsBy headBy within remoteAt stringAt bytesOf textAt characters startedBy begunBy followed goesOn isUtf8
+unfolding readingOf wholeOf forwardAt valueOf sizeOf tooLong preambleOf textsFrom sectionsFrom sectionsAt contentsBy headBy within remoteAt stringAt bytesOf
+    textAt characters startedBy begunBy followed goesOn isUtf8
 damaged-opens = refl
 
 damaged-salvaged : salvagedOf damaged 2 25 ≡ given one-dropped
-unfolding readingOf wholeOf forwardAt valueOf sizeOf tooLong signedOf evenBits pointOf checked movedBy advanced marker packedTurn turnOf roundAgain nextWithin nextPoint traceThen traceWithin traceOf preambleOf textsFrom sectionsFrom sectionsAt contentsBy headBy within remoteAt stringAt bytesOf textAt characters startedBy begunBy followed goesOn isUtf8 rowsThen rowBy rowsWithin rowsFrom rowsIn stepsBy entryBy salvagedOf textsInline borderBytes boxBytes entryBytes tableFrom assembled newFile borderGood spanInside stringInside fieldGood fieldsGood entryGood keptOf linesFrom endOf stepsFrom movesBy movesAt stepNumber stepBytes movesBytes moveTo packedNumber isStill interleaved signedForm varintOf digitsOf flatMap
+unfolding readingOf wholeOf forwardAt valueOf sizeOf tooLong signedOf evenBits pointOf checked movedBy advanced marker packedTurn turnOf roundAgain nextWithin
+    nextPoint traceThen traceWithin traceOf preambleOf textsFrom sectionsFrom sectionsAt contentsBy headBy within remoteAt stringAt bytesOf textAt characters
+    startedBy begunBy followed goesOn isUtf8 rowsThen rowBy rowsWithin rowsFrom rowsIn stepsBy entryBy salvagedOf textsInline borderBytes boxBytes entryBytes
+    tableFrom assembled newFile borderGood spanInside stringInside fieldGood fieldsGood entryGood keptOf linesFrom endOf stepsFrom movesBy movesAt stepNumber
+    stepBytes movesBytes moveTo packedNumber isStill interleaved signedForm varintOf digitsOf flatMap
 damaged-salvaged = refl
 
 undamaged-salvaged : salvagedOf undamaged 0 25 ≡ given none-dropped
-unfolding readingOf wholeOf forwardAt valueOf sizeOf tooLong signedOf evenBits pointOf checked movedBy advanced marker packedTurn turnOf roundAgain nextWithin nextPoint traceThen traceWithin traceOf preambleOf textsFrom sectionsFrom sectionsAt contentsBy headBy within remoteAt stringAt bytesOf textAt characters startedBy begunBy followed goesOn isUtf8 rowsThen rowBy rowsWithin rowsFrom rowsIn stepsBy entryBy salvagedOf textsInline borderBytes boxBytes entryBytes tableFrom assembled newFile borderGood spanInside stringInside fieldGood fieldsGood entryGood keptOf linesFrom endOf stepsFrom movesBy movesAt stepNumber stepBytes movesBytes moveTo packedNumber isStill interleaved signedForm varintOf digitsOf flatMap
+unfolding readingOf wholeOf forwardAt valueOf sizeOf tooLong signedOf evenBits pointOf checked movedBy advanced marker packedTurn turnOf roundAgain nextWithin
+    nextPoint traceThen traceWithin traceOf preambleOf textsFrom sectionsFrom sectionsAt contentsBy headBy within remoteAt stringAt bytesOf textAt characters
+    startedBy begunBy followed goesOn isUtf8 rowsThen rowBy rowsWithin rowsFrom rowsIn stepsBy entryBy salvagedOf textsInline borderBytes boxBytes entryBytes
+    tableFrom assembled newFile borderGood spanInside stringInside fieldGood fieldsGood entryGood keptOf linesFrom endOf stepsFrom movesBy movesAt stepNumber
+    stepBytes movesBytes moveTo packedNumber isStill interleaved signedForm varintOf digitsOf flatMap
 undamaged-salvaged = refl
 
 -- ---- so the theorems speak of them

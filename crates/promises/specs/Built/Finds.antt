@@ -1,12 +1,9 @@
 -- What a lookup in a built file finds: each yard's own verdict, in the order of the table, merged.
-use Prim.Native.Nat.{ℕ, _+_, _-_, min}
-use mathlib.Core.{Bool.{Bool, true, false}, List.{List, [], _∷_, _++_, flatMap}, Path.{_≡_}}
-use lib.{IntN.{pos}, Dec.{leb, eqb}, ListN.{length}}
+use Rattle.numbers.specs.{Answer.{if_then_else_}, Prelude.{ℕ, _+_, _-_, min, eqb, leb, pos, length, Bool, true, false, List, [], _∷_, _++_, flatMap, _≡_}, Reply.{Reply, given, plain, demand, _>>_}}
 use Rattle.writer.specs.{Moves.{pointsOf}, Writer.{every}}
 use Rattle.verdict.specs.{Verdict.{Judgement, reached, none, judge}, declared.step.Verdict.{Verdict}}
 use Rattle.border.specs.{Written.{roundTrip}, declared.place.Point.{Point}}
 use Rattle.builder.specs.{Borders.{Drawn, drawnOf}, File.{Room, upTo}, Yards.{Text, Yard, Plan}}
-use Rattle.numbers.specs.{Answer.{if_then_else_}, Reply.{Reply, given, plain, demand, _>>_}}
 use Rattle.table.specs.{Ending.{hitsOf}, Find.{fixOf}, Merge.{merged}, Search.{farthest}, Table.{holds}, declared.{hits.Hit.{Hit}, location.Location.{Location}}}
 use Rattle.header.specs.Field.{field}
 use Rattle.zones.specs.{Lent.{Outcome, Replied, repliedOf}, Lookup.{safezoneBits}, declared.lookup.Zones.{Zones}}

@@ -1,9 +1,7 @@
 -- A file laid out for another length of its records.
-use Prim.Native.Nat.{ℕ}
-use mathlib.Core.List.{List, _++_, flatMap, zipWith}
-use lib.ListN.{length}
-use Rattle.builder.specs.{Borders.{Drawn}, Entries.{Entry, boxOf, tableOf}, File.{headOf, assembled}, Metadata.{inlined, recordsOf, fieldsOf, written, remotes}}
-use Rattle.builder.specs.{Sharing.{sameTexts, sizeBefore}, Yards.{Text, Yard, Plan}}
+use Rattle.numbers.specs.Prelude.{ℕ, length, List, _++_, flatMap, zipWith}
+use Rattle.builder.specs.{Borders.{Drawn}, Entries.{Entry, boxOf, tableOf}, File.{headOf, assembled}, Metadata.{inlined, recordsOf, fieldsOf, written, remotes}, Sharing.{sameTexts, sizeBefore}}
+use Rattle.builder.specs.Yards.{Text, Yard, Plan}
 
 -- the place of a yard's record, and the section
 unfoldable pub startFor : ℕ → List (List Text) → List Text → ℕ

@@ -1,9 +1,6 @@
 -- What opening a built file says.
-use Prim.Native.Nat.{ℕ}
-use mathlib.Core.List.{List, [], _∷_, _++_, flatMap}
-use lib.ListN.{length}
+use Rattle.numbers.specs.{Lists.{padded}, Prelude.{ℕ, length, List, [], _∷_, _++_, flatMap}, Reply.{given}}
 use Rattle.builder.specs.Yards.{Plan}
-use Rattle.numbers.specs.{Lists.{padded}, Reply.{given}}
 use Rattle.header.specs.{Field.{entry}, Opening.{Replied}}
 
 -- names, then notice, as they go out

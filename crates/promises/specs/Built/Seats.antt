@@ -1,13 +1,10 @@
 -- The yards in the order of the table, each with the row that its entry is read as.
-use Prim.Native.Nat.{ℕ, _+_}
-use mathlib.Core.{Bool.{Bool}, List.{List, [], _∷_, zipWith}}
-use lib.ListN.{length}
+use Rattle.numbers.specs.{Prelude.{ℕ, _+_, length, Bool, List, [], _∷_, zipWith}, Spelling.{varintOf}}
 use Rattle.builder.specs.{Borders.{Drawn}, Entries.{Entry, entryBytes, fromSouth, tableOf}, File.{headOf, entryOf}, Metadata.{recordsOf, metadataOf}, Yards.{Yard, Plan}}
-use Rattle.builder.specs.declared.boxes.Bounds as built
 use Rattle.layout.specs.Order.{sortedBy}
-use Rattle.numbers.specs.Spelling.{varintOf}
 use Rattle.table.specs.{Rows.{Rows, row, tableEnd}, declared.{rows.Row.{Row}, table.Bounds.{Bounds}}}
 use Rattle.header.specs.declared.header.Head.{Head}
+use Rattle.builder.specs.declared.boxes.Bounds as built
 
 -- a yard with its entry
 pub record Entered : Type 0 where

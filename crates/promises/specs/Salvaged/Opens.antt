@@ -1,8 +1,6 @@
 -- How a salvaged file opens.
-use mathlib.Core.{Bool.{true, false}, List.{List}, Path.{_≡_}}
-use Prim.Native.Nat.{ℕ}
+use Rattle.numbers.specs.{Prelude.{ℕ, true, false, List, _≡_}, Reply.{given}}
 use Rattle.header.specs.{Header.{headBy}, declared.header.Head.{Head}}
-use Rattle.numbers.specs.Reply.{given}
 use Rattle.salvage.specs.{Promises.{KeptAs}, Salvage.{Salvaged}}
 use Rattle.table.specs.Rows.{rowsIn}
 

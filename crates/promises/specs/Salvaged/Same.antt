@@ -1,8 +1,6 @@
 -- What is compared of lookups in two files: everything but the end mark, and the place of a match's entry (document 02, Q-7 and Q-13).
-use Prim.Native.Nat.{ℕ}
-use mathlib.Core.{Bool.{Bool}, List.{List, map}, Path.{_≡_}}
+use Rattle.numbers.specs.{Prelude.{ℕ, Bool, List, map, _≡_}, Reply.{Reply, given, _>>=_}}
 use Rattle.header.specs.Header.{headBy}
-use Rattle.numbers.specs.Reply.{Reply, given, _>>=_}
 use Rattle.table.specs.{Hits.{hitOf}, declared.{hits.Hit.{Hit}, location.Location.{Location}}}
 use Rattle.zones.specs.{Lent.{Outcome}, Lookup.{zonesBy}, Simple.{describedIn}, declared.{lookup.Zones.{Zones}, simple.Described.{Described}}}
 

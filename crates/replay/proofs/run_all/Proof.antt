@@ -1,7 +1,5 @@
 -- `replay::run_all` is safe and ends: the turns that are left fall. Assumes nothing.
-use lib.ListN.{length}
-use mathlib.Core.Path.{_≡_, refl}
-use native.Mathlib.Omega.{arith}
+use Rattle.numbers.proofs.Prelude.{length, _≡_, refl, arith}
 use Rattle.replay.proofs.run_all.Statement.{statement}
 use Rattle.replay.proofs.run_all.Tie as tie
 
@@ -12,19 +10,5 @@ abbrev μ-loop : tie.MeasureT-loop
 μ-loop space₀ tally₀ turns₀ space tally turns = turns
 
 pub run-all-spec : {M : Type 1} → statement M
-run-all-spec =
-    tie.close
-    (tie.spec
-    Inv-loop
-    μ-loop
-    (λ c. (refl, refl))
-    (λ c κs. tt)
-    (λ c. omega arith)
-    (λ c. omega arith)
-    (λ c. (omega arith, omega arith))
-    (λ c. omega arith)
-    (λ c. omega arith)
-    (λ c. tt)
-    (λ c. omega arith)
-    (λ c. omega arith)
-    (λ c. tt))
+run-all-spec = tie.close (tie.spec Inv-loop μ-loop (λ c. (refl, refl)) (λ c κs. tt) (λ c. omega arith) (λ c. omega arith) (λ c. (omega arith, omega arith))
+    (λ c. omega arith) (λ c. omega arith) (λ c. tt) (λ c. omega arith) (λ c. omega arith) (λ c. tt))

@@ -1,15 +1,13 @@
 -- Kept borders, drawn one behind the other. Assumes nothing.
-use Prim.Native.Nat.{ℕ}
-use mathlib.Core.{List.{List, [], _∷_, _++_, flatMap, append-assoc, append-nil}, Path.{_≡_, refl, sym, ap, _∙_, subst}}
-use native.Mathlib.Omega.{arith}
+use Rattle.numbers.proofs.Prelude.{ℕ, List, [], _∷_, _++_, append-assoc, append-nil, flatMap, _≡_, refl, sym, ap, subst, _∙_, arith}
+use Rattle.numbers.specs.{Answer.{Answer, found, failed, refused, _>>=_}, Reply.{Reply, given, plain, _orElse_, _>>_}, declared.refusal.Refusal.{Refusal}}
 use Rattle.border.specs.{Trace.{traceOf, borderAt}, declared.reader.Encoding.{Encoding}}
 use Rattle.header.specs.declared.header.Head.{Head}
 use Rattle.salvage.proofs.moves.{Capping.{capped-none, capped-then, capped-as}, pairs.Pairing.{bytes-next}}
-use Rattle.salvage.specs.{inner.Moves.Laid.{Capped, Copied}, Moves.Moves.{endOf, movesAt, closedMoves, movesBytes}}
-use Rattle.numbers.specs.{Answer.{Answer, found, failed, refused, _>>=_}, Reply.{Reply, given, plain, _orElse_, _>>_}, declared.refusal.Refusal.{Refusal}}
-use Rattle.numbers.specs.Reply as R
-use Rattle.table.specs.{Rows.{startAt, after, rowsIn}, declared.rows.{Cursor.{Cursor}, Row.{Row}}}
 use Rattle.salvage.specs.{File.{borderBytes}, Kept.{encodingIn, borderPlace, borderGood, fieldsGood, recordPlace, entryGood, keptOf, keptFrom, LedTo}}
+use Rattle.salvage.specs.{Moves.Moves.{endOf, movesAt, closedMoves, movesBytes}, inner.Moves.Laid.{Capped, Copied}}
+use Rattle.table.specs.{Rows.{startAt, after, rowsIn}, declared.rows.{Cursor.{Cursor}, Row.{Row}}}
+use Rattle.numbers.specs.Reply as R
 
 -- ---- a kept border closes
 not-given : {B : Type 0} {why : Refusal} → _≡_ {A = Reply (Unit {0})} (R.refused why) (given tt) → B

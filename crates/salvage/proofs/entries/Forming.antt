@@ -1,22 +1,15 @@
 -- The numbers of an entry. Assumes nothing.
-use Prim.Native.Nat.{ℕ, _+_, _-_, _*_, _^_, _<_, _≤_}
-use borrow.Author.Tests.{lt-ltb, le-ltb}
-use lib.IntN.{pos, negsuc, _-ℤ_}
-use mathlib.Core.{List.{List, _++_}, Path.{_≡_, ap}}
-use native.Mathlib.Omega.{arith}
+use Rattle.numbers.proofs.Prelude.{ℕ, _+_, _-_, _*_, _^_, _≤_, _<_, lt-ltb, le-ltb, List, _++_, _≡_, arith}
+use Rattle.numbers.{proofs.{Coordinates.{below}, Spelling.{form-positive, form-negative}}, specs.{Point.{readI32}, Spelling.{signedForm}}}
 use Rattle.salvage.proofs.moves.Capping.{capped-then}
 use Rattle.salvage.specs.inner.Moves.Laid.{Capped}
-use Rattle.numbers.{proofs.Spelling.{form-positive, form-negative}, specs.{Point.{readI32}, Spelling.{signedForm}}}
 
 -- a residue modulo 2 ^ 32 as an i32, in its signed form
 pub form-up : (low : ℕ) → low < 2 ^ 31 → low * 2 ≡ signedForm (readI32 low)
 form-up low h = rw (lt-ltb low (2 ^ 31) h, form-positive low) (omega arith)
 
-below : (low : ℕ) → 2 ^ 31 ≤ low → low < 2 ^ 32 → pos low -ℤ pos (2 ^ 32) ≡ negsuc (2 ^ 32 - 1 - low)
-below low h k = rw (lt-ltb low (2 ^ 32) k) (ap negsuc (omega arith))
-
 pub form-down : (low : ℕ) → 2 ^ 31 ≤ low → low < 2 ^ 32 → (2 ^ 32 - low) * 2 + 1 ≡ signedForm (readI32 low)
-form-down low h k = rw (le-ltb low (2 ^ 31) h, below low h k, form-negative (2 ^ 32 - 1 - low)) (omega arith)
+form-down low h k = rw (le-ltb low (2 ^ 31) h, below low k, form-negative (2 ^ 32 - 1 - low)) (omega arith)
 
 -- four, one after another
 module _ {a b c d e w x y z : List ℕ} {p q r s t : ℕ} where

@@ -1,16 +1,10 @@
 -- The entries of kept rows, one behind the other. Assumes nothing.
-use Prim.Native.Nat.{ℕ, _+_}
-use borrow.Author.Tests.{ltb-true, ltb-false}
-use lib.{Dec.{ltb}, ListN.{length}}
-use mathlib.Core.{Bool.{Bool, true, false}, List.{List, [], _++_, append-assoc, append-nil}, Path.{_≡_, refl, sym, ap, _∙_, subst}}
-use native.Mathlib.Omega.{arith}
-use Rattle.numbers.proofs.Tests.{both}
+use Rattle.numbers.proofs.Prelude.{ℕ, ltb-true, ltb-false, ltb, length, Bool, true, false, List, [], _++_, append-assoc, append-nil, _≡_, refl, sym, ap, subst, _∙_, arith}
+use Rattle.numbers.{proofs.Tests.{both}, specs.Reply.{Reply, given, refused}}
 use Rattle.header.specs.declared.header.Head.{Head}
 use Rattle.salvage.proofs.moves.Capping.{capped-none, capped-then}
-use Rattle.salvage.specs.inner.Moves.Laid.{cap, Capped}
-use Rattle.numbers.specs.Reply.{Reply, given, refused}
+use Rattle.salvage.specs.{File.{borderBytes, entryBytes, tableFrom, Sized, Measured, allShort, Tabled}, Kept.{entryGood, keptOf, keptFrom, LedTo}, inner.Moves.Laid.{cap, Capped}}
 use Rattle.table.specs.{Rows.{startAt, after, rowsIn}, declared.rows.{Cursor.{Cursor}, Row.{Row}}}
-use Rattle.salvage.specs.{File.{borderBytes, entryBytes, tableFrom, Sized, Measured, allShort, Tabled}, Kept.{entryGood, keptOf, keptFrom, LedTo}}
 
 -- what is written into no room is only counted
 pub sized-of : {before bytes after : List ℕ} {size : ℕ} → Capped before 0 bytes after size → Sized bytes size
@@ -21,14 +15,13 @@ measured-if (given tt) bytes size h = h refl
 measured-if (refused why) bytes size h = tt
 
 size-exact : (good : Reply (Unit {0})) (bytes : List ℕ) (size : ℕ) → Measured good bytes size → good ≡ given tt → ltb (length bytes) cap ≡ true → size ≡ length bytes
-size-exact good bytes size m e short = go (ltb size cap) refl
-  where
-    sized : Sized bytes size
-    sized = subst (λ (g : Reply (Unit {0})). Measured g bytes size) e m
+size-exact good bytes size m e short = go (ltb size cap) refl where
+  sized : Sized bytes size
+  sized = subst (λ (g : Reply (Unit {0})). Measured g bytes size) e m
 
-    go : (t : Bool) → ltb size cap ≡ t → size ≡ length bytes
-    go true h = sized .exact (ltb-true size cap h)
-    go false h = absurd (omega (arith, sized .over (ltb-false size cap h), ltb-true (length bytes) cap short))
+  go : (t : Bool) → ltb size cap ≡ t → size ≡ length bytes
+  go true h = sized .exact (ltb-true size cap h)
+  go false h = absurd (omega (arith, sized .over (ltb-false size cap h), ltb-true (length bytes) cap short))
 
 module _ (file : List ℕ) (head : Head) (before : List ℕ) (at : ℕ) where
   abbrev all : List Row
@@ -53,28 +46,26 @@ module _ (file : List ℕ) (head : Head) (before : List ℕ) (at : ℕ) where
         written = t .written ++ entryBytes id size r;
         rest = λ short. onward (t .rest short .0) (t .rest short .1);
         laid = capped-then (t .written) (entryBytes id size r) (t .laid) c;
-      }
-    where
-      onward : tableFrom file head 0 0 all ≡ t .written ++ tableFrom file head id size (keptFrom file head from) → allShort file head (keptFrom file head from) ≡ true
-          → (tableFrom file head 0 0 all ≡ (t .written ++ entryBytes id size r) ++ tableFrom file head id′ size′ (keptFrom file head cursor)) × (allShort file head (keptFrom file head cursor) ≡ true)
-      onward e short =
-          let parts = both (ltb (length (borderBytes file head r)) cap) (allShort file head (keptFrom file head (after r))) (ap (allShort file head) (sym (l .more)) ∙ short) in
-          let same : size′ ≡ length (borderBytes file head r) = size-exact (entryGood file head r) (borderBytes file head r) size′ m (l .good) (parts .0) in (
-            e
-                ∙ ap (λ (rs : List Row). t .written ++ tableFrom file head id size rs) (l .more)
-                ∙ sym (append-assoc (t .written) (entryBytes id size r) _)
-                ∙ rw (n, i, same),
-            rw n (parts .1),
-          )
+      } where
+        onward : tableFrom file head 0 0 all ≡ t .written ++ tableFrom file head id size (keptFrom file head from) → allShort file head (keptFrom file head from) ≡ true
+            → (tableFrom file head 0 0 all ≡ (t .written ++ entryBytes id size r) ++ tableFrom file head id′ size′ (keptFrom file head cursor)) ×
+            (allShort file head (keptFrom file head cursor) ≡ true)
+        onward e short =
+            let parts = both (ltb (length (borderBytes file head r)) cap) (allShort file head (keptFrom file head (after r))) (ap (allShort file head) (sym (l .more)) ∙ short) in
+            let same : size′ ≡ length (borderBytes file head r) = size-exact (entryGood file head r) (borderBytes file head r) size′ m (l .good) (parts .0) in (
+              e
+                  ∙ ap (λ (rs : List Row). t .written ++ tableFrom file head id size rs) (l .more)
+                  ∙ sym (append-assoc (t .written) (entryBytes id size r) _)
+                  ∙ rw (n, i, same),
+              rw n (parts .1),
+            )
 
   pub tables-end : {now : List ℕ} {next id size : ℕ} {from : Cursor} → Tabling now next id size from → keptFrom file head from ≡ [] →
       Tabled (allShort file head all) before at (tableFrom file head 0 0 all) now next
   unfolding tableFrom
-  tables-end {now} {next} {id} {size} {from} t e = go (allShort file head all) refl
-    where
-      go : (b : Bool) → allShort file head all ≡ b → Tabled b before at (tableFrom file head 0 0 all) now next
-      go false h = tt
-      go true h =
-          let whole : t .written ≡ tableFrom file head 0 0 all =
-          sym (t .rest h .0 ∙ ap (λ (rs : List Row). t .written ++ tableFrom file head id size rs) e ∙ append-nil (t .written)) in
-          subst (λ (bytes : List ℕ). Capped before at bytes now next) whole (t .laid)
+  tables-end {now} {next} {id} {size} {from} t e = go (allShort file head all) refl where
+    go : (b : Bool) → allShort file head all ≡ b → Tabled b before at (tableFrom file head 0 0 all) now next
+    go false h = tt
+    go true h =
+        let whole : t .written ≡ tableFrom file head 0 0 all = sym (t .rest h .0 ∙ ap (λ (rs : List Row). t .written ++ tableFrom file head id size rs) e ∙ append-nil (t .written)) in
+        subst (λ (bytes : List ℕ). Capped before at bytes now next) whole (t .laid)

@@ -1,16 +1,10 @@
 -- How a border ends, point by point. Assumes nothing.
-use Prim.Native.Nat.{ℕ}
-use denote.Enum.Declared.{tagOf}
-use mathlib.Core.{List.{List, [], _∷_}, Path.{_≡_, refl, ap}}
-use native.Mathlib.Omega.{arith}
-use types.Run.{OneOf, miss}
-use Rattle.border.proofs.Trace.{point-trace}
-use Rattle.border.specs.{Trace.{Trace, traceThen, traceOf, nextPoint, reaches}, declared.reader.{Reader.{Reader}, Next.{Next}, Encoding.{Encoding}}}
+use Rattle.numbers.{proofs.Prelude.{ℕ, tagOf, List, [], _∷_, _≡_, refl, ap, arith, OneOf, miss}, specs.Answer.{found, failed, refused}}
+use Rattle.border.{proofs.Trace.{point-trace}, specs.{Trace.{Trace, traceThen, traceOf, nextPoint, reaches}, declared.reader.{Encoding.{Encoding}, Next.{Next}, Reader.{Reader}}}}
+use Rattle.salvage.specs.{Moves.Moves.{endOf}, inner.Moves.Laid.{endedBy}}
 use Rattle.border.proofs.reader.Next as Next'
 use Rattle.border.specs.inner.Told as R
 use Rattle.border.specs.declared.reader.Next.the-variants as N
-use Rattle.numbers.specs.Answer.{found, failed, refused}
-use Rattle.salvage.specs.{inner.Moves.Laid.{endedBy}, Moves.Moves.{endOf}}
 
 -- no further point
 pub end-stops : (n : Next) (rest : Reader → Trace) → OneOf (1 ∷ 2 ∷ 3 ∷ []) (tagOf Next'.the-type n) → endedBy n ≡ endOf (traceThen (R.told n) rest)

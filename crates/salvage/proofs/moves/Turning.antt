@@ -1,19 +1,15 @@
 -- Version 1: what a turn does to a border that is not closed, and the trace by turns. Assumes nothing.
-use Prim.Native.Nat.{ℕ, zero, suc, _<_}
-use lib.{Dec.{eqb}, IntN.{ℤ, pos, _+ℤ_, +ℤ-idr}}
-use mathlib.Core.{Bool.{Bool, true, false}, List.{List}, Logic.{_⊎_, inl, inr}, Path.{_≡_, refl, sym, ap, _∙_, subst}}
-use native.Mathlib.{Nat.{lt-suc-self}, Omega.{arith}}
-use Rattle.border.proofs.{Room.{left}, Trace.{next-step, trace-step, again-less}, reader.Turns.{open-packed, closed-ends}}
-use Rattle.border.specs.Place.{pointAt, moveBy, movedBy, negated}
+use Rattle.numbers.proofs.Prelude.{ℕ, zero, suc, _<_, eqb, ℤ, pos, _+ℤ_, Bool, true, false, List, _⊎_, inl, inr, _≡_, refl, sym, ap, subst, _∙_, arith}
+use Rattle.numbers.{proofs.Answers.{All, then-all, any}, specs.{Answer.{Answer, found, failed, refused, if_then_else_, inRange, checked, _>>=_}, Point.{signedOf, pointOf}}}
+use Rattle.numbers.specs.{Varint.{readingOf, backwardAt}, declared.point.RawPoint.{RawPoint}}
+use lib.IntN.{+ℤ-idr}
+use native.Mathlib.Nat.{lt-suc-self}
+use Rattle.border.{proofs.{Room.{left}, Trace.{next-step, trace-step, again-less}, reader.Turns.{open-packed, closed-ends}}, specs.Place.{pointAt, moveBy, movedBy, negated}}
 use Rattle.border.specs.Reader.{Reading, Turn, gives, again, ends, onward, arrived, advanced, asI64, opened, reference, marker, lent, packedTurn, turnOf}
-use Rattle.border.specs.Trace.{Given, reaches, ended, roundAgain, nextPoint, Trace, point, closed, traceThen, traceOf}
-use Rattle.border.specs.declared.place.Point.{Point}
-use Rattle.border.specs.declared.reader.{Reader.{Reader}, Encoding.{Encoding}, Run.{Run, the-variants.{Idle, Forward, Backward}}, Version.the-variants.{Packed}}
-use Rattle.border.specs.Trace as T
-use Rattle.numbers.proofs.Answers.{All, then-all, any}
-use Rattle.numbers.specs.{Answer.{Answer, found, failed, refused, if_then_else_, inRange, checked, _>>=_}, Point.{signedOf, pointOf}, Varint.{readingOf, backwardAt}}
-use Rattle.numbers.specs.declared.point.RawPoint.{RawPoint}
+use Rattle.border.specs.{Trace.{Given, reaches, ended, roundAgain, nextPoint, Trace, point, closed, traceThen, traceOf}, declared.{place.Point.{Point}, reader.{Encoding.{Encoding}, Reader.{Reader}}}}
+use Rattle.border.specs.declared.reader.{Run.{Run, the-variants.{Idle, Forward, Backward}}, Version.the-variants.{Packed}}
 use Rattle.salvage.proofs.moves.Forms.{Small, point-tiny, still-tiny, negated-tiny}
+use Rattle.border.specs.Trace as T
 
 -- ---- the trace, turn by turn
 unfoldable pub traceBy : Answer Turn → (Reader → Trace) → Trace
@@ -29,14 +25,13 @@ module _ (f : List ℕ) (encoding : Encoding) where
 
   pub trace-turn : (s : Reader) → traceOf f encoding s ≡ traceBy (turn s) (traceOf f encoding)
   unfolding traceBy roundAgain traceThen
-  trace-turn s = trace-step f encoding s ∙ ap (λ (n : Answer Given). traceThen n (traceOf f encoding)) (next-step f encoding s) ∙ go (turn s)
-    where
-      go : (t : Answer Turn) → traceThen (t >>= roundAgain (nextPoint f encoding)) (traceOf f encoding) ≡ traceBy t (traceOf f encoding)
-      go (found (gives t)) = refl
-      go (found (again t)) = sym (trace-step f encoding t)
-      go (found ends) = refl
-      go failed = refl
-      go (refused n) = refl
+  trace-turn s = trace-step f encoding s ∙ ap (λ (n : Answer Given). traceThen n (traceOf f encoding)) (next-step f encoding s) ∙ go (turn s) where
+    go : (t : Answer Turn) → traceThen (t >>= roundAgain (nextPoint f encoding)) (traceOf f encoding) ≡ traceBy t (traceOf f encoding)
+    go (found (gives t)) = refl
+    go (found (again t)) = sym (trace-step f encoding t)
+    go (found ends) = refl
+    go failed = refl
+    go (refused n) = refl
 
   -- a closed border has ended
   pub closed-trace : (s : Reader) → s .closed ≡ true → traceOf f encoding s ≡ closed
@@ -50,20 +45,18 @@ pub record Ranged (p : Point) : Type 0 where
 
 pub moved-ranged : (p : Point) (by : RawPoint) → All Ranged (movedBy p by)
 unfolding movedBy checked
-moved-ranged p by = go (inRange 31 (p .lat .0 +ℤ by .lat)) (inRange 31 (p .lon .0 +ℤ by .lon)) refl refl
-  where
-    lat : ℤ
-    lat = p .lat .0 +ℤ by .lat
+moved-ranged p by = go (inRange 31 (p .lat .0 +ℤ by .lat)) (inRange 31 (p .lon .0 +ℤ by .lon)) refl refl where
+  lat : ℤ
+  lat = p .lat .0 +ℤ by .lat
 
-    lon : ℤ
-    lon = p .lon .0 +ℤ by .lon
+  lon : ℤ
+  lon = p .lon .0 +ℤ by .lon
 
-    go : (s t : Bool) → inRange 31 lat ≡ s → inRange 31 lon ≡ t
-        → All Ranged ((if s then found lat else refused 13) >>= λ lat. (if t then found lon else refused 13) >>= λ lon. found (pointAt lat lon))
-    go true true a b = record { lat-fits = a; lon-fits = b }
-    go true false a b = tt
-    go false true a b = tt
-    go false false a b = tt
+  go : (s t : Bool) → inRange 31 lat ≡ s → inRange 31 lon ≡ t → All Ranged ((if s then found lat else refused 13) >>= λ lat. (if t then found lon else refused 13) >>= λ lon. found (pointAt lat lon))
+  go true true a b = record { lat-fits = a; lon-fits = b }
+  go true false a b = tt
+  go false true a b = tt
+  go false false a b = tt
 
 stays : (p : Point) → Ranged p → movedBy p (moveBy (pos 0) (pos 0)) ≡ found p
 unfolding movedBy checked
@@ -116,12 +109,11 @@ module _ (s : Reader) where
 
   advance-does : (u : Reader) → Same s u → (by : RawPoint) → Small by → All (Does s) (advanced u by)
   unfolding advanced
-  advance-does u same by small = go (movedBy (u .point) by) refl (moved-ranged (u .point) by)
-    where
-      go : (answer : Answer Point) → movedBy (u .point) by ≡ answer → All Ranged answer → All (Does s) (answer >>= λ p. found (gives (arrived u p)))
-      go (found p) e r = inl (step-to u same by small p e r)
-      go failed e r = tt
-      go (refused n) e r = tt
+  advance-does u same by small = go (movedBy (u .point) by) refl (moved-ranged (u .point) by) where
+    go : (answer : Answer Point) → movedBy (u .point) by ≡ answer → All Ranged answer → All (Does s) (answer >>= λ p. found (gives (arrived u p)))
+    go (found p) e r = inl (step-to u same by small p e r)
+    go failed e r = tt
+    go (refused n) e r = tt
 
   -- the same point, at another place
   moved-on : s .closed ≡ false → (place moves : ℕ) (run : Run) → Same s (onward s place moves run)
@@ -131,20 +123,16 @@ module _ (read : Reading) (base : ℕ) (s : Reader) (h : s .closed ≡ false) wh
   reference-does : (place : ℕ) → All (Does s) (reference read base (onward s place (s .moves) Idle))
   unfolding reference
   reference-does place =
-      then-all _ (Does s) (read place) _ (any (read place))
-      (λ start k. then-all _ (Does s) (read (start .place)) _ (any (read (start .place)))
+      then-all _ (Does s) (read place) _ (any (read place)) (λ start k. then-all _ (Does s) (read (start .place)) _ (any (read (start .place)))
       (λ size l. then-all _ (Does s) (opened base (asI64 (start .value)) (signedOf (size .value))) _ (any (opened base (asI64 (start .value)) (signedOf (size .value))))
       (λ run m. moved-on s h (size .place) (s .moves) run)))
 
   marker-does : Ranged (s .point) → (place : ℕ) → All (Does s) (marker read base (onward s place (s .moves) Idle))
   unfolding marker
   marker-does r place =
-      then-all _ (Does s) (read place) _ (any (read place))
-      (λ mark k. either (Does s) (eqb (mark .value) 0) _ _
-      (inr (record { now-closed = refl; back = refl }))
-      (either (Does s) (eqb (mark .value) 1) _ _
-      (reference-does (mark .place))
-      (inl (step-to s (onward s (mark .place) (s .moves) Idle) (moved-on s h (mark .place) (s .moves) Idle) (moveBy (pos 0) (pos 0)) still-tiny (s .point) (stays (s .point) r) r))))
+      then-all _ (Does s) (read place) _ (any (read place)) (λ mark k. either (Does s) (eqb (mark .value) 0) _ _ (inr (record { now-closed = refl; back = refl }))
+      (either (Does s) (eqb (mark .value) 1) _ _ (reference-does (mark .place)) (inl (step-to s (onward s (mark .place) (s .moves) Idle)
+      (moved-on s h (mark .place) (s .moves) Idle) (moveBy (pos 0) (pos 0)) still-tiny (s .point) (stays (s .point) r) r))))
 
 lent-tiny : (value : ℕ) → All Small (lent value)
 unfolding lent
@@ -154,19 +142,14 @@ module _ (read : Reading) (f : List ℕ) (base : ℕ) (s : Reader) (h : s .close
   packed-does : (run : Run) → All (Does s) (packedTurn run read f base s)
   unfolding packedTurn
   packed-does Idle =
-      then-all _ (Does s) (read (s .place)) _ (any (read (s .place)))
-      (λ number k. either (Does s) (eqb (number .value) 0) _ _
-      (marker-does read base s h r (number .place))
-      (advance-does s (onward s (number .place) (s .moves) Idle) (moved-on s h (number .place) (s .moves) Idle) (pointOf (number .value)) (point-tiny (number .value))))
+      then-all _ (Does s) (read (s .place)) _ (any (read (s .place))) (λ number k. either (Does s) (eqb (number .value) 0) _ _ (marker-does read base s h r
+      (number .place)) (advance-does s (onward s (number .place) (s .moves) Idle) (moved-on s h (number .place) (s .moves) Idle) (pointOf (number .value)) (point-tiny (number .value))))
   packed-does (Forward next end) =
-      then-all _ (Does s) (read next) _ (any (read next))
-      (λ number k. then-all Small (Does s) (lent (number .value)) _ (lent-tiny (number .value))
+      then-all _ (Does s) (read next) _ (any (read next)) (λ number k. then-all Small (Does s) (lent (number .value)) _ (lent-tiny (number .value))
       (λ by small. advance-does s _ (moved-on s h (s .place) (s .moves) _) by small))
   packed-does (Backward next end) =
-      then-all _ (Does s) (backwardAt f next) _ (any (backwardAt f next))
-      (λ number k. then-all Small (Does s) (lent (number .value)) _ (lent-tiny (number .value))
-      (λ by small. then-all Small (Does s) (negated by) _ (negated-tiny by small)
-      (λ back tiny. advance-does s _ (moved-on s h (s .place) (s .moves) _) back tiny)))
+      then-all _ (Does s) (backwardAt f next) _ (any (backwardAt f next)) (λ number k. then-all Small (Does s) (lent (number .value)) _ (lent-tiny (number .value))
+      (λ by small. then-all Small (Does s) (negated by) _ (negated-tiny by small) (λ back tiny. advance-does s _ (moved-on s h (s .place) (s .moves) _) back tiny)))
 
 -- ---- up to the next point
 abbrev pub DoesThere : Reader → Given → Type 0
@@ -200,16 +183,15 @@ module _ (f : List ℕ) (encoding : Encoding) (packed : encoding .version ≡ Pa
   next-within : (n : ℕ) (s : Reader) → left f s < n → s .closed ≡ false → Ranged (s .point) → All (DoesThere s) (nextPoint f encoding s)
   unfolding roundAgain
   next-within zero s l h r = absurd (omega arith)
-  next-within (suc n) s l h r = rw (next-step f encoding s) (go (turn f encoding s) refl (turn-does s h r) (λ t k o q. next-within n t k o q))
-    where
-      go : (t : Answer Turn) → t ≡ turn f encoding s → All (Does s) t → ((t : Reader) → left f t < n → t .closed ≡ false → Ranged (t .point) → All (DoesThere t) (nextPoint f encoding t))
-          → All (DoesThere s) (t >>= roundAgain (nextPoint f encoding))
-      go (found (gives t)) e d rest = d
-      go (found (again t)) e d rest =
-          all-same s t d (nextPoint f encoding t) (rest t (omega (arith, again-less f encoding s t e)) (d .same-open) (subst Ranged (sym (d .same-point)) r))
-      go (found ends) e d rest = absurd d
-      go failed e d rest = tt
-      go (refused n) e d rest = tt
+  next-within (suc n) s l h r = rw (next-step f encoding s) (go (turn f encoding s) refl (turn-does s h r) (λ t k o q. next-within n t k o q)) where
+    go : (t : Answer Turn) → t ≡ turn f encoding s → All (Does s) t → ((t : Reader) → left f t < n → t .closed ≡ false → Ranged (t .point) → All (DoesThere t) (nextPoint f encoding t))
+        → All (DoesThere s) (t >>= roundAgain (nextPoint f encoding))
+    go (found (gives t)) e d rest = d
+    go (found (again t)) e d rest =
+        all-same s t d (nextPoint f encoding t) (rest t (omega (arith, again-less f encoding s t e)) (d .same-open) (subst Ranged (sym (d .same-point)) r))
+    go (found ends) e d rest = absurd d
+    go failed e d rest = tt
+    go (refused n) e d rest = tt
 
   -- the next point of an open border is a small move away, or closes it; there is none only where reading fails or is refused
   pub next-does : (s : Reader) → s .closed ≡ false → Ranged (s .point) → All (DoesThere s) (nextPoint f encoding s)

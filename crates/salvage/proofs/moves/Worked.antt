@@ -1,13 +1,9 @@
 -- A border that closes, with a repeated point: its moves, and what is written of them. So `moves-again` speaks of something. Assumes nothing.
-use lib.IntN.{pos}
-use mathlib.Core.{List.{List, [], _∷_, flatMap}, Path.{_≡_, refl, ap}}
-use Prim.Native.Nat.{ℕ}
+use Rattle.numbers.{proofs.Prelude.{ℕ, pos, List, [], _∷_, flatMap, _≡_, refl, ap}, specs.{Answer.{found, checked}, Point.{signedOf, evenBits, pointOf}}}
+use Rattle.numbers.specs.{Spelling.{digitsOf, varintOf, signedForm, interleaved}, Varint.{readingOf, forwardAt, valueOf, sizeOf, tooLong}}
 use Rattle.border.specs.{Encoding.{encodedIn}, Place.{pointAt, moveBy, isStill, movedBy}, Reader.{advanced, marker, packedTurn, turnOf}}
-use Rattle.border.specs.Trace.{roundAgain, nextWithin, nextPoint, Trace, point, closed, traceThen, traceWithin, traceOf, borderAt}
-use Rattle.border.specs.declared.reader.Version.the-variants.{Packed}
+use Rattle.border.specs.{Trace.{roundAgain, nextWithin, nextPoint, Trace, point, closed, traceThen, traceWithin, traceOf, borderAt}, declared.reader.Version.the-variants.{Packed}}
 use Rattle.writer.specs.Moves.{moveTo, packedNumber}
-use Rattle.numbers.specs.{Answer.{found, checked}, Point.{signedOf, evenBits, pointOf}, Spelling.{digitsOf, varintOf, signedForm, interleaved}}
-use Rattle.numbers.specs.Varint.{readingOf, forwardAt, valueOf, sizeOf, tooLong}
 use Rattle.salvage.specs.Moves.Moves.{endOf, origin, stepsFrom, movesBy, movesAt, stepNumber, stepBytes, movesBytes}
 
 -- a move to (2,2), the point repeated by 0 and 2, the end

@@ -1,14 +1,11 @@
 -- Which numbers a salvage can be refused with. Assumes nothing.
-use Prim.Native.Nat.{ℕ, zero, suc, _+_, _^_, min}
-use lib.{Dec.{ltb, leb}, ListN.{length}}
-use mathlib.Core.{Bool.{true, _&&_}, List.{List, [], _∷_, _++_}, Path.{_≡_, refl}}
-use Rattle.header.proofs.Numbered.{headerNumbers, head-numbered, text-numbered}
-use Rattle.header.specs.{Text.{stringAt, orBlamed, textAt}, declared.{header.Head.{Head}, text.{Blame.{Blame}, Text.{Text}}}}
-use Rattle.numbers.proofs.{Refusals.{Listed, still-listed}, Replies.{NumberedReply, answers, refuses, then-reply, and-then, demands, number-of}}
-use Rattle.numbers.specs.{Answer.{Answer, found, failed}, Reply.{Reply, refused, plain, _orElse_}, declared.refusal.Refusal.{Refusal}}
-use Rattle.numbers.specs.Answer as A
+use Rattle.numbers.proofs.Prelude.{ℕ, zero, suc, _+_, _^_, min, ltb, leb, length, true, _&&_, List, [], _∷_, _++_, _≡_, refl}
+use Rattle.numbers.{proofs.{Refusals.{Listed, still-listed}, Replies.{NumberedReply, answers, refuses, then-reply, and-then, demands, number-of}}, specs.Answer.{Answer, found, failed}}
+use Rattle.numbers.specs.{Reply.{Reply, refused, plain, _orElse_}, declared.refusal.Refusal.{Refusal}}
+use Rattle.header.{proofs.Numbered.{headerNumbers, head-numbered, text-numbered}, specs.{Text.{stringAt, orBlamed, textAt}, declared.{header.Head.{Head}, text.{Blame.{Blame}, Text.{Text}}}}}
 use Rattle.salvage.specs.{File.{textsInline, newFile}, Kept.{keptOf, linesFrom}, Salvage.{Salvaged, repliedOf, salvagedOf, salvaged}}
 use Rattle.table.specs.Rows.{rowsIn}
+use Rattle.numbers.specs.Answer as A
 
 -- those of a header, a text that can't stand inline, no room, a number that is cut, nothing left
 abbrev pub salvageNumbers : List ℕ
@@ -41,13 +38,10 @@ module _ (file : List ℕ) where
     known : NumberedReply Known (salvagedOf file words room)
     unfolding salvagedOf
     known =
-        then-reply (head-numbered {P = Known} (still-listed headerNumbers (26 ∷ 28 ∷ 31 ∷ 32 ∷ [])) true (λ e. refl) file)
-        (λ head. then-reply (texts head (head .preamble .count + 1) 7)
-        (λ bytes. and-then (demands
-        (leb (length (newFile file head bytes (keptOf file head (rowsIn file head)))) (min room (2 ^ 30)) && leb (length (linesFrom file head 0 (rowsIn file head))) words) (plain 28)
-        refl)
-        (and-then (demands (ltb 0 (length (keptOf file head (rowsIn file head)))) (plain 32) refl)
-        answers)))
+        then-reply (head-numbered {P = Known} (still-listed headerNumbers (26 ∷ 28 ∷ 31 ∷ 32 ∷ [])) true (λ e. refl) file) (λ head. then-reply
+        (texts head (head .preamble .count + 1) 7) (λ bytes. and-then (demands (leb (length (newFile file head bytes (keptOf file head (rowsIn file head))))
+        (min room (2 ^ 30)) && leb (length (linesFrom file head 0 (rowsIn file head))) words) (plain 28) refl)
+        (and-then (demands (ltb 0 (length (keptOf file head (rowsIn file head)))) (plain 32) refl) answers)))
 
     told : {answer : Reply Salvaged} → NumberedReply Known answer → NumberedReply Known (repliedOf words room answer .reply)
     told answers = answers

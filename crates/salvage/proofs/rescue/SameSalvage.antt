@@ -1,10 +1,6 @@
 -- What the promise fixes: two replies that it permits are equal, with both lent outputs; and a refusal leaves both zero. Assumes nothing.
-use Prim.Native.Nat.{ℕ}
-use mathlib.Core.{List.{List}, Path.{_≡_, refl, sym, ap, _∙_}}
-use native.Mathlib.Omega.{arith}
-use Rattle.numbers.specs.{Lists.{zeros}, Reply.{Reply, given, refused}, declared.refusal.Refusal.{Refusal}}
-use Rattle.salvage.specs.Salvage.{Salvaged, Counts, Replied, repliedOf, salvagedOf, salvaged}
-use Rattle.salvage.specs.{inner.Rescue.Told.{toldRescued, replied}, declared.rescue.reply.Rescued.{Rescued}}
+use Rattle.numbers.{proofs.Prelude.{ℕ, List, _≡_, refl, sym, ap, _∙_, arith}, specs.{Lists.{zeros}, Reply.{Reply, given, refused}, declared.refusal.Refusal.{Refusal}}}
+use Rattle.salvage.specs.{Salvage.{Salvaged, Counts, Replied, repliedOf, salvagedOf, salvaged}, declared.rescue.reply.Rescued.{Rescued}, inner.Rescue.Told.{toldRescued, replied}}
 use Rattle.salvage.specs.declared.rescue.reply.Rescued.the-variants as R
 
 back : Reply Counts → Rescued
@@ -19,12 +15,8 @@ back-again (R.Refused why) = refl
 module _ (file : List ℕ) (words room : ℕ) where
   pub same-salvage : (r r′ : Rescued) (list list′ out out′ : List ℕ) → replied r list out ≡ salvaged file words room → replied r′ list′ out′ ≡ salvaged file words room
       → (r ≡ r′) × (list ≡ list′) × (out ≡ out′)
-  same-salvage r r′ list list′ out out′ e e′ =
-      let same = e ∙ sym e′ in (
-        sym (back-again r) ∙ ap (λ (x : Replied). back (x .reply)) same ∙ back-again r′,
-        ap (λ (x : Replied). x .list) same,
-        ap (λ (x : Replied). x .out) same,
-      )
+  same-salvage r r′ list list′ out out′ e e′ = let same = e ∙ sym e′ in
+      (sym (back-again r) ∙ ap (λ (x : Replied). back (x .reply)) same ∙ back-again r′, ap (λ (x : Replied). x .list) same, ap (λ (x : Replied). x .out) same)
 
   all-zero : (answer : Reply Salvaged) (why : Refusal) → repliedOf words room answer .reply ≡ refused why →
       (repliedOf words room answer .list ≡ zeros words) × (repliedOf words room answer .out ≡ zeros room)

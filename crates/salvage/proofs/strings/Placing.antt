@@ -1,16 +1,11 @@
 -- Strings and their places, field by field. Assumes nothing.
-use Prim.Native.Nat.{ℕ, zero, suc, _+_, _-_, _%_, _^_, _<_, _≤_}
-use borrow.Author.Tests.{lt-leb, lt-ltb, le-ltb}
-use lib.Dec.{leb}
-use mathlib.Core.{Bool.{Bool, true, false, _&&_}, List.{List, [], _∷_}, Path.{_≡_, refl, sym, ap, _∙_}}
-use native.Mathlib.{Numerals.{sub-one}, Omega.{arith}}
-use types.Run.{OneOf, miss}
+use Rattle.numbers.proofs.Prelude.{ℕ, zero, suc, _+_, _-_, _%_, _^_, _≤_, _<_, lt-ltb, le-ltb, lt-leb, leb, Bool, true, false, _&&_, List, [], _∷_, _≡_, refl, sym, ap, _∙_, arith, OneOf, miss}
+use Rattle.numbers.{proofs.Laws.{caseOf}, specs.{Answer.{found}, Reply.{Reply, given, refused, plain}, Varint.{Numeral, told, readingOf}, declared.refusal.Refusal.{Refusal}}}
+use Rattle.numbers.specs.declared.varint.Varint.{Varint}
+use native.Mathlib.Numerals.{sub-one}
 use Rattle.header.{proofs.Strings.{away}, specs.{Text.{textAt}, declared.{header.Head.{Head}, text.Text.{Text}}}}
-use Rattle.numbers.proofs.Laws.{caseOf}
-use Rattle.numbers.specs.{Answer.{found}, Reply.{Reply, given, refused, plain}, Varint.{Numeral, told, readingOf}}
-use Rattle.numbers.specs.declared.{refusal.Refusal.{Refusal}, varint.Varint.{Varint}}
-use Rattle.numbers.specs.declared.varint.Varint.the-variants as N
 use Rattle.salvage.specs.Kept.{inSection, spanInside, stringInside, fieldGood, fieldsGood}
+use Rattle.numbers.specs.declared.varint.Varint.the-variants as N
 
 nothing-in : (t : Bool) → false ≡ (t && false)
 nothing-in true = refl
@@ -21,21 +16,19 @@ module _ (file : List ℕ) (head : Head) (place : ℕ) where
   module _ (n : Varint) (none : OneOf (1 ∷ 2 ∷ []) (caseOf n)) (e : told n ≡ readingOf (head .strict) file place) where
     pub span-stops : false ≡ spanInside file head place
     unfolding spanInside
-    span-stops = go n none e
-      where
-        go : (n : Varint) → OneOf (1 ∷ 2 ∷ []) (caseOf n) → told n ≡ readingOf (head .strict) file place → false ≡ spanInside file head place
-        go (N.Number number) o g = absurd (miss (1 ∷ 2 ∷ []) 0 tt o)
-        go N.Failed o g = rw (← g)
-        go (N.Refused m) o g = rw (← g)
+    span-stops = go n none e where
+      go : (n : Varint) → OneOf (1 ∷ 2 ∷ []) (caseOf n) → told n ≡ readingOf (head .strict) file place → false ≡ spanInside file head place
+      go (N.Number number) o g = absurd (miss (1 ∷ 2 ∷ []) 0 tt o)
+      go N.Failed o g = rw (← g)
+      go (N.Refused m) o g = rw (← g)
 
     pub string-stops : false ≡ stringInside file head place
     unfolding stringInside
-    string-stops = go n none e
-      where
-        go : (n : Varint) → OneOf (1 ∷ 2 ∷ []) (caseOf n) → told n ≡ readingOf (head .strict) file place → false ≡ stringInside file head place
-        go (N.Number number) o g = absurd (miss (1 ∷ 2 ∷ []) 0 tt o)
-        go N.Failed o g = rw (← g)
-        go (N.Refused m) o g = rw (← g)
+    string-stops = go n none e where
+      go : (n : Varint) → OneOf (1 ∷ 2 ∷ []) (caseOf n) → told n ≡ readingOf (head .strict) file place → false ≡ stringInside file head place
+      go (N.Number number) o g = absurd (miss (1 ∷ 2 ∷ []) 0 tt o)
+      go N.Failed o g = rw (← g)
+      go (N.Refused m) o g = rw (← g)
 
   -- ---- one that was read
   module _ {number : Numeral} (e : found number ≡ readingOf (head .strict) file place) where
@@ -45,9 +38,8 @@ module _ (file : List ℕ) (head : Head) (place : ℕ) where
 
     pub span-far : 4294967295 < number .value → head .sections .«data» < 2 ^ 32 → false ≡ spanInside file head place
     span-far far small =
-        nothing-in (leb (head .sections .metadata) place)
-        ∙ ap (λ (t : Bool). leb (head .sections .metadata) place && t) (sym (lt-leb (number .place + number .value) (head .sections .«data») (omega arith)))
-        ∙ span-is
+        nothing-in (leb (head .sections .metadata) place) ∙ ap (λ (t : Bool). leb (head .sections .metadata) place && t)
+        (sym (lt-leb (number .place + number .value) (head .sections .«data») (omega arith))) ∙ span-is
 
     pub string-inline : number .value < 256 → inSection head place (number .place + number .value) ≡ stringInside file head place
     unfolding stringInside
@@ -60,10 +52,8 @@ module _ (file : List ℕ) (head : Head) (place : ℕ) where
     pub string-away : 256 ≤ number .value → {t : Bool} → t ≡ inSection head place (number .place) → t ≡ true
         → {r : Bool} → r ≡ spanInside file head ((head .sections .metadata + (number .value - 256) % 2 ^ 32) % 2 ^ 32) → r ≡ stringInside file head place
     string-away h s t g =
-        g
-        ∙ ap (spanInside file head) (away (head .sections .metadata) (number .value) h)
-        ∙ ap (λ (b : Bool). b && spanInside file head ((head .sections .metadata + number .value - 256) % 2 ^ 32)) (sym t ∙ s)
-        ∙ string-remote h
+        g ∙ ap (spanInside file head) (away (head .sections .metadata) (number .value) h) ∙ ap (λ (b : Bool). b && spanInside file head
+        ((head .sections .metadata + number .value - 256) % 2 ^ 32)) (sym t ∙ s) ∙ string-remote h
 
     pub string-cut : 256 ≤ number .value → {t : Bool} → t ≡ inSection head place (number .place) → t ≡ false → false ≡ stringInside file head place
     string-cut h s t = ap (λ (b : Bool). b && spanInside file head ((head .sections .metadata + number .value - 256) % 2 ^ 32)) (sym t ∙ s) ∙ string-remote h

@@ -1,14 +1,10 @@
 -- The rows that are kept, from a cursor on. Assumes nothing.
-use Prim.Native.Nat.{ℕ, _-_, _<_, _≤_}
-use mathlib.Core.{Bool.{Bool, true, false}, List.{List, [], _∷_}, Path.{_≡_, refl, sym, ap, _∙_}}
-use native.Mathlib.Omega.{arith}
-use Rattle.numbers.proofs.Tests.{differ}
+use Rattle.numbers.proofs.Prelude.{ℕ, _-_, _≤_, _<_, Bool, true, false, List, [], _∷_, _≡_, refl, sym, ap, _∙_, arith}
+use Rattle.numbers.{proofs.{Readings.{reading-grows}, Tests.{differ}}, specs.{Answer.{Answer, found, failed}, Reply.{Reply, given, refused}, Varint.{Numeral, readingOf}}}
 use Rattle.header.specs.declared.header.Head.{Head}
-use Rattle.numbers.specs.{Answer.{Answer, found, failed}, Reply.{Reply, given, refused}, Varint.{Numeral, readingOf}}
-use Rattle.numbers.specs.Answer as A
-use Rattle.table.proofs.TableRows.{reading-grows, at-end, at-row, at-unreadable, at-refused, row-less}
-use Rattle.table.specs.{Rows.{after, rowBy}, declared.rows.{Cursor.{Cursor}, Row.{Row}}}
+use Rattle.table.{proofs.TableRows.{at-end, at-row, at-unreadable, at-refused, row-less}, specs.{Rows.{after, rowBy}, declared.rows.{Cursor.{Cursor}, Row.{Row}}}}
 use Rattle.salvage.specs.Kept.{entryGood, keptIf, keptOf, keptFrom, goodness, LedTo}
+use Rattle.numbers.specs.Answer as A
 
 good-given : (g : Reply (Unit {0})) → goodness g ≡ true → g ≡ given tt
 good-given (given tt) e = refl
@@ -44,13 +40,11 @@ module _ (file : List ℕ) (head : Head) where
 
     pub kept-here : {r : Row} {t : Bool} → found r ≡ rowBy read at → t ≡ goodness (entryGood file head r) → t ≡ true → LedTo file head at r
     unfolding keptFrom keptOf
-    kept-here {r} e g t =
-        let good = sym g ∙ t in
-        record {
-          more = ap (keptOf file head) (at-row read (reading-grows (head .strict) file) at more e refl) ∙ kept-if-good (entryGood file head r) good r _;
-          good = good-given (entryGood file head r) good;
-          fewer = row-less read (reading-grows (head .strict) file) at more e refl;
-        }
+    kept-here {r} e g t = let good = sym g ∙ t in record {
+      more = ap (keptOf file head) (at-row read (reading-grows (head .strict) file) at more e refl) ∙ kept-if-good (entryGood file head r) good r _;
+      good = good-given (entryGood file head r) good;
+      fewer = row-less read (reading-grows (head .strict) file) at more e refl;
+    }
 
     pub kept-not : {r : Row} {next : Cursor} {t : Bool} → found r ≡ rowBy read at → next ≡ after r → t ≡ goodness (entryGood file head r) → t ≡ false → keptFrom file head next ≡ keptFrom file head at
     unfolding keptFrom keptOf

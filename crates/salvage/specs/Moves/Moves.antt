@@ -1,14 +1,11 @@
 -- A border's moves stand between its bytes and its points: document 02, Q-7, "every move stays, zero moves and version 0's closing pair included".
-use Prim.Native.Nat.{ℕ, zero, suc, _-_}
-use mathlib.Core.{Bool.{Bool, true, false}, List.{List, [], _∷_, _++_, flatMap}}
-use lib.{IntN.{pos}, ListN.{length}}
+use Rattle.numbers.specs.Prelude.{ℕ, zero, suc, _-_, pos, length, Bool, true, false, List, [], _∷_, _++_, flatMap}
+use Rattle.numbers.specs.{Answer.{Answer, found, failed, refused, if_then_else_, _>>=_}, Point.{signedOf}, Spelling.{varintOf}, Varint.{readingOf}, declared.point.RawPoint.{RawPoint}}
 use Rattle.writer.specs.Moves.{moveTo, packedNumber, plainMoveBytes}
-use Rattle.border.specs.{Place.{pointAt, moveBy, isStill}, Reader.{Reading}, Trace.{Trace, point, closed, traceOf, borderAt}}
-use Rattle.border.specs.declared.{place.Point.{Point}, reader.{Encoding.{Encoding}, Version.{Version, the-variants.{Plain, Packed}}}}
-use Rattle.border.specs.Trace as T
-use Rattle.numbers.specs.{Answer.{Answer, found, failed, refused, if_then_else_, _>>=_}, Point.{signedOf}, Spelling.{varintOf}, Varint.{readingOf}}
-use Rattle.numbers.specs.declared.point.RawPoint.{RawPoint}
+use Rattle.border.specs.{Place.{pointAt, moveBy, isStill}, Reader.{Reading}, Trace.{Trace, point, closed, traceOf, borderAt}, declared.{place.Point.{Point}, reader.Encoding.{Encoding}}}
+use Rattle.border.specs.declared.reader.Version.{Version, the-variants.{Plain, Packed}}
 use Rattle.salvage.specs.declared.moves.pairs.Pair.{Pair}
+use Rattle.border.specs.Trace as T
 
 -- how a border ends, whatever its points
 unfoldable pub endOf : Trace → Answer (Unit {0})

@@ -1,11 +1,8 @@
 -- From the header to the merged matches, by how far the code came. Assumes nothing.
-use mathlib.Core.{Path.{_≡_, sym, ap, subst, _∙_}, Bool.{Bool, true, false}, List.{List}}
-use Prim.Native.Nat.{ℕ, _/_, _≤_}
-use lib.ListN.{length, take}
-use Rattle.numbers.{specs.{Lists.{zeros, padded}, Reply.{Reply, given, refused, plain}, declared.refusal.Refusal.{Refusal}}, proofs.Replies.{carried, onward, met, unmet}}
-use Rattle.table.specs.{Hits.{width, words, slots, Real}, Search.{Found, searched, Sought}, inner.Agreeing.{Agrees}, Merge.{merged}}
-use Rattle.table.specs.Find.{fixOf, isPrecision, Matched, matchedWith, finding, findingOf, Matching}
-use Rattle.table.specs.declared.{hits.Hit.{Hit}, search.Ended.{Ended}, location.Location.{Location}, find.Matches.{Matches}}
+use Rattle.numbers.proofs.Prelude.{ℕ, _/_, _≤_, length, take, Bool, true, false, List, _≡_, sym, ap, subst, _∙_}
+use Rattle.numbers.{proofs.Replies.{carried, onward, met, unmet}, specs.{Lists.{zeros, padded}, Reply.{Reply, given, refused, plain}, declared.refusal.Refusal.{Refusal}}}
+use Rattle.table.specs.{Find.{fixOf, isPrecision, Matched, matchedWith, finding, findingOf, Matching}, Hits.{width, words, slots, Real}, Merge.{merged}, Search.{Found, searched, Sought}}
+use Rattle.table.specs.{declared.{find.Matches.{Matches}, hits.Hit.{Hit}, location.Location.{Location}, search.Ended.{Ended}}, inner.Agreeing.{Agrees}}
 use Rattle.header.specs.declared.header.Head.{Head}
 use Rattle.border.specs.declared.place.Point.{Point}
 use Rattle.table.proofs.{Agreeing.{gave, refused-so}, Words.{padded-slots, padded-room}}
@@ -41,23 +38,14 @@ module _ {n : ℕ} {ws : List ℕ} {found : Found} {ended : Ended} (s : Sought n
 
   -- what merging asks
   pub asks : length ws ≡ n → (ended .count ≤ length ws / width) × (ws ≡ padded (length ws) (words front)) × Real front
-  asks same = (
-    rw counted (padded-room n (found .hits) (s .kept) same),
-    s .kept ∙ sym (λ i. padded (same i) (words (front-is i))),
-    rw front-is (s .real),
-  )
+  asks same = (rw counted (padded-room n (found .hits) (s .kept) same), s .kept ∙ sym (λ i. padded (same i) (words (front-is i))), rw front-is (s .real))
 
   -- and what it then leaves
   pub leaves : {r : ℕ} {last : List ℕ} → length ws ≡ n → (r ≡ length (merged front)) × (last ≡ padded (length ws) (words (merged front)))
       → Matching n last (record { matches = merged (found .hits); mark = found .mark; least = found .least }) (record { count = r; mark = ended .mark; least = ended .least })
-  leaves {r} same m =
-      let count : r ≡ length (merged (found .hits)) = m .0 ∙ ap (λ (l : List Hit). length (merged l)) front-is in
-      let mark = ap (λ (e : Ended). e .mark) (s .said) in
-      let least = ap (λ (e : Ended). e .least) (s .said) in
-      record {
-        said = λ i. record { count = count i; mark = mark i; least = least i };
-        kept = m .1 ∙ (λ i. padded (same i) (words (merged (front-is i))));
-      }
+  leaves {r} same m = let count : r ≡ length (merged (found .hits)) = m .0 ∙ ap (λ (l : List Hit). length (merged l)) front-is in
+      let mark = ap (λ (e : Ended). e .mark) (s .said) in let least = ap (λ (e : Ended). e .least) (s .said) in
+      record { said = λ i. record { count = count i; mark = mark i; least = least i }; kept = m .1 ∙ (λ i. padded (same i) (words (merged (front-is i)))) }
 
 -- ---- the reply with the lent words, in the length that was lent
 module _ (whole : ℕ → Reply Matched) {n n′ : ℕ} (same : n′ ≡ n) (ws : List ℕ) (reply : Reply Matches) (agrees : Agrees (Matching n′ ws) (whole n′) reply) where

@@ -1,44 +1,26 @@
 -- The search of rows that are given as words, number by number. Assumes nothing.
-use Prim.Native.Nat.{ℕ, suc, _+_, _*_, _/_, _%_, _^_, _≤_, _<_}
-use borrow.Author.Tests.{lt-ltb, le-ltb, eq-eqb}
-use lib.{ListN.{length, getD, drop, drop-of-length-le}, Seq.{drop-cons}}
-use mathlib.Core.{Bool.{Bool, true, false}, List.{List, [], _∷_}, Path.{_≡_, refl, sym, ap, _∙_}}
-use native.Mathlib.Omega.{arith}
+use Rattle.numbers.proofs.Prelude.{ℕ, suc, _+_, _*_, _/_, _^_, _≤_, _<_, lt-ltb, le-ltb, length, drop, getD, drop-of-length-le, drop-cons, true, false, List, _∷_, _≡_, sym, ap, _∙_, arith}
+use Rattle.numbers.{proofs.{Coordinates.{twice-read}, Replies.{carried, onward, met, unmet}}, specs.{Point.{readI32}, Reply.{Reply, given, plain}, declared.refusal.Refusal.{Refusal}}}
 use Rattle.verdict.specs.Verdict.{Judgement}
 use Rattle.border.specs.declared.place.Point.{Point}
-use Rattle.numbers.{proofs.Replies.{carried, onward, met, unmet}, specs.{Point.{readI32, signedOf}, Reply.{Reply, given, plain}, declared.refusal.Refusal.{Refusal}}}
 use Rattle.table.proofs.{Agreeing.{agree-refused}, search.SoFar.{SoFar, ends, stops, refuses, full}}
-use Rattle.table.specs.{Find.{fixOf, isPrecision, matchedBy}, GivenRows.{recordWord, boxAt, rowAt, rowsBy}, Hits.{width}, inner.Agreeing.{Agrees}}
-use Rattle.table.specs.{Merge.{merged}, Rows.{Rows, row, tableEnd}, Search.{Found, afterTurn, rowTurn, Sought}, Table.{boundsOf}, Unstopped.{seekAll}}
-use Rattle.table.specs.declared.{hits.Hit.{Hit}, location.Location.{Location}, rows.Row.{Row}, search.Turn.{the-variants.{Met, Stopped, Refused}, Turn}, table.Bounds.{Bounds}}
+use Rattle.table.specs.{Find.{fixOf, isPrecision, matchedBy}, GivenRows.{recordWord, boxAt, rowAt, rowsBy}, Hits.{width}, Merge.{merged}, Rows.{Rows, row, tableEnd}}
+use Rattle.table.specs.{Search.{Found, afterTurn, rowTurn, Sought}, Table.{boundsOf}, Unstopped.{seekAll}, declared.{hits.Hit.{Hit}, location.Location.{Location}, rows.Row.{Row}}}
+use Rattle.table.specs.{declared.{search.Turn.{Turn, the-variants.{Met, Stopped, Refused}}, table.Bounds.{Bounds}}, inner.Agreeing.{Agrees}}
 use Rattle.header.specs.declared.header.Head.{Head}
 use Rattle.numbers.specs.Reply as R
 use Rattle.table.specs.Rows as T
 
 -- ---- a record's box
-twice-read : (word : ℕ) → word < 2 ^ 32 → signedOf (2 * word) ≡ readI32 word
-unfolding signedOf
-twice-read word h =
-    let even : 2 * word % 2 ≡ 0 = omega arith in
-    let half : 2 * word / 2 ≡ word = omega arith in
-    let low : word % 2 ^ 32 ≡ word = omega arith in
-    rw (eq-eqb (2 * word % 2) 0 even, half, low)
-
 pub box-read : (a b c d : ℕ) → a < 2 ^ 32 → b < 2 ^ 32 → c < 2 ^ 32 → d < 2 ^ 32 → boundsOf (2 * a) (2 * b) (2 * c) (2 * d)
     ≡ record { «min_lat» = record { 0 = readI32 a }; «min_lon» = record { 0 = readI32 b }; «max_lat» = record { 0 = readI32 c }; «max_lon» = record { 0 = readI32 d } }
-box-read a b c d ha hb hc hd =
-    let south = twice-read a ha in
-    let west = twice-read b hb in
-    let north = twice-read c hc in
-    let east = twice-read d hd in
+box-read a b c d ha hb hc hd = let south = twice-read a ha in let west = twice-read b hb in let north = twice-read c hc in let east = twice-read d hd in
     λ i. record { «min_lat» = record { 0 = south i }; «min_lon» = record { 0 = west i }; «max_lat» = record { 0 = north i }; «max_lon» = record { 0 = east i } }
 
 -- a row whose box was read
 pub row-read : (records : List ℕ) (k : ℕ) {place : ℕ} {bounds : Bounds} → place ≡ getD records (7 * k) 0 → bounds ≡ boxAt records k
     → record { place = place; id = k; metadata = recordWord records k 1; polygon = recordWord records k 2; bounds = bounds; next = 0 } ≡ rowAt records k
-row-read records k p b =
-    let e : 7 * k ≡ 7 * k + 0 = omega arith in
-    let there = p ∙ ap (λ (i : ℕ). getD records i 0) e in
+row-read records k p b = let e : 7 * k ≡ 7 * k + 0 = omega arith in let there = p ∙ ap (λ (i : ℕ). getD records i 0) e in
     λ i. record { place = there i; id = k; metadata = recordWord records k 1; polygon = recordWord records k 2; bounds = b i; next = 0 }
 
 -- ---- the numbers, one by one, by what the row of a record is
@@ -52,9 +34,7 @@ module _ (rowOf : List ℕ → ℕ → Row) (records numbers : List ℕ) (i : �
 
   module _ (more : i < length numbers) {k : ℕ} (is : k ≡ getD numbers i 0) where
     next : drop i numbers ≡ k ∷ drop (i + 1) numbers
-    next =
-        let e : suc i ≡ i + 1 = omega arith in
-        drop-cons numbers i 0 more ∙ (λ j. sym is j ∷ drop (e j) numbers)
+    next = let e : suc i ≡ i + 1 = omega arith in drop-cons numbers i 0 more ∙ (λ j. sym is j ∷ drop (e j) numbers)
 
     rows-none : length records / 7 ≤ k → rows ≡ T.refused 36
     unfolding rowsBy
@@ -106,6 +86,5 @@ module _ (head : Head) (location : Location) (search : Point → Reply Found) wh
     pub no-search : {why : Refusal} → R.refused why ≡ search fix → R.refused why ≡ matchedBy head location search
     no-search s = carried (s ∙ ap search f) _ ∙ met p _ _
 
-    pub searched-so : {found : Found} → given found ≡ search fix
-        → given (record { matches = merged (found .hits); mark = found .mark; least = found .least }) ≡ matchedBy head location search
+    pub searched-so : {found : Found} → given found ≡ search fix → given (record { matches = merged (found .hits); mark = found .mark; least = found .least }) ≡ matchedBy head location search
     searched-so s = onward (s ∙ ap search f) _ ∙ met p _ _

@@ -1,6 +1,5 @@
 -- A record that is judged by its number. Assumes nothing.
-use Prim.Native.Nat.{ℕ}
-use mathlib.Core.{Bool.{Bool, true}, List.{List}, Path.{_≡_, refl, ap, _∙_}}
+use Rattle.numbers.proofs.Prelude.{ℕ, Bool, true, List, _≡_, refl, ap, _∙_}
 use Rattle.border.specs.declared.place.Point.{Point}
 use Rattle.header.specs.declared.header.Head.{Head}
 use Rattle.table.proofs.search.Turns.{held}
@@ -19,7 +18,5 @@ module _ (file : List ℕ) (head : Head) (fix : Point) (asked : Bool) (records m
   pub numbered-turn : holds (boxAt records k) fix ≡ true → {r : Row} → r ≡ rowAt records k → {j : Judgement} → j ≡ judgeMarked file head fix asked marks k (r .polygon) least
       → judgedTurn r j ≡ rowTurn (judgeNumbered file head fix asked records marks) fix (rowNumbered records k) least
   numbered-turn h {r} e {j} g =
-      ap (judgedTurn r) g
-      ∙ (λ i. judgedTurn (e i) (judgeMarked file head fix asked marks k (e i .polygon) least))
-      ∙ turn-of records k (judgeNumbered file head fix asked records marks k least)
-      ∙ held (judgeNumbered file head fix asked records marks) fix (rowNumbered records k) least h
+      ap (judgedTurn r) g ∙ (λ i. judgedTurn (e i) (judgeMarked file head fix asked marks k (e i .polygon) least)) ∙ turn-of records k (judgeNumbered file head
+      fix asked records marks k least) ∙ held (judgeNumbered file head fix asked records marks) fix (rowNumbered records k) least h

@@ -1,26 +1,20 @@
 -- The loop that takes a group out of its slots: what holds before each turn, and what a turn makes of it. Assumes nothing.
-use mathlib.Core.{Path.{_≡_, refl, sym, ap, _∙_}, List.{List, [], _∷_, _++_, append-assoc, append-nil, map}}
-use Prim.Native.Nat.{ℕ, _+_, _*_, _≤_, _<_}
-use native.Mathlib.Omega.{arith}
-use borrow.Author.Tests.{eq-eqb, ne-eqb}
-use lib.{ListN.{length, set, take, drop, length-append, length-drop, length-map, take-append-drop}, Seq.{getD-at, set-at, length-take-le}}
-use Rattle.table.specs.{Hits.{width, words, hitAt, putHit, noHit}, Merge.{Summary, _⊕_, single, summary, tallied, clear, cleared}}
-use Rattle.table.specs.declared.{hits.Hit.{Hit}, merge.Tally.{Tally}}
+use Rattle.numbers.proofs.Prelude.{ℕ, _+_, _*_, _≤_, _<_, eq-eqb, ne-eqb, length, take, drop, set, length-append, length-drop, length-map, take-append-drop, length-take-le, getD-at, List, [], _∷_}
+use Rattle.numbers.proofs.Prelude.{_++_, map, append-assoc, append-nil, _≡_, refl, sym, ap, _∙_, arith}
+use lib.Seq.{set-at}
+use Rattle.table.specs.{Hits.{width, words, hitAt, putHit, noHit}, Merge.{Summary, _⊕_, single, summary, tallied, clear, cleared}, declared.{hits.Hit.{Hit}, merge.Tally.{Tally}}}
 use Rattle.table.proofs.{Words.{words-length, word-at, word-put}, merge.Summaries.{join-associative, join-empty-left, join-empty-right}}
 
 -- ---- a slot in the middle of a list
 pub middle-at : (front back : List Hit) (hit : Hit) (j : ℕ) → length front ≡ j → hitAt (words (front ++ hit ∷ back)) j ≡ hit
 middle-at front back hit j l =
-    ap (λ (ws : List ℕ). hitAt ws j) (sym (append-nil (words (front ++ hit ∷ back))))
-    ∙ word-at (front ++ hit ∷ back) [] j (omega (arith, length-append front (hit ∷ back)))
+    ap (λ (ws : List ℕ). hitAt ws j) (sym (append-nil (words (front ++ hit ∷ back)))) ∙ word-at (front ++ hit ∷ back) [] j (omega (arith, length-append front (hit ∷ back)))
     ∙ getD-at front hit back noHit j l
 
 pub middle-put : (front back : List Hit) (old hit : Hit) (j : ℕ) → length front ≡ j → putHit (words (front ++ old ∷ back)) j hit ≡ words (front ++ hit ∷ back)
 middle-put front back old hit j l =
-    ap (λ (ws : List ℕ). putHit ws j hit) (sym (append-nil (words (front ++ old ∷ back))))
-    ∙ word-put (front ++ old ∷ back) [] j hit (omega (arith, length-append front (old ∷ back)))
-    ∙ append-nil (words (set (front ++ old ∷ back) j hit))
-    ∙ ap words (set-at front old back hit j l)
+    ap (λ (ws : List ℕ). putHit ws j hit) (sym (append-nil (words (front ++ old ∷ back)))) ∙ word-put (front ++ old ∷ back) [] j hit (omega (arith, length-append front (old ∷ back)))
+    ∙ append-nil (words (set (front ++ old ∷ back) j hit)) ∙ ap words (set-at front old back hit j l)
 
 map-append : (f : Hit → Hit) (xs ys : List Hit) → map f (xs ++ ys) ≡ map f xs ++ map f ys
 map-append f [] ys = refl
@@ -65,15 +59,14 @@ module _ {all : List Hit} {from id : ℕ} {ws : List ℕ} {t : Tally} {j : ℕ} 
 
   pub gathered : length all ≤ j → (tallied t ≡ summary id (drop from all)) × (ws ≡ words (take from all ++ cleared id (drop from all)))
   unfolding summary
-  gathered h = go (g .left) (g .split) (g .kept) (g .sum) (omega (arith, lengths, g .place))
-    where
-      go : (left : List Hit) → drop from all ≡ g .passed ++ left → ws ≡ words ((take from all ++ cleared id (g .passed)) ++ left)
-          → tallied t ⊕ summary id left ≡ summary id (drop from all) → length left ≡ 0 → (tallied t ≡ summary id (drop from all)) × (ws ≡ words (take from all ++ cleared id (drop from all)))
-      go [] s k e z = (
-        sym (join-empty-right (tallied t)) ∙ e,
-        k ∙ ap words (append-nil (take from all ++ cleared id (g .passed)) ∙ ap (λ (l : List Hit). take from all ++ cleared id l) (sym (s ∙ append-nil (g .passed)))),
-      )
-      go (x ∷ xs) s k e z = absurd (omega arith)
+  gathered h = go (g .left) (g .split) (g .kept) (g .sum) (omega (arith, lengths, g .place)) where
+    go : (left : List Hit) → drop from all ≡ g .passed ++ left → ws ≡ words ((take from all ++ cleared id (g .passed)) ++ left)
+        → tallied t ⊕ summary id left ≡ summary id (drop from all) → length left ≡ 0 → (tallied t ≡ summary id (drop from all)) × (ws ≡ words (take from all ++ cleared id (drop from all)))
+    go [] s k e z = (
+      sym (join-empty-right (tallied t)) ∙ e,
+      k ∙ ap words (append-nil (take from all ++ cleared id (g .passed)) ∙ ap (λ (l : List Hit). take from all ++ cleared id l) (sym (s ∙ append-nil (g .passed)))),
+    )
+    go (x ∷ xs) s k e z = absurd (omega arith)
 
   -- one more slot
   pub record Next : Type 0 where
@@ -82,11 +75,10 @@ module _ {all : List Hit} {from id : ℕ} {ws : List ℕ} {t : Tally} {j : ℕ} 
     pub is : g .left ≡ hit ∷ rest
 
   pub next : j < length all → Next
-  next h = go (g .left) refl (omega (arith, lengths, g .place))
-    where
-      go : (left : List Hit) → g .left ≡ left → 0 < length left → Next
-      go [] e z = absurd (omega arith)
-      go (x ∷ xs) e z = record { hit = x; rest = xs; is = e }
+  next h = go (g .left) refl (omega (arith, lengths, g .place)) where
+    go : (left : List Hit) → g .left ≡ left → 0 < length left → Next
+    go [] e z = absurd (omega arith)
+    go (x ∷ xs) e z = record { hit = x; rest = xs; is = e }
 
   module _ (more : j < length all) where
     abbrev pub hit : Hit
@@ -109,9 +101,8 @@ module _ {all : List Hit} {from id : ℕ} {ws : List ℕ} {t : Tally} {j : ℕ} 
 
     cleared-snoc : (take from all ++ cleared id (g .passed ++ hit ∷ [])) ++ rest ≡ front ++ clear id hit ∷ rest
     cleared-snoc =
-        ap (λ (l : List Hit). (take from all ++ l) ++ rest) (map-append (clear id) (g .passed) (hit ∷ []))
-        ∙ ap (λ (l : List Hit). l ++ rest) (sym (append-assoc (take from all) (cleared id (g .passed)) (clear id hit ∷ [])))
-        ∙ append-assoc front (clear id hit ∷ []) rest
+        ap (λ (l : List Hit). (take from all ++ l) ++ rest) (map-append (clear id) (g .passed) (hit ∷ [])) ∙ ap (λ (l : List Hit). l ++ rest)
+        (sym (append-assoc (take from all) (cleared id (g .passed)) (clear id hit ∷ []))) ∙ append-assoc front (clear id hit ∷ []) rest
 
     again : (ws′ : List ℕ) (t′ : Tally) → ws′ ≡ words (front ++ clear id hit ∷ rest) → tallied t′ ⊕ summary id rest ≡ summary id (drop from all)
         → t′ .inside ≤ j + 1 → t′ .excluded ≤ j + 1 → Gathering all from id ws′ t′ (j + 1)
@@ -134,20 +125,13 @@ module _ {all : List Hit} {from id : ℕ} {ws : List ℕ} {t : Tally} {j : ℕ} 
 
       pub passes : (got .metadata ≡ id → ⊥) → Gathering all from id ws t (j + 1)
       unfolding summary
-      passes n =
-          let no = ne-eqb (hit .metadata) id (λ e. n (ap (λ (h : Hit). h .metadata) same ∙ e)) in
+      passes n = let no = ne-eqb (hit .metadata) id (λ e. n (ap (λ (h : Hit). h .metadata) same ∙ e)) in
           again ws t (opened ∙ rw no refl) (simp no at sum-here) (omega (arith, g .small)) (omega (arith, g .small′))
 
-      pub takes : (ws′ : List ℕ) (t′ : Tally) → got .metadata ≡ id → ws′ ≡ putHit ws j noHit → tallied t′ ≡ tallied t ⊕ single (got .kind) → t′ .inside ≤ t .inside + 1 → t′ .excluded ≤ t .excluded + 1
-          → Gathering all from id ws′ t′ (j + 1)
+      pub takes : (ws′ : List ℕ) (t′ : Tally) → got .metadata ≡ id → ws′ ≡ putHit ws j noHit → tallied t′ ≡ tallied t ⊕ single (got .kind) → t′ .inside ≤ t .inside + 1
+          → t′ .excluded ≤ t .excluded + 1 → Gathering all from id ws′ t′ (j + 1)
       unfolding summary
-      takes ws′ t′ e w s a b =
-          let yes = eq-eqb (hit .metadata) id (ap (λ (h : Hit). h .metadata) (sym same) ∙ e) in
-          again ws′ t′
-          (w ∙ ap (λ (v : List ℕ). putHit v j noHit) opened ∙ middle-put front rest hit noHit j front-length ∙ rw yes refl)
-          (
-          ap (λ (u : Summary). u ⊕ summary id rest) (s ∙ ap (λ (h : Hit). tallied t ⊕ single (h .kind)) same)
-          ∙ join-associative (tallied t) (single (hit .kind)) (summary id rest)
-          ∙ (simp yes at sum-here)
-          )
-          (omega (arith, g .small)) (omega (arith, g .small′))
+      takes ws′ t′ e w s a b = let yes = eq-eqb (hit .metadata) id (ap (λ (h : Hit). h .metadata) (sym same) ∙ e) in
+          again ws′ t′ (w ∙ ap (λ (v : List ℕ). putHit v j noHit) opened ∙ middle-put front rest hit noHit j front-length ∙ rw yes refl)
+          (ap (λ (u : Summary). u ⊕ summary id rest) (s ∙ ap (λ (h : Hit). tallied t ⊕ single (h .kind)) same) ∙ join-associative (tallied t) (single (hit .kind))
+          (summary id rest) ∙ (simp yes at sum-here)) (omega (arith, g .small)) (omega (arith, g .small′))

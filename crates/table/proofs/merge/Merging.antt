@@ -1,13 +1,10 @@
 -- The merging loop: what holds before each turn, and what a turn makes of it. Assumes nothing.
-use mathlib.Core.{Path.{_≡_, refl, sym, ap, _∙_}, Bool.{Bool, true, false}, List.{List, [], _∷_, _++_, append-assoc, append-nil, map}}
-use Prim.Native.Nat.{ℕ, zero, suc, _+_, _-_, _*_, _≤_, _<_}
-use native.Mathlib.Omega.{arith}
-use borrow.Author.Tests.{eq-eqb, ne-eqb, eqb-true, eqb-false}
-use lib.{Dec.{eqb}, ListN.{length, take, drop, replicate, length-append, length-replicate, length-map}, Seq.{take-at, drop-at}}
+use Rattle.numbers.proofs.Prelude.{ℕ, zero, suc, _+_, _-_, _*_, _≤_, _<_, eq-eqb, ne-eqb, eqb-true, eqb-false, eqb, length, take, drop, replicate, length-append, length-map, length-replicate}
+use Rattle.numbers.proofs.Prelude.{take-at, drop-at, Bool, true, false, List, [], _∷_, _++_, map, append-assoc, append-nil, _≡_, refl, sym, ap, _∙_, arith}
 use Rattle.numbers.specs.{Answer.{if_then_else_}, Lists.{zeros, padded}}
-use Rattle.table.specs.Hits.{width, hitOf, words, slots, Real, hitAt, putHit, noHit}
-use Rattle.table.specs.{Merge.{Summary, _⊕_, single, summary, groupKind, seen, matchOf, mergedAfter, merged, clear, cleared}, declared.hits.Hit.{Hit}}
-use Rattle.table.proofs.{Words.{words-length, words-append, slots-words}, merge.{Summaries.{join-empty-left, seen-joined}, Gathering.{middle-at, middle-put}}}
+use Rattle.table.specs.{Hits.{width, hitOf, words, slots, Real, hitAt, putHit, noHit}, Merge.{Summary, _⊕_, single, summary, groupKind, seen, matchOf, mergedAfter, merged, clear, cleared}}
+use Rattle.table.specs.declared.hits.Hit.{Hit}
+use Rattle.table.proofs.{Words.{words-length, words-append, slots-words}, merge.{Gathering.{middle-at, middle-put}, Summaries.{join-empty-left, seen-joined}}}
 
 -- ---- slots of hits whose group was taken out already
 abbrev strike : List Hit → Hit → Hit
@@ -24,31 +21,27 @@ unfolding seen
 seen-snoc id before hit = seen-joined id before (hit ∷ [])
 
 same-test : (a b : ℕ) → eqb a b ≡ eqb b a
-same-test a b = go (eqb a b) refl
-  where
-    go : (t : Bool) → eqb a b ≡ t → eqb a b ≡ eqb b a
-    go true e = e ∙ sym (eq-eqb b a (sym (eqb-true a b e)))
-    go false e = e ∙ sym (ne-eqb b a (λ f. eqb-false a b e (sym f)))
+same-test a b = go (eqb a b) refl where
+  go : (t : Bool) → eqb a b ≡ t → eqb a b ≡ eqb b a
+  go true e = e ∙ sym (eq-eqb b a (sym (eqb-true a b e)))
+  go false e = e ∙ sym (ne-eqb b a (λ f. eqb-false a b e (sym f)))
 
 -- no hit stays no hit
 clear-none : (id : ℕ) → clear id noHit ≡ noHit
-clear-none id = go (eqb 0 id)
-  where
-    go : (t : Bool) → (if t then noHit else noHit) ≡ noHit
-    go true = refl
-    go false = refl
+clear-none id = go (eqb 0 id) where
+  go : (t : Bool) → (if t then noHit else noHit) ≡ noHit
+  go true = refl
+  go false = refl
 
 -- after a hit, its whole group is taken out
 clear-struck : (before : List Hit) (hit x : Hit) → clear (hit .metadata) (strike before x) ≡ strike (before ++ hit ∷ []) x
-clear-struck before hit x = go (seen (x .metadata) before) refl
-  where
-    go : (t : Bool) → seen (x .metadata) before ≡ t → clear (hit .metadata) (strike before x) ≡ strike (before ++ hit ∷ []) x
-    go true e = rw (seen-snoc (x .metadata) before hit, e) (clear-none (hit .metadata))
-    go false e = rw (seen-snoc (x .metadata) before hit, e) (inner (eqb (hit .metadata) (x .metadata)) refl)
-      where
-        inner : (u : Bool) → eqb (hit .metadata) (x .metadata) ≡ u → clear (hit .metadata) x ≡ (if (if eqb (hit .metadata) (x .metadata) then true else false) then noHit else x)
-        inner true f = rw (f, same-test (x .metadata) (hit .metadata), f)
-        inner false f = rw (f, same-test (x .metadata) (hit .metadata), f)
+clear-struck before hit x = go (seen (x .metadata) before) refl where
+  go : (t : Bool) → seen (x .metadata) before ≡ t → clear (hit .metadata) (strike before x) ≡ strike (before ++ hit ∷ []) x
+  go true e = rw (seen-snoc (x .metadata) before hit, e) (clear-none (hit .metadata))
+  go false e = rw (seen-snoc (x .metadata) before hit, e) (inner (eqb (hit .metadata) (x .metadata)) refl) where
+    inner : (u : Bool) → eqb (hit .metadata) (x .metadata) ≡ u → clear (hit .metadata) x ≡ (if (if eqb (hit .metadata) (x .metadata) then true else false) then noHit else x)
+    inner true f = rw (f, same-test (x .metadata) (hit .metadata), f)
+    inner false f = rw (f, same-test (x .metadata) (hit .metadata), f)
 
 clear-all : (before : List Hit) (hit : Hit) (xs : List Hit) → cleared (hit .metadata) (struck before xs) ≡ struck (before ++ hit ∷ []) xs
 clear-all before hit [] = refl
@@ -56,15 +49,13 @@ clear-all before hit (x ∷ xs) = λ i. clear-struck before hit x i ∷ clear-al
 
 -- a hit of a group that is out already takes nothing more out
 strike-again : (before : List Hit) (hit : Hit) → seen (hit .metadata) before ≡ true → (x : Hit) → strike before x ≡ strike (before ++ hit ∷ []) x
-strike-again before hit s x = go (seen (x .metadata) before) refl
-  where
-    go : (t : Bool) → seen (x .metadata) before ≡ t → strike before x ≡ strike (before ++ hit ∷ []) x
-    go true e = rw (seen-snoc (x .metadata) before hit, e) refl
-    go false e = rw (seen-snoc (x .metadata) before hit, e) (inner (eqb (hit .metadata) (x .metadata)) refl)
-      where
-        inner : (u : Bool) → eqb (hit .metadata) (x .metadata) ≡ u → x ≡ (if (if eqb (hit .metadata) (x .metadata) then true else false) then noHit else x)
-        inner true f = let z : true ≡ false = sym s ∙ ap (λ (n : ℕ). seen n before) (eqb-true _ _ f) ∙ e in let no : _≡_ {A = ℕ} 0 1 = cc in absurd (omega arith)
-        inner false f = rw f refl
+strike-again before hit s x = go (seen (x .metadata) before) refl where
+  go : (t : Bool) → seen (x .metadata) before ≡ t → strike before x ≡ strike (before ++ hit ∷ []) x
+  go true e = rw (seen-snoc (x .metadata) before hit, e) refl
+  go false e = rw (seen-snoc (x .metadata) before hit, e) (inner (eqb (hit .metadata) (x .metadata)) refl) where
+    inner : (u : Bool) → eqb (hit .metadata) (x .metadata) ≡ u → x ≡ (if (if eqb (hit .metadata) (x .metadata) then true else false) then noHit else x)
+    inner true f = let z : true ≡ false = sym s ∙ ap (λ (n : ℕ). seen n before) (eqb-true _ _ f) ∙ e in let no : _≡_ {A = ℕ} 0 1 = cc in absurd (omega arith)
+    inner false f = rw f refl
 
 strike-all-again : (before : List Hit) (hit : Hit) → seen (hit .metadata) before ≡ true → (xs : List Hit) → struck before xs ≡ struck (before ++ hit ∷ []) xs
 strike-all-again before hit s [] = refl
@@ -74,15 +65,14 @@ strike-all-again before hit s (x ∷ xs) = λ i. strike-again before hit s x i �
 summary-struck : (id : ℕ) (before : List Hit) → seen id before ≡ false → (xs : List Hit) → summary id (struck before xs) ≡ summary id xs
 unfolding summary
 summary-struck id before s [] = refl
-summary-struck id before s (x ∷ xs) = go (summary-struck id before s xs) (seen (x .metadata) before) refl
-  where
-    no-hit : summary id (struck before xs) ≡ summary id xs → (t : Bool) → (if t then single 0 ⊕ summary id (struck before xs) else summary id (struck before xs)) ≡ summary id xs
-    no-hit rest true = join-empty-left (summary id (struck before xs)) ∙ rest
-    no-hit rest false = rest
+summary-struck id before s (x ∷ xs) = go (summary-struck id before s xs) (seen (x .metadata) before) refl where
+  no-hit : summary id (struck before xs) ≡ summary id xs → (t : Bool) → (if t then single 0 ⊕ summary id (struck before xs) else summary id (struck before xs)) ≡ summary id xs
+  no-hit rest true = join-empty-left (summary id (struck before xs)) ∙ rest
+  no-hit rest false = rest
 
-    go : summary id (struck before xs) ≡ summary id xs → (t : Bool) → seen (x .metadata) before ≡ t → summary id (struck before (x ∷ xs)) ≡ summary id (x ∷ xs)
-    go rest true e = rw (e, ne-eqb (x .metadata) id (λ f. let z : true ≡ false = sym e ∙ ap (λ (n : ℕ). seen n before) f ∙ s in let no : _≡_ {A = ℕ} 0 1 = cc in omega arith)) (no-hit rest (eqb 0 id))
-    go rest false e = rw e (ap (λ (u : Summary). if eqb (x .metadata) id then single (x .kind) ⊕ u else u) rest)
+  go : summary id (struck before xs) ≡ summary id xs → (t : Bool) → seen (x .metadata) before ≡ t → summary id (struck before (x ∷ xs)) ≡ summary id (x ∷ xs)
+  go rest true e = rw (e, ne-eqb (x .metadata) id (λ f. let z : true ≡ false = sym e ∙ ap (λ (n : ℕ). seen n before) f ∙ s in let no : _≡_ {A = ℕ} 0 1 = cc in omega arith)) (no-hit rest (eqb 0 id))
+  go rest false e = rw e (ap (λ (u : Summary). if eqb (x .metadata) id then single (x .kind) ⊕ u else u) rest)
 
 struck-nothing : (xs : List Hit) → struck [] xs ≡ xs
 unfolding seen
@@ -137,18 +127,16 @@ module _ {all : List Hit} {ws : List ℕ} {out i : ℕ} (g : Merging all ws out 
 
   pub ends : (n : ℕ) → n ≡ width * length all → length all ≤ i → (out ≡ length (merged all)) × (ws ≡ padded n (words (merged all)))
   unfolding mergedAfter
-  ends n sized h = go (g .left) (g .kept) (g .so-far) (omega (arith, g .lengths))
-    where
-      go : (left : List Hit) → ws ≡ words ((g .done ++ nones (g .gap)) ++ struck (g .before) left) → g .done ++ mergedAfter (g .before) left ≡ merged all → length left ≡ 0
-          → (out ≡ length (merged all)) × (ws ≡ padded n (words (merged all)))
-      go [] k e z =
-          let done : g .done ≡ merged all = sym (append-nil (g .done)) ∙ e in
-          let room : width * g .gap ≡ n - length (words (g .done)) = omega (arith, g .lengths, g .place, g .counted, words-length (g .done)) in (
-            sym (g .counted) ∙ ap length done,
-            k ∙ ap words (append-nil (g .done ++ nones (g .gap))) ∙ words-append (g .done) (nones (g .gap)) ∙ ap (λ (l : List ℕ). words (g .done) ++ l) (words-nones (g .gap) ∙ ap zeros room)
-                ∙ ap (λ (l : List Hit). padded n (words l)) done,
-          )
-      go (x ∷ xs) k e z = absurd (omega arith)
+  ends n sized h = go (g .left) (g .kept) (g .so-far) (omega (arith, g .lengths)) where
+    go : (left : List Hit) → ws ≡ words ((g .done ++ nones (g .gap)) ++ struck (g .before) left) → g .done ++ mergedAfter (g .before) left ≡ merged all → length left ≡ 0
+        → (out ≡ length (merged all)) × (ws ≡ padded n (words (merged all)))
+    go [] k e z = let done : g .done ≡ merged all = sym (append-nil (g .done)) ∙ e in
+        let room : width * g .gap ≡ n - length (words (g .done)) = omega (arith, g .lengths, g .place, g .counted, words-length (g .done)) in (
+          sym (g .counted) ∙ ap length done,
+          k ∙ ap words (append-nil (g .done ++ nones (g .gap))) ∙ words-append (g .done) (nones (g .gap)) ∙ ap (λ (l : List ℕ). words (g .done) ++ l) (words-nones (g .gap) ∙ ap zeros room)
+              ∙ ap (λ (l : List Hit). padded n (words l)) done,
+        )
+    go (x ∷ xs) k e z = absurd (omega arith)
 
   pub record Next : Type 0 where
     pub hit : Hit
@@ -156,11 +144,10 @@ module _ {all : List Hit} {ws : List ℕ} {out i : ℕ} (g : Merging all ws out 
     pub is : g .left ≡ hit ∷ rest
 
   pub next : i < length all → Next
-  next h = go (g .left) refl (omega (arith, g .lengths))
-    where
-      go : (left : List Hit) → g .left ≡ left → 0 < length left → Next
-      go [] e z = absurd (omega arith)
-      go (x ∷ xs) e z = record { hit = x; rest = xs; is = e }
+  next h = go (g .left) refl (omega (arith, g .lengths)) where
+    go : (left : List Hit) → g .left ≡ left → 0 < length left → Next
+    go [] e z = absurd (omega arith)
+    go (x ∷ xs) e z = record { hit = x; rest = xs; is = e }
 
   module _ (more : i < length all) where
     abbrev pub hit : Hit
@@ -215,9 +202,11 @@ module _ {all : List Hit} {ws : List ℕ} {out i : ℕ} (g : Merging all ws out 
       counted = omega (arith, g .counted, length-append (g .done) (m ∷ []));
       real = reals .1;
       kept = p
-          ∙ ap (λ (v : List ℕ). putHit v out m) (w ∙ ap words (append-assoc (g .done) (nones (g .gap)) (noHit ∷ struck (g .before ++ hit ∷ []) rest) ∙ ap (λ (l : List Hit). g .done ++ l) (nones-snoc (g .gap) (struck (g .before ++ hit ∷ []) rest))))
+          ∙ ap (λ (v : List ℕ). putHit v out m) (w ∙ ap words (append-assoc (g .done) (nones (g .gap)) (noHit ∷ struck (g .before ++ hit ∷ []) rest)
+          ∙ ap (λ (l : List Hit). g .done ++ l) (nones-snoc (g .gap) (struck (g .before ++ hit ∷ []) rest))))
           ∙ middle-put (g .done) (nones (g .gap) ++ struck (g .before ++ hit ∷ []) rest) noHit m out (g .counted)
-          ∙ ap words (sym (append-assoc (g .done ++ m ∷ []) (nones (g .gap)) (struck (g .before ++ hit ∷ []) rest) ∙ append-assoc (g .done) (m ∷ []) (nones (g .gap) ++ struck (g .before ++ hit ∷ []) rest)));
+          ∙ ap words (sym (append-assoc (g .done ++ m ∷ []) (nones (g .gap)) (struck (g .before ++ hit ∷ []) rest) ∙ append-assoc (g .done) (m ∷ [])
+          (nones (g .gap) ++ struck (g .before ++ hit ∷ []) rest)));
       so-far = append-assoc (g .done) (m ∷ []) (mergedAfter (g .before ++ hit ∷ []) rest) ∙ e;
     }
 
@@ -228,25 +217,20 @@ module _ {all : List Hit} {ws : List ℕ} {out i : ℕ} (g : Merging all ws out 
 
       -- it holds none: its group is out already
       was-seen : got .kind ≡ 0 → seen (hit .metadata) (g .before) ≡ true
-      was-seen z = go (seen (hit .metadata) (g .before)) refl
-        where
-          go : (t : Bool) → seen (hit .metadata) (g .before) ≡ t → seen (hit .metadata) (g .before) ≡ true
-          go true e = e
-          go false e = let same : strike (g .before) hit ≡ hit = rw e refl in absurd (reals .0 (ap (λ (h : Hit). h .kind) (sym (struck-here ∙ same)) ∙ z))
+      was-seen z = go (seen (hit .metadata) (g .before)) refl where
+        go : (t : Bool) → seen (hit .metadata) (g .before) ≡ t → seen (hit .metadata) (g .before) ≡ true
+        go true e = e
+        go false e = let same : strike (g .before) hit ≡ hit = rw e refl in absurd (reals .0 (ap (λ (h : Hit). h .kind) (sym (struck-here ∙ same)) ∙ z))
 
       was-new : (got .kind ≡ 0 → ⊥) → seen (hit .metadata) (g .before) ≡ false
-      was-new n = go (seen (hit .metadata) (g .before)) refl
-        where
-          go : (t : Bool) → seen (hit .metadata) (g .before) ≡ t → seen (hit .metadata) (g .before) ≡ false
-          go false e = e
-          go true e = let none : strike (g .before) hit ≡ noHit = rw e refl in absurd (n (ap (λ (h : Hit). h .kind) (struck-here ∙ none)))
+      was-new n = go (seen (hit .metadata) (g .before)) refl where
+        go : (t : Bool) → seen (hit .metadata) (g .before) ≡ t → seen (hit .metadata) (g .before) ≡ false
+        go false e = e
+        go true e = let none : strike (g .before) hit ≡ noHit = rw e refl in absurd (n (ap (λ (h : Hit). h .kind) (struck-here ∙ none)))
 
       pub skips : got .kind ≡ 0 → Merging all ws out (i + 1)
-      skips z =
-          let s = was-seen z in
-          let none : strike (g .before) hit ≡ noHit = rw s refl in
-          empties ws
-          (opened ∙ ap words (ap (λ (h : Hit). front ++ h ∷ struck (g .before) rest) none ∙ ap (λ (l : List Hit). front ++ noHit ∷ l) (strike-all-again (g .before) hit s rest)))
+      skips z = let s = was-seen z in let none : strike (g .before) hit ≡ noHit = rw s refl in
+          empties ws (opened ∙ ap words (ap (λ (h : Hit). front ++ h ∷ struck (g .before) rest) none ∙ ap (λ (l : List Hit). front ++ noHit ∷ l) (strike-all-again (g .before) hit s rest)))
           (rw s at turned)
 
       -- it holds a hit that begins a group: the group is taken out
@@ -267,16 +251,15 @@ module _ {all : List Hit} {ws : List ℕ} {out i : ℕ} (g : Merging all ws out 
         to-here = ap (take i) all-slots ∙ take-at front (hit ∷ struck (g .before) rest) i front-length
 
         out-taken : ws′ ≡ words (take i (slots ws) ++ cleared (got .metadata) (drop i (slots ws))) → ws′ ≡ words (front ++ noHit ∷ struck (g .before ++ hit ∷ []) rest)
-        out-taken w =
-            let self : clear (hit .metadata) hit ≡ noHit = rw (eq-eqb (hit .metadata) (hit .metadata) refl) refl in
-            w ∙ (λ j. words (to-here j ++ cleared (same j .metadata) (from-here j)))
-            ∙ ap (λ (h : Hit). words (front ++ h ∷ cleared (hit .metadata) (struck (g .before) rest))) self
+        out-taken w = let self : clear (hit .metadata) hit ≡ noHit = rw (eq-eqb (hit .metadata) (hit .metadata) refl) refl in
+            w ∙ (λ j. words (to-here j ++ cleared (same j .metadata) (from-here j))) ∙ ap (λ (h : Hit). words (front ++ h ∷ cleared (hit .metadata) (struck (g .before) rest))) self
             ∙ ap (λ (l : List Hit). words (front ++ noHit ∷ l)) (clear-all (g .before) hit rest)
 
         pub taken-length : ws′ ≡ words (take i (slots ws) ++ cleared (got .metadata) (drop i (slots ws))) → length ws′ ≡ width * length all
         taken-length w =
             ap length (out-taken w) ∙ words-length (front ++ noHit ∷ struck (g .before ++ hit ∷ []) rest)
-            ∙ ap (λ (m : ℕ). width * m) (length-append front (noHit ∷ struck (g .before ++ hit ∷ []) rest) ∙ omega (arith, front-length, length-map rest (strike (g .before ++ hit ∷ [])), g .lengths, ap length (next more .is)))
+            ∙ ap (λ (m : ℕ). width * m) (length-append front (noHit ∷ struck (g .before ++ hit ∷ []) rest)
+            ∙ omega (arith, front-length, length-map rest (strike (g .before ++ hit ∷ [])), g .lengths, ap length (next more .is)))
 
         group : s ≡ summary (got .metadata) (drop i (slots ws)) → s ≡ summary (hit .metadata) (hit ∷ rest)
         unfolding summary

@@ -1,10 +1,7 @@
 -- Summaries join as document 01 says of counts and of the last border verdict. Assumes nothing.
-use mathlib.Core.{Path.{_≡_, refl, sym, ap, _∙_}, Bool.{Bool, true, false}, List.{List, [], _∷_, _++_}}
-use Prim.Native.Nat.{ℕ, zero, suc, _+_}
-use native.Mathlib.Omega.{arith}
-use borrow.Author.Tests.{eq-eqb, ne-eqb}
-use lib.{Dec.{eqb}, IntN.{ℤ, pos, negsuc, negℤ, _+ℤ_, _-ℤ_, +ℤ-assoc, +ℤ-comm, +ℤ-idl, +ℤ-idr, +ℤ-invr, -ℤ-+ℤ-cancel, pos-+ℤ-pos, negℤ-+ℤ}}
+use Rattle.numbers.proofs.Prelude.{ℕ, zero, suc, _+_, eq-eqb, ne-eqb, eqb, ℤ, pos, negsuc, _+ℤ_, _-ℤ_, negℤ, Bool, true, false, List, [], _∷_, _++_, _≡_, refl, sym, ap, _∙_, arith}
 use Rattle.numbers.specs.Answer.{if_then_else_}
+use lib.IntN.{+ℤ-assoc, +ℤ-comm, +ℤ-idl, +ℤ-idr, +ℤ-invr, -ℤ-+ℤ-cancel, pos-+ℤ-pos, negℤ-+ℤ}
 use Rattle.table.specs.{Merge.{Summary, summed, later, _⊕_, empty, single, differs, groupKind, seen}, declared.hits.Hit.{Hit}}
 
 -- ---- joining
@@ -34,16 +31,12 @@ join-empty-right s = ap (λ (z : ℤ). summed z (s .border)) (+ℤ-idr (s .balan
 -- ---- tallies
 one-more : (a b : ℕ) → pos (a + 1) -ℤ pos b ≡ (pos a -ℤ pos b) +ℤ pos 1
 one-more a b =
-    ap (λ (z : ℤ). z -ℤ pos b) (sym (pos-+ℤ-pos a 1))
-    ∙ +ℤ-assoc (pos a) (pos 1) (negℤ (pos b))
-    ∙ ap (λ (z : ℤ). pos a +ℤ z) (+ℤ-comm (pos 1) (negℤ (pos b)))
+    ap (λ (z : ℤ). z -ℤ pos b) (sym (pos-+ℤ-pos a 1)) ∙ +ℤ-assoc (pos a) (pos 1) (negℤ (pos b)) ∙ ap (λ (z : ℤ). pos a +ℤ z) (+ℤ-comm (pos 1) (negℤ (pos b)))
     ∙ sym (+ℤ-assoc (pos a) (negℤ (pos b)) (pos 1))
 
 one-less : (a b : ℕ) → pos a -ℤ pos (b + 1) ≡ (pos a -ℤ pos b) +ℤ negsuc 0
 one-less a b =
-    ap (λ (z : ℤ). pos a -ℤ z) (sym (pos-+ℤ-pos b 1))
-    ∙ ap (λ (z : ℤ). pos a +ℤ z) (negℤ-+ℤ (pos b) (pos 1))
-    ∙ sym (+ℤ-assoc (pos a) (negℤ (pos b)) (negsuc 0))
+    ap (λ (z : ℤ). pos a -ℤ z) (sym (pos-+ℤ-pos b 1)) ∙ ap (λ (z : ℤ). pos a +ℤ z) (negℤ-+ℤ (pos b) (pos 1)) ∙ sym (+ℤ-assoc (pos a) (negℤ (pos b)) (negsuc 0))
 
 module _ (inside excluded border kind : ℕ) where
   abbrev t : Summary
@@ -66,10 +59,8 @@ differs-not (pos (suc k)) n = refl
 differs-not (negsuc k) n = refl
 
 not-zero : (a b : ℕ) → (a ≡ b → ⊥) → pos a -ℤ pos b ≡ pos 0 → ⊥
-not-zero a b n e =
-    let back : pos 0 +ℤ pos b ≡ pos a = ap (λ (z : ℤ). z +ℤ pos b) (sym e) ∙ -ℤ-+ℤ-cancel (pos a) (pos b) in
-    let same : pos b ≡ pos a = sym (+ℤ-idl (pos b)) ∙ back in
-    n (cc)
+not-zero a b n e = let back : pos 0 +ℤ pos b ≡ pos a = ap (λ (z : ℤ). z +ℤ pos b) (sym e) ∙ -ℤ-+ℤ-cancel (pos a) (pos b) in
+    let same : pos b ≡ pos a = sym (+ℤ-idl (pos b)) ∙ back in n (cc)
 
 pub last-border : (z : ℤ) (border : ℕ) → (border ≡ 0 → ⊥) → border ≡ groupKind (summed z border)
 last-border z border n = simp (ne-eqb _ _ n)
@@ -86,8 +77,7 @@ module _ (a b border : ℕ) (none : border ≡ 0) where
 pub seen-joined : (id : ℕ) (xs ys : List Hit) → seen id (xs ++ ys) ≡ (if seen id xs then true else seen id ys)
 unfolding seen
 seen-joined id [] ys = refl
-seen-joined id (x ∷ xs) ys = go (eqb (x .metadata) id) (seen-joined id xs ys)
-  where
-    go : (b : Bool) → seen id (xs ++ ys) ≡ (if seen id xs then true else seen id ys) → (if b then true else seen id (xs ++ ys)) ≡ (if (if b then true else seen id xs) then true else seen id ys)
-    go true e = refl
-    go false e = e
+seen-joined id (x ∷ xs) ys = go (eqb (x .metadata) id) (seen-joined id xs ys) where
+  go : (b : Bool) → seen id (xs ++ ys) ≡ (if seen id xs then true else seen id ys) → (if b then true else seen id (xs ++ ys)) ≡ (if (if b then true else seen id xs) then true else seen id ys)
+  go true e = refl
+  go false e = e

@@ -1,17 +1,13 @@
 -- Rows that a search passes over: what the code's fast reading says of them, and that the search goes on as if it had read them. Assumes nothing.
-use Prim.Native.Nat.{ℕ, suc, _+_, _-_, _*_, _%_, _^_, _≤_, _<_}
-use borrow.Author.Tests.{lt-ltb, le-ltb}
-use lib.{Dec.{lit≤}, ListN.{length, getD, drop}, Seq.{drop-cons}, Signed.{ltZ, leZ}}
-use mathlib.Core.{Bool.{Bool, true, false, _&&_}, List.{List, [], _∷_, _++_}, Path.{_≡_, refl, sym, ap, _∙_}}
-use native.Mathlib.{Nat.{le-refl}, Numerals.{add-one}, Omega.{arith}}
+use Rattle.numbers.proofs.{Answers.{found-one, goes}, Prelude.{ℕ, suc, _+_, _-_, _*_, _%_, _≤_, _<_, lt-ltb, le-ltb, lit≤, length, drop, getD, drop-cons, ltZ, leZ, Bool, true, false, List, [], _∷_}}
+use Rattle.numbers.{proofs.{Prelude.{_++_, _≡_, refl, sym, ap, _∙_, le-refl, add-one, arith}, Readings.{read-both, reading-grows}, Spelling.{one-byte}, Wholes.{whole-forward}}, specs.Answer.{found}}
+use Rattle.numbers.specs.{Answer.{if_then_else_}, Point.{signedOf}, Spelling.{Whole}, Varint.{Numeral, numeral, valueOf, sizeOf, readingOf}}
 use Rattle.border.specs.{Box.{between}, declared.place.Point.{Point}}
-use Rattle.verdict.specs.Verdict.{Judgement}
-use Rattle.numbers.proofs.{Answers.{found-one, goes}, Readings.{read-both}, Spelling.{one-byte}, Wholes.{whole-forward}}
-use Rattle.numbers.specs.{Answer.{found, if_then_else_}, Point.{signedOf}, Spelling.{Whole}, Varint.{Numeral, numeral, valueOf, sizeOf, forwardAt, readingOf}}
-use Rattle.table.proofs.{TableRows.{reading-grows, at-row, row-less}, rest.Remaining.{above-not, restFrom, skipped, skipped-later}, rows.Entering.{row-read}}
-use Rattle.table.specs.{inner.Passing.{Near, Bounding, Lons, PassedRow, PassedOver, Skipped, SkippedOver}, Rows.{Rows, row, rowOf, after, rowBy, rowsFrom}, Search.{rowTurn, seek}}
-use Rattle.table.specs.Table.{boundsOf, stepsBy, entryBy, isAbove, holds}
-use Rattle.table.specs.declared.{hits.Hit.{Hit}, rows.{Cursor.{Cursor}, Row.{Row}}, table.{Bounds.{Bounds}, Entry.{Entry}}}
+use Rattle.verdict.{proofs.Gliding.{less-le}, specs.Verdict.{Judgement}}
+use Rattle.table.proofs.{TableRows.{at-row, row-less}, rest.Remaining.{restFrom, skipped, skipped-later}, rows.Entering.{row-read}}
+use Rattle.table.specs.{Rows.{Rows, row, rowOf, after, rowsFrom}, Search.{rowTurn, seek}, Table.{boundsOf, stepsBy, entryBy, isAbove, holds}, declared.{hits.Hit.{Hit}, rows.Cursor.{Cursor}}}
+use Rattle.table.specs.{declared.{rows.Row.{Row}, table.Bounds.{Bounds}}, inner.Passing.{Near, Bounding, Lons, PassedRow, PassedOver, Skipped, SkippedOver}}
+use mathlib.Core.Bool.{and-false}
 
 -- ---- numbers of up to three bytes
 two-bytes : (a b : ℕ) → 128 ≤ a → b < 128 → Whole (a ∷ b ∷ []) (a % 128 + 128 * b)
@@ -24,7 +20,8 @@ three-bytes a b c h k l =
     record { complete = rw (le-ltb a 128 h, le-ltb b 128 k, lt-ltb c 128 l); short = lit≤ tt; reads = rw (le-ltb a 128 h, le-ltb b 128 k, lt-ltb c 128 l) (omega arith) }
 
 module _ (file : List ℕ) (place : ℕ) where
-  near : (w rest : List ℕ) {value : ℕ} → Whole w value → drop place file ≡ w ++ rest → length w ≤ 3 → place + length w ≤ length file → Near file place (record { value = value; place = place + length w })
+  near : (w rest : List ℕ) {value : ℕ} → Whole w value → drop place file ≡ w ++ rest → length w ≤ 3 → place + length w ≤ length file
+      → Near file place (record { value = value; place = place + length w })
   near w rest whole here few inside = record {
     reads = λ strict. read-both file place strict (ap (λ (n : ℕ). numeral n (place + length w)) (sym (whole .reads)) ∙ whole-forward file w rest place (whole .complete) here (whole .short)) inside;
     close = omega arith;
@@ -46,8 +43,7 @@ module _ (file : List ℕ) (place : ℕ) where
 
       module _ (most : 128 ≤ middle) {high : ℕ} (c : high ≡ getD file (place + 2) 0) where
         third : drop (suc (place + 1)) file ≡ high ∷ drop (suc (suc (place + 1))) file
-        third =
-            let there : high ≡ getD file (suc (place + 1)) 0 = c ∙ ap (λ (n : ℕ). getD file n 0) (omega arith) in
+        third = let there : high ≡ getD file (suc (place + 1)) 0 = c ∙ ap (λ (n : ℕ). getD file n 0) (omega arith) in
             rw there (drop-cons file (suc (place + 1)) 0 (omega arith))
 
         pub near-three : high < 128 → Near file place (record { value = low % 128 + 128 * (middle % 128 + 128 * high); place = place + 3 })
@@ -59,22 +55,15 @@ near-same : {file : List ℕ} {place : ℕ} {a b : Numeral} → Near file place 
 near-same n m = found-one (n .reads false ∙ sym (m .reads false))
 
 -- ---- a box that does not hold the location
-pub untrue : {A : Type 0} → true ≡ false → A
-untrue e = let z : _≡_ {A = ℕ} 0 1 = ap (λ (b : Bool). if b then 0 else 1) e in absurd (omega arith)
-
-no-second : (a : Bool) → (a && false) ≡ false
-no-second true = refl
-no-second false = refl
-
 pub below-missed : (bounds : Bounds) (fix : Point) → ltZ (bounds .«max_lat» .0) (fix .lat .0) ≡ true → holds bounds fix ≡ false
-below-missed bounds fix e = rw (above-not _ _ e, no-second (leZ (bounds .«min_lat» .0) (fix .lat .0))) refl
+below-missed bounds fix e = rw (less-le _ _ e .1, and-false (leZ (bounds .«min_lat» .0) (fix .lat .0))) refl
 
 pub lons-missed : {file : List ℕ} {bounds : Bounds} {west east : ℕ} (fix : Point) → Lons file bounds west east → {a b : Numeral} → Near file west a → Near file east b
     → {r : Bool} → r ≡ between (signedOf (a .value)) (fix .lon .0) (signedOf (b .value)) → r ≡ false → holds bounds fix ≡ false
 lons-missed {bounds = bounds} fix l {a} {b} na nb e f =
     let low : bounds .«min_lon» .0 ≡ signedOf (a .value) = l .low-is ∙ ap (λ (n : Numeral). signedOf (n .value)) (near-same (l .low-there) na) in
     let high : bounds .«max_lon» .0 ≡ signedOf (b .value) = l .high-is ∙ ap (λ (n : Numeral). signedOf (n .value)) (near-same (l .high-there) nb) in
-    rw (low, high, sym e ∙ f) (no-second (between (bounds .«min_lat» .0) (fix .lat .0) (bounds .«max_lat» .0)))
+    rw (low, high, sym e ∙ f) (and-false (between (bounds .«min_lat» .0) (fix .lat .0) (bounds .«max_lat» .0)))
 
 -- ---- a row by its six numbers
 module _ {file : List ℕ} {place : ℕ} {a b c d : Numeral} (na : Near file place a) (nb : Near file (a .place) b) (nc : Near file (b .place) c) (nd : Near file (c .place) d) {bounds : Bounds}
@@ -101,11 +90,9 @@ module _ {file : List ℕ} {place : ℕ} {bounds : Bounds} {next : ℕ} (four : 
   module _ {m p : Numeral} (nm : Near file next m) (np : Near file (m .place) p) where
     entry-read : (strict : Bool) → found (record { bounds = bounds; metadata = m .value; polygon = p .value; next = p .place }) ≡ entryBy (readingOf strict file) place
     unfolding entryBy stepsBy
-    entry-read strict =
-        let behind = rw (four .then) at (nm .reads strict) in
-        ap (λ (x : Bounds). found (record { bounds = x; metadata = m .value; polygon = p .value; next = p .place })) (four .are)
-        ∙ goes (np .reads strict) _ ∙ goes behind _ ∙ goes (four .east-there .reads strict) _ ∙ goes (four .north-there .reads strict) _ ∙ goes (four .west-there .reads strict) _
-        ∙ goes (four .south-there .reads strict) _
+    entry-read strict = let behind = rw (four .then) at (nm .reads strict) in
+        ap (λ (x : Bounds). found (record { bounds = x; metadata = m .value; polygon = p .value; next = p .place })) (four .are) ∙ goes (np .reads strict) _
+        ∙ goes behind _ ∙ goes (four .east-there .reads strict) _ ∙ goes (four .north-there .reads strict) _ ∙ goes (four .west-there .reads strict) _ ∙ goes (four .south-there .reads strict) _
 
     pub skipped-row : (fix : Point) → isAbove bounds fix ≡ true → Skipped file fix place (p .place)
     skipped-row fix up = record { entry = record { bounds = bounds; metadata = m .value; polygon = p .value; next = p .place }; reads = entry-read; above = up; then = refl }
@@ -163,7 +150,8 @@ module _ {file : List ℕ} {end : ℕ} {fix : Point} where
     pub skips : next ≤ end → {start : ℕ} → SkippedOver file end fix start place → SkippedOver file end fix start next
     skips within g = record {
       on = omega (arith, g .on, skips-later);
-      same = λ strict. g .same strict ∙ skipped strict file end fix place more (s .reads strict) (s .above) (omega (arith, s .then)) ∙ ap (λ (n : ℕ). restFrom (readingOf strict file) end fix n) (sym (s .then));
+      same = λ strict. g .same strict ∙ skipped strict file end fix place more (s .reads strict) (s .above) (omega (arith, s .then))
+          ∙ ap (λ (n : ℕ). restFrom (readingOf strict file) end fix n) (sym (s .then));
     }
 
   pub skip-less : {later next : ℕ} (place : ℕ) → end - later < end - place → SkippedOver file end fix later next → end - next < end - place

@@ -1,10 +1,6 @@
 -- The row at a cursor, by what the reading of its entry answered. Assumes nothing.
-use mathlib.Core.Path.{_≡_, refl, ap, _∙_}
-use native.Mathlib.Omega.{arith}
-use denote.Enum.Declared.{tagOf, declared}
-use Prim.Native.Nat.{ℕ}
-use Rattle.numbers.specs.{Answer.{Answer, found, failed, refused, _>>=_}, Varint.{Numeral}}
-use Rattle.table.specs.{Table.{entryBy, toldEntered}, Rows.{rowOf, rowBy}, declared.{table.{Entry.{Entry}, Entered.{Entered}}, rows.{Cursor.{Cursor}, Row.{Row}}}}
+use Rattle.numbers.{proofs.Prelude.{ℕ, tagOf, declared, _≡_, refl, ap, _∙_, arith}, specs.{Answer.{Answer, found, failed, refused, _>>=_}, Varint.{Numeral}}}
+use Rattle.table.specs.{Rows.{rowOf, rowBy}, Table.{entryBy, toldEntered}, declared.{rows.{Cursor.{Cursor}, Row.{Row}}, table.{Entered.{Entered}, Entry.{Entry}}}}
 use Rattle.table.specs.declared.table.Entered.the-variants as E
 use Rattle.table.proofs.table.Entered as T
 

@@ -1,10 +1,5 @@
 -- A signed step of the metadata id, modulo 2 ^ 32. Assumes nothing.
-use mathlib.Core.Path.{_≡_}
-use Prim.Native.Nat.{ℕ, zero, suc, _+_, _-_, _/_, _%_, _^_, _<_}
-use native.Mathlib.Omega.{arith}
-use borrow.Author.Tests.{eq-eqb, ne-eqb}
-use lib.IntN.{pos, negℤ}
-use Rattle.numbers.specs.Point.{low32, halfOf}
+use Rattle.numbers.{proofs.Prelude.{ℕ, zero, suc, _+_, _-_, _/_, _%_, _^_, _<_, eq-eqb, ne-eqb, pos, negℤ, _≡_, arith}, specs.Point.{low32, halfOf}}
 
 module _ (id step : ℕ) where
   pub forth : step % 2 ≡ 0 → (id + step / 2 % 2 ^ 32) % 2 ^ 32 ≡ (id + low32 (halfOf step)) % 2 ^ 32

@@ -1,13 +1,9 @@
 -- A search's loop, whatever is still to be searched: the hits so far, and what a turn makes of them. Assumes nothing.
-use Prim.Native.Nat.{ℕ, _+_, _/_, _≤_, _<_}
-use borrow.Author.Tests.{lt-ltb, le-ltb}
-use lib.ListN.{length, length-append, length-replicate}
-use mathlib.Core.{List.{List, [], _∷_, _++_}, Path.{_≡_, refl, ap, _∙_}}
-use native.Mathlib.{Nat.{sub-zero}, Omega.{arith}}
+use Rattle.numbers.proofs.Prelude.{ℕ, _+_, _/_, _≤_, _<_, lt-ltb, le-ltb, length, length-append, length-replicate, List, [], _∷_, _++_, _≡_, refl, ap, _∙_, sub-zero, arith}
 use Rattle.numbers.specs.{Lists.{zeros, padded}, Reply.{Reply, given, plain}}
 use Rattle.table.proofs.{Agreeing.{agree-given, agree-refused}, Words.{words-length, put-padded, real-append}}
-use Rattle.table.specs.{Hits.{width, words, putHit, Real}, inner.Agreeing.{Agrees}, Search.{Found, ended, afterTurn, Sought}}
-use Rattle.table.specs.declared.{hits.Hit.{Hit}, search.{Ended.{Ended}, Turn.{the-variants.{On, Met, Stopped, Refused}, Turn}}}
+use Rattle.table.specs.{Hits.{width, words, putHit, Real}, Search.{Found, ended, afterTurn, Sought}, declared.{hits.Hit.{Hit}, search.{Ended.{Ended}, Turn.{Turn}}}}
+use Rattle.table.specs.{declared.search.Turn.the-variants.{On, Met, Stopped, Refused}, inner.Agreeing.{Agrees}}
 use Rattle.numbers.specs.Reply as R
 
 -- the hits so far stand at the front of words that are zero beyond them, and what is still to be searched gives the whole
@@ -52,13 +48,11 @@ module _ {n : ℕ} {whole : Reply Found} {rest : ℕ → List Hit → Reply Foun
       full ws′ h = agree-refused (Sought n ws′) (simp (le-ltb (length (g .hits)) (n / width) (omega (arith, g .counted))) at e)
 
       pub met : count < n / width → (hit .kind ≡ 0 → ⊥) → SoFar n whole rest′ (putHit ws count hit) (count + 1) closer
-      met room kind =
-          let slot : length (g .hits) < n / width = omega (arith, g .counted) in
-          record {
-            hits = g .hits ++ hit ∷ [];
-            counted = length-append (g .hits) (hit ∷ []) ∙ ap (λ (k : ℕ). k + 1) (g .counted);
-            fits = omega arith;
-            kept = rw (g .kept, ← g .counted) (put-padded n (g .hits) hit slot);
-            real = real-append (g .hits) hit (g .real) kind;
-            so-far = simp (lt-ltb (length (g .hits)) (n / width) slot) at e;
-          }
+      met room kind = let slot : length (g .hits) < n / width = omega (arith, g .counted) in record {
+        hits = g .hits ++ hit ∷ [];
+        counted = length-append (g .hits) (hit ∷ []) ∙ ap (λ (k : ℕ). k + 1) (g .counted);
+        fits = omega arith;
+        kept = rw (g .kept, ← g .counted) (put-padded n (g .hits) hit slot);
+        real = real-append (g .hits) hit (g .real) kind;
+        so-far = simp (lt-ltb (length (g .hits)) (n / width) slot) at e;
+      }

@@ -1,13 +1,9 @@
 -- What one row does to the search, by the tests that the code makes. Assumes nothing.
-use Prim.Native.Nat.{ℕ, _+_, _%_, _^_}
-use borrow.Author.Tests.{eq-eqb, ne-eqb, eqb-false}
-use lib.Dec.{eqb}
-use mathlib.Core.{Bool.{Bool, true, false}, List.{List}, Path.{_≡_, refl, sym, ap, subst, _∙_}}
+use Rattle.numbers.{proofs.Prelude.{ℕ, _+_, _%_, _^_, eq-eqb, ne-eqb, eqb-false, eqb, Bool, true, false, List, _≡_, refl, sym, ap, subst, _∙_}, specs.Answer.{if_then_else_}}
 use Rattle.border.specs.{Encoding.{versionOf, encodedBy}, declared.{place.Point.{Point}, reader.Version.{Version}}}
 use Rattle.verdict.specs.{Verdict.{Judgement, told, judgedAt}, declared.{judge.Judged.{Judged}, step.Verdict.{Verdict}}}
-use Rattle.numbers.specs.Answer.{if_then_else_}
-use Rattle.table.specs.{Search.{kindOf, rowHit, judgedTurn, rowTurn, judgeIn}, Table.{holds}}
-use Rattle.table.specs.declared.{hits.Hit.{Hit}, rows.Row.{Row}, search.Turn.{the-variants.{On, Met, Stopped, Refused}, Turn}}
+use Rattle.table.specs.{Search.{kindOf, rowHit, judgedTurn, rowTurn, judgeIn}, Table.{holds}, declared.{hits.Hit.{Hit}, rows.Row.{Row}, search.Turn.{Turn}}}
+use Rattle.table.specs.declared.search.Turn.the-variants.{On, Met, Stopped, Refused}
 use Rattle.header.specs.declared.header.Head.{Head}
 use Rattle.verdict.specs.Verdict as B
 use Rattle.verdict.specs.declared.judge.Judged.the-variants as J

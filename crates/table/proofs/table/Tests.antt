@@ -1,5 +1,5 @@
 -- Two tests, by how far they hold. Assumes nothing.
-use mathlib.Core.{Path.{_≡_}, Bool.{Bool, true, false, _&&_}}
+use Rattle.numbers.proofs.Prelude.{Bool, true, false, _&&_, _≡_}
 
 pub not-first : (a b : Bool) → a ≡ false → false ≡ (a && b)
 not-first a b e = rw e

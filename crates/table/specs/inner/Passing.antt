@@ -1,12 +1,9 @@
 -- Rows that a search passes over. No promise of a public function speaks of it.
-use Prim.Native.Nat.{ℕ, _+_, _<_, _≤_}
-use mathlib.Core.{Bool.{Bool, true, false}, List.{List}, Path.{_≡_}}
-use lib.ListN.{length}
+use Rattle.numbers.specs.{Answer.{found}, Point.{signedOf}, Prelude.{ℕ, _+_, _≤_, _<_, length, Bool, true, false, List, _≡_}, Varint.{Numeral, readingOf}}
 use Rattle.verdict.specs.Verdict.{Judgement}
 use Rattle.border.specs.declared.place.Point.{Point}
-use Rattle.numbers.specs.{Answer.{found}, Point.{signedOf}, Varint.{Numeral, readingOf}}
-use Rattle.table.specs.{Rest.{restMark}, Rows.{after, startAt, rowBy, rowsFrom}, Search.{seek}, Table.{boundsOf, entryBy, isAbove, holds}}
-use Rattle.table.specs.declared.{hits.Hit.{Hit}, pass.{Bounded.{Bounded, the-variants.{By}}, Pair.{Pair, the-variants.{Are}}, Pass.{Pass, the-variants.{On, Stop}}, Short.{Short, the-variants.{Is, Other}}, Skip.{Skip}}}
+use Rattle.table.specs.{Rest.{restMark}, Rows.{after, startAt, rowBy, rowsFrom}, Search.{seek}, Table.{boundsOf, entryBy, isAbove, holds}, declared.{hits.Hit.{Hit}, pass.Bounded.{Bounded}}}
+use Rattle.table.specs.declared.pass.{Bounded.the-variants.{By}, Pair.{Pair, the-variants.{Are}}, Pass.{Pass, the-variants.{On, Stop}}, Short.{Short, the-variants.{Is, Other}}, Skip.{Skip}}
 use Rattle.table.specs.declared.{rows.{Cursor.{Cursor}, Row.{Row}}, table.{Bounds.{Bounds}, Entry.{Entry}}}
 use Rattle.table.specs.declared.pass.Skip.the-variants as S
 use Rattle.table.specs.declared.pass.Pair.the-variants as P

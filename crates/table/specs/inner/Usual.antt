@@ -1,7 +1,5 @@
 -- Boxes whose four bounds have three bytes each. No promise of a public function speaks of it.
-use Prim.Native.Nat.{ℕ, _+_, _*_, _%_, _<_, _≤_}
-use mathlib.Core.{Bool.{true, false}, List.{List}, Path.{_≡_}}
-use lib.ListN.{getD}
+use Rattle.numbers.specs.Prelude.{ℕ, _+_, _*_, _%_, _≤_, _<_, getD, true, false, List, _≡_}
 use Rattle.border.specs.declared.place.Point.{Point}
 use Rattle.table.specs.{Table.{boundsOf, isAbove, holds}, declared.table.Bounds.{Bounds}}
 

@@ -1,7 +1,7 @@
 -- What the code's answers say: what was asked for, or the refusal.
-use Prim.Native.Nat.{ℕ}
-use Rattle.tzif.specs.Reply.{Reply, given, refused, _>>_}
-use Rattle.tzif.specs.declared.{block.Block.{Block}, header.Reading.{Reading}, refusal.Checked.{Checked}, zone.{Footer.{Footer}, Read.{Read}, Zone.{Zone}}}
+use Rattle.numbers.specs.Prelude.{ℕ}
+use Rattle.tzif.specs.{Reply.{Reply, given, refused, _>>_}, declared.{block.Block.{Block}, header.Reading.{Reading}, refusal.Checked.{Checked}, zone.{Footer.{Footer}, Read.{Read}}}}
+use Rattle.tzif.specs.declared.zone.Zone.{Zone}
 use Rattle.tzif.specs.declared.header.Reading.the-variants as R
 use Rattle.tzif.specs.declared.refusal.Checked.the-variants as C
 use Rattle.tzif.specs.declared.zone.Footer.the-variants as F

@@ -1,12 +1,7 @@
 -- The ways to what a string says of an instant. Assumes nothing.
-use Prim.Native.Nat.{ℕ, _-_, _^_, _≤_, _<_}
-use borrow.Author.Tests.{le-leb, lt-leb, leb-true}
-use lib.Dec.{leb}
-use mathlib.Core.{Bool.{Bool, true, false, _&&_}, Path.{_≡_, refl, ap, sym, _∙_}}
-use native.Mathlib.Omega.{arith}
-use Rattle.tzrule.specs.{Ask.{Ruled, corrected, inYears, since, clockAt, ask}, Summer.{isSummer, IsRule, InYears}}
-use Rattle.tzrule.specs.declared.{ask.{Asked.the-variants.{Holds, Outside}, Time.{Time}}, rule.{Clock.{Clock}, Rule.{Rule}, Tz.{Tz, the-variants.{Fixed, Changing}}}}
-use Rattle.numbers.proofs.Tests.{both}
+use Rattle.numbers.proofs.{Prelude.{ℕ, _-_, _^_, _≤_, _<_, le-leb, leb-true, lt-leb, leb, Bool, true, false, _&&_, _≡_, refl, sym, ap, _∙_, arith}, Tests.{both}}
+use Rattle.tzrule.specs.{Ask.{Ruled, corrected, inYears, since, clockAt, ask}, Summer.{isSummer, IsRule, InYears}, declared.ask.{Asked.the-variants.{Holds, Outside}, Time.{Time}}}
+use Rattle.tzrule.specs.declared.rule.{Clock.{Clock}, Rule.{Rule}, Tz.{Tz, the-variants.{Fixed, Changing}}}
 
 -- the two ways of the years
 module _ (u : ℕ) where
@@ -20,17 +15,14 @@ module _ (u : ℕ) where
 
   too-late : 9223372290257076607 < u → false ≡ inYears u
   unfolding inYears
-  too-late h = late (leb 9223371974719179008 u)
-    where
-      late : (b : Bool) → false ≡ (b && leb u 9223372290257076607)
-      late true = sym (lt-leb u 9223372290257076607 h)
-      late false = refl
+  too-late h = late (leb 9223371974719179008 u) where
+    late : (b : Bool) → false ≡ (b && leb u 9223372290257076607)
+    late true = sym (lt-leb u 9223372290257076607 h)
+    late false = refl
 
   pub years-range : inYears u ≡ true → (9223371974719179008 ≤ u) × (u ≤ 9223372290257076607)
   unfolding inYears
-  years-range e =
-      let tests = both (leb 9223371974719179008 u) (leb u 9223372290257076607) e in
-      (leb-true _ _ (tests .0), leb-true _ _ (tests .1))
+  years-range e = let tests = both (leb 9223371974719179008 u) (leb u 9223372290257076607) e in (leb-true _ _ (tests .0), leb-true _ _ (tests .1))
 
   pub since-is : inYears u ≡ true → u - 9223371962095188608 ≡ since u
   unfolding since

@@ -1,7 +1,6 @@
 -- What the functions that read a TZ string say of each other.
-use Prim.Native.Nat.{ℕ, _≤_}
-use Rattle.tzrule.specs.{Answer.{Answer, read, fault}, Summer.{IsChange, IsRule}}
-use Rattle.tzrule.specs.declared.rule.{Change.{Change}, Clock.{Clock}, Rule.{Rule}, Tz.{Tz, the-variants.{Fixed, Changing}}}
+use Rattle.numbers.specs.Prelude.{ℕ, _≤_}
+use Rattle.tzrule.specs.{Answer.{Answer, read, fault}, Summer.{IsChange, IsRule}, declared.rule.{Change.{Change}, Clock.{Clock}, Rule.{Rule}, Tz.{Tz, the-variants.{Fixed, Changing}}}}
 use Rattle.tzrule.specs.declared.string.{Changed.{Changed}, Clocked.{Clocked}, Parsed.{Parsed}}
 use Rattle.tzrule.specs.declared.string.Changed.the-variants as changed
 use Rattle.tzrule.specs.declared.string.Clocked.the-variants as clocked

@@ -1,18 +1,10 @@
-use mathlib.Core.Path.{ap, _∙_}
-use Rattle.uskelzar.proofs.{Saying.{beside}, uskelzar_lookup.Statement.{statement}}
+use Rattle.numbers.proofs.{Prelude.{needs, ap, _∙_}, Saying.{beside}}
+use Rattle.uskelzar.proofs.uskelzar_lookup.Statement.{statement}
 use Rattle.uskelzar.specs.Spoken.{foundSpoken, zonesValues}
-use borrow.Author.Needs.{needs}
 use Rattle.uskelzar.proofs.uskelzar_lookup.Tie as tie
-use Rattle.uskelzar.proofs.uskelzar_lookup.Reads as reads
-use Rattle.uskelzar.proofs.uskelzar_lookup.Lts as lts
-use Rattle.uskelzar.proofs.say_looked.Reads as say-looked-reads
-use Rattle.uskelzar.proofs.speak.Reads as speak-reads
-use Rattle.zones.proofs.lookup.lookup.Reads as lookup-reads
 
 returns : tie.Need-returns
 returns c = beside _ (c .speak .ensures) (c .before .before .say-looked .ensures) ∙ ap (foundSpoken zonesValues) (c .before .before .before .before .before .before .before .lookup .ensures)
 
 pub uskelzar-lookup-spec : {M : Type 1} → statement M
-uskelzar-lookup-spec =
-    tie.close
-    (tie.spec (λ c κs. search needs) (λ c κs. search needs) (λ c κs. search needs) (λ c. search needs) (λ c. search needs) returns)
+uskelzar-lookup-spec = tie.close (tie.spec (λ c κs. search needs) (λ c κs. search needs) (λ c κs. search needs) (λ c. search needs) (λ c. search needs) returns)

@@ -1,22 +1,13 @@
 -- `uskelzar::uskelzar_lookup_atlas` meets its contract. Assumes nothing.
-use mathlib.Core.Path.{ap, _∙_}
-use Rattle.uskelzar.proofs.{Saying.{beside}, uskelzar_lookup_atlas.Statement.{statement}}
+use Rattle.numbers.proofs.{Prelude.{needs, ap, _∙_}, Saying.{beside}}
+use Rattle.uskelzar.proofs.uskelzar_lookup_atlas.Statement.{statement}
 use Rattle.uskelzar.specs.Spoken.{foundSpoken, zonesValues}
-use borrow.Author.Needs.{needs}
 use Rattle.uskelzar.proofs.uskelzar_lookup_atlas.Tie as tie
 
 returns : tie.Need-returns
 returns c =
-    beside _ (c .speak .ensures) (c .before .before .say-looked .ensures)
-    ∙ ap (foundSpoken zonesValues) (c .before .before .before .before .before .before .before .lookup-atlas .ensures)
+    beside _ (c .speak .ensures) (c .before .before .say-looked .ensures) ∙ ap (foundSpoken zonesValues) (c .before .before .before .before .before .before .before .lookup-atlas .ensures)
 
 pub uskelzar-lookup-atlas-spec : {M : Type 1} → statement M
-uskelzar-lookup-atlas-spec =
-    tie.close
-    (tie.spec
-    (λ c κs. search needs)
-    (λ c κs. search needs)
-    (λ c κs. search needs)
-    (λ c. search needs)
-    (λ c. search needs)
+uskelzar-lookup-atlas-spec = tie.close (tie.spec (λ c κs. search needs) (λ c κs. search needs) (λ c κs. search needs) (λ c. search needs) (λ c. search needs)
     returns)

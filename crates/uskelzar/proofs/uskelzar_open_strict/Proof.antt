@@ -1,12 +1,10 @@
-use mathlib.Core.Path.{ap, _∙_}
-use Rattle.uskelzar.proofs.{Saying.{beside}, uskelzar_open_strict.Statement.{statement}}
+use Rattle.numbers.proofs.{Prelude.{needs, ap, _∙_}, Saying.{beside}}
+use Rattle.uskelzar.proofs.uskelzar_open_strict.Statement.{statement}
 use Rattle.uskelzar.specs.Spoken.{openingSpoken}
-use borrow.Author.Needs.{needs}
 use Rattle.uskelzar.proofs.uskelzar_open_strict.Tie as tie
 
 returns : tie.Need-returns
 returns c = beside _ (c .speak .ensures) (c .before .before .say-opened .ensures) ∙ ap openingSpoken (c .before .before .before .before .before .open-strict .ensures)
 
 pub uskelzar-open-strict-spec : {M : Type 1} → statement M
-uskelzar-open-strict-spec =
-    tie.close (tie.spec (λ c κs. search needs) (λ c κs. search needs) (λ c κs. search needs) (λ c. search needs) returns)
+uskelzar-open-strict-spec = tie.close (tie.spec (λ c κs. search needs) (λ c κs. search needs) (λ c κs. search needs) (λ c. search needs) returns)

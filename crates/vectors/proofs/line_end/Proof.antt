@@ -1,7 +1,5 @@
 -- `vectors::line_end` meets its contract. Assumes nothing.
-use Prim.Native.Nat.{_≤_, _-_}
-use borrow.Author.Needs.{needs}
-use lib.ListN.{length}
+use Rattle.numbers.proofs.Prelude.{_-_, _≤_, needs, length}
 use Rattle.vectors.proofs.line_end.Statement.{statement}
 use Rattle.vectors.proofs.line_end.Tie as tie
 
@@ -12,15 +10,5 @@ abbrev μ-loop : tie.MeasureT-loop
 μ-loop text start i₀ i = length text - i
 
 pub line-end-spec : {M : Type 1} → statement M
-line-end-spec =
-    tie.close
-    (tie.spec
-    Inv-loop
-    μ-loop
-    (λ c. search needs)
-    (λ c. search needs)
-    (λ c. search needs)
-    (λ c. search needs)
-    (λ c. search needs)
-    (λ c. search needs)
-    (λ c. search needs))
+line-end-spec = tie.close (tie.spec Inv-loop μ-loop (λ c. search needs) (λ c. search needs) (λ c. search needs) (λ c. search needs) (λ c. search needs)
+    (λ c. search needs) (λ c. search needs))

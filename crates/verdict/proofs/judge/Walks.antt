@@ -1,25 +1,17 @@
 -- The loop along a border, turn by turn: from its start to its end, or over so many edges. Assumes nothing.
-use Prim.Native.Nat.{ℕ, zero, suc, _-_}
-use native.Mathlib.Omega.{arith}
-use borrow.Author.Tests.{eqb-true}
-use lib.Dec.{eqb}
-use mathlib.Core.{Path.{_≡_, refl, sym, ap, _∙_}, Bool.{Bool, true, false, _&&_}, List.{List, [], _∷_}}
-use types.Run.{OneOf, miss}
-use denote.Enum.Declared.{tagOf}
-use Rattle.numbers.specs.Answer.{Answer}
-use Rattle.numbers.proofs.Tests.{differ}
-use Rattle.border.proofs.Trace.{trace-step, point-trace}
-use Rattle.border.specs.{Trace.{Trace, Given, reaches, point, nextPoint, traceThen, traceOf}, declared.{place.Point.{Point}, reader.{Reader.{Reader}, Encoding.{Encoding}, Next.{Next}}}}
-use Rattle.verdict.specs.{inner.{Gliding.{Calm, GlidesTo, within}, Kept.{lastOf}, Walk.{judgementOf, stepOf, WalkedOn}}, Step.{Step, found, told, _>>=_}, Stretch.{passingFirst}}
-use Rattle.verdict.specs.Verdict.{Last, none, after, passing, thenOn, judge}
-use Rattle.verdict.specs.declared.{field.Field.{Field}, judge.Walk.the-variants.{Ended, Stopped, Enough}, step.{Tally.{Tally}, Passed.{Passed}}}
-use Rattle.verdict.proofs.{Gliding.{carried}, judge.Cases.{decides, judge-end}}
+use Rattle.numbers.proofs.Prelude.{ℕ, zero, suc, _-_, eqb-true, tagOf, eqb, Bool, true, false, _&&_, List, [], _∷_, _≡_, refl, sym, ap, _∙_, arith, OneOf, miss}
+use Rattle.numbers.{proofs.Tests.{differ}, specs.Answer.{Answer}}
+use Rattle.border.{proofs.Trace.{trace-step, point-trace}, specs.{Trace.{Trace, Given, reaches, point, nextPoint, traceThen, traceOf}, declared.{place.Point.{Point}, reader.Encoding.{Encoding}}}}
+use Rattle.border.specs.declared.reader.{Next.{Next}, Reader.{Reader}}
+use Rattle.verdict.specs.{Step.{Step, found, told, _>>=_}, Stretch.{passingFirst}, Verdict.{Last, none, after, passing, thenOn, judge}, declared.field.Field.{Field}}
+use Rattle.verdict.specs.{declared.{judge.Walk.the-variants.{Ended, Stopped, Enough}, step.{Passed.{Passed}, Tally.{Tally}}}, inner.{Gliding.{Calm, GlidesTo, within}, Kept.{lastOf}}}
+use Rattle.verdict.specs.inner.Walk.{judgementOf, stepOf, WalkedOn}
+use Rattle.verdict.proofs.{Gliding.{carried}, judge.Cases.{decides, judge-end}, winding.Cases.{stays}}
 use Rattle.border.specs.inner.Told as R
 use Rattle.numbers.specs.Answer as A
 use Rattle.border.specs.declared.reader.Next.the-variants as N
 use Rattle.border.proofs.reader.Next as Next'
 use Rattle.verdict.proofs.step.Passed as Passed'
-use Rattle.verdict.specs.declared.step.Passed.the-variants as P
 
 -- ---- what a `let .. else` leaves
 first-end : (fix : Point) (asked : Bool) (n : ℕ) (last : Last) (next : Next) (rest : Reader → Trace) (t : Tally) → OneOf (1 ∷ 2 ∷ 3 ∷ []) (tagOf Next'.the-type next)
@@ -29,11 +21,6 @@ first-end fix asked n last (N.Point s) rest t o = absurd (miss (1 ∷ 2 ∷ 3 �
 first-end fix asked n last N.Ended rest t o = refl
 first-end fix asked n last N.Failed rest t o = refl
 first-end fix asked n last (N.Refused k) rest t o = refl
-
-stays-stopped : (p : Passed) (go : Tally → Step Tally) → OneOf (1 ∷ 2 ∷ []) (tagOf Passed'.the-type p) → told p ≡ (told p >>= go)
-stays-stopped (P.On t) go o = absurd (miss (1 ∷ 2 ∷ []) 0 tt o)
-stays-stopped (P.Meets v) go o = refl
-stays-stopped P.Over go o = refl
 
 module _ (file : List ℕ) (encoding : Encoding) (fix : Point) (asked : Bool) (edges : ℕ) (start : Reader) (tally : Tally) where
   abbrev rest : Reader → Trace
@@ -54,11 +41,10 @@ module _ (file : List ℕ) (encoding : Encoding) (fix : Point) (asked : Bool) (e
 
     pub along-enough : (limited : Bool) (left : ℕ) → Along limited reader last t left → (limited && eqb left 0) ≡ true → WalkedOn file encoding fix asked limited edges start tally (Enough t)
     unfolding passingFirst stepOf
-    along-enough true left inv done = go left (eqb-true left 0 done) inv
-      where
-        go : (n : ℕ) → n ≡ 0 → passingFirst fix asked n last (rest reader) t ≡ whole → found t ≡ whole
-        go zero e h = h
-        go (suc n) e h = absurd (omega (arith, e))
+    along-enough true left inv done = go left (eqb-true left 0 done) inv where
+      go : (n : ℕ) → n ≡ 0 → passingFirst fix asked n last (rest reader) t ≡ whole → found t ≡ whole
+      go zero e h = h
+      go (suc n) e h = absurd (omega (arith, e))
     along-enough false left inv done = differ done
 
     -- as long as there are edges to pass
@@ -70,43 +56,31 @@ module _ (file : List ℕ) (encoding : Encoding) (fix : Point) (asked : Bool) (e
         → OneOf (1 ∷ 2 ∷ 3 ∷ []) (tagOf Next'.the-type next) → WalkedOn file encoding fix asked limited edges start tally (Ended next t)
     unfolding judgementOf stepOf
     along-ends true left inv undone next said o =
-        first-end fix asked (left - 1) last next rest t o
-        ∙ ap (λ (n : Answer Given). passingFirst fix asked (suc (left - 1)) last (traceThen n rest) t) said
-        ∙ ap (λ (r : Trace). passingFirst fix asked (suc (left - 1)) last r t) (sym (trace-step file encoding reader))
-        ∙ sym (more left undone)
-        ∙ inv
+        first-end fix asked (left - 1) last next rest t o ∙ ap (λ (n : Answer Given). passingFirst fix asked (suc (left - 1)) last (traceThen n rest) t) said
+        ∙ ap (λ (r : Trace). passingFirst fix asked (suc (left - 1)) last r t) (sym (trace-step file encoding reader)) ∙ sym (more left undone) ∙ inv
     along-ends false left inv undone next said o =
-        judge-end fix asked last t next rest o
-        ∙ ap (λ (n : Answer Given). judge fix asked last t (traceThen n rest)) said
-        ∙ ap (judge fix asked last t) (sym (trace-step file encoding reader))
-        ∙ inv
+        judge-end fix asked last t next rest o ∙ ap (λ (n : Answer Given). judge fix asked last t (traceThen n rest)) said ∙ ap (judge fix asked last t) (sym (trace-step file encoding reader)) ∙ inv
 
     module _ (later : Reader) (said : A.found (reaches later) ≡ nextPoint file encoding reader) (here : Point) (same : here ≡ later .point) where
       -- the step that is taken, followed by the rest
       stepped : (left : ℕ) → Along true reader last t left → eqb left 0 ≡ false → (passing fix asked last here t >>= passingFirst fix asked (left - 1) (after here) (rest later)) ≡ whole
       unfolding passingFirst
       stepped left inv undone =
-          ap (λ (p : Point). passingFirst fix asked (suc (left - 1)) last (point p (rest later)) t) same
-          ∙ ap (λ (r : Trace). passingFirst fix asked (suc (left - 1)) last r t) (point-trace file encoding reader later said)
-          ∙ sym (more left undone)
-          ∙ inv
+          ap (λ (p : Point). passingFirst fix asked (suc (left - 1)) last (point p (rest later)) t) same ∙ ap (λ (r : Trace). passingFirst fix asked (suc (left - 1)) last r t)
+          (point-trace file encoding reader later said) ∙ sym (more left undone) ∙ inv
 
       judged : (left : ℕ) → Along false reader last t left
           → thenOn asked (t .least) (passing fix asked last here t) (λ (u : Tally). judge fix asked (after here) u (rest later)) ≡ judge fix asked none tally (rest start)
       unfolding judge
       judged left inv =
-          ap (λ (p : Point). judge fix asked last t (point p (rest later))) same
-          ∙ ap (judge fix asked last t) (point-trace file encoding reader later said)
-          ∙ inv
+          ap (λ (p : Point). judge fix asked last t (point p (rest later))) same ∙ ap (judge fix asked last t) (point-trace file encoding reader later said) ∙ inv
 
       pub along-stops : (limited : Bool) (left : ℕ) → Along limited reader last t left → (limited && eqb left 0) ≡ false → (p : Passed) → told p ≡ passing fix asked last here t
           → OneOf (1 ∷ 2 ∷ []) (tagOf Passed'.the-type p) → WalkedOn file encoding fix asked limited edges start tally (Stopped p (t .least))
       unfolding judgementOf stepOf
-      along-stops true left inv undone p e o =
-          let go = passingFirst fix asked (left - 1) (after here) (rest later) in
-          stays-stopped p go o ∙ ap (λ (m : Step Tally). m >>= go) e ∙ stepped left inv undone
-      along-stops false left inv undone p e o =
-          let go : Tally → _ = λ (u : Tally). judge fix asked (after here) u (rest later) in
+      along-stops true left inv undone p e o = let go = passingFirst fix asked (left - 1) (after here) (rest later) in
+          stays p go o ∙ ap (λ (m : Step Tally). m >>= go) e ∙ stepped left inv undone
+      along-stops false left inv undone p e o = let go : Tally → _ = λ (u : Tally). judge fix asked (after here) u (rest later) in
           decides p asked (t .least) go o ∙ ap (λ (m : Step Tally). thenOn asked (t .least) m go) e ∙ judged left inv
 
       pub along-on : (limited : Bool) (left : ℕ) → Along limited reader last t left → (limited && eqb left 0) ≡ false → (u : Tally) → found u ≡ passing fix asked last here t

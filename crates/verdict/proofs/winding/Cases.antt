@@ -1,13 +1,9 @@
 -- What a definition by cases gives at the variants that a `let .. else` leaves. Assumes nothing.
-use Prim.Native.Nat.{ℕ}
-use mathlib.Core.{Path.{_≡_, refl}, List.{[], _∷_}}
-use types.Run.{OneOf, miss}
-use denote.Enum.Declared.{tagOf}
+use Rattle.numbers.proofs.Prelude.{ℕ, tagOf, [], _∷_, _≡_, refl, OneOf, miss}
+use Rattle.verdict.specs.{Step.{Step, meets, _>>=_, told}, Winding.{acrossBy}, declared.{edge.Edge.{Edge}, step.{Passed.{Passed}, Tally.{Tally}, Verdict.the-variants.{OnBorderSegment}}}}
+use Rattle.border.specs.declared.place.Point.{Point}
 use Rattle.verdict.proofs.edge.Edge as Edge'
 use Rattle.verdict.proofs.step.Passed as Passed'
-use Rattle.verdict.specs.{Step.{Step, meets, _>>=_, told}, Winding.{acrossBy}}
-use Rattle.verdict.specs.declared.{edge.Edge.{Edge}, step.{Tally.{Tally}, Passed.{Passed}, Verdict.the-variants.{OnBorderSegment}}}
-use Rattle.border.specs.declared.place.Point.{Point}
 use Rattle.verdict.specs.declared.edge.Edge.the-variants as E
 use Rattle.verdict.specs.declared.step.Passed.the-variants as P
 

@@ -1,9 +1,7 @@
 -- Fields so far from a location that no edge in them comes nearer than the least distance. No promise of a public function speaks of it.
-use Prim.Native.Nat.{ℕ, _+_, _*_, _≤_}
-use mathlib.Core.{Path.{_≡_}, Bool.{true}, Logic.{_⊎_}}
-use lib.{IntN.{ℤ, pos, _+ℤ_, _-ℤ_}, Signed.{mag}}
+use Rattle.numbers.specs.Prelude.{ℕ, _+_, _*_, _≤_, ℤ, pos, _+ℤ_, _-ℤ_, mag, true, _⊎_, _≡_}
 use Rattle.border.specs.{Box.{Box}, declared.place.Point.{Point}}
-use Rattle.verdict.specs.{inner.Gliding.{nearby, farFrom}, declared.field.{Span.{Span}, Field.{Field}}}
+use Rattle.verdict.specs.{declared.field.{Field.{Field}, Span.{Span}}, inner.Gliding.{nearby, farFrom}}
 
 -- the numbers of a span are all more than r away from x, or r is 0
 abbrev pub Reaches : ℕ → ℤ → Span → Type 0

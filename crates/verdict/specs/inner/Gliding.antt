@@ -1,14 +1,11 @@
 -- Points of a border that change nothing about a location. No promise of a public function speaks of it.
-use Prim.Native.Nat.{ℕ, suc, _+_, _*_, _≤_}
-use mathlib.Core.{Path.{_≡_}, Bool.{Bool, true, false, _&&_, _||_}, List.{List}}
-use lib.{IntN.{ℤ, pos, negsuc, _+ℤ_, _-ℤ_}, Signed.{leZ, ltZ, mag}}
+use Rattle.numbers.specs.Prelude.{ℕ, suc, _+_, _*_, _≤_, ℤ, pos, negsuc, _+ℤ_, _-ℤ_, mag, ltZ, leZ, Bool, true, false, _&&_, _||_, List, _≡_, w32}
 use Rattle.numbers.specs.{Answer.{found}, declared.point.RawPoint.{RawPoint}}
-use Rattle.border.specs.{Encoding.{encodedBy}, Place.{movedBy}, Trace.{Trace, point, traceOf}}
-use Rattle.border.specs.declared.place.Point.{Point}
-use Rattle.border.specs.declared.reader.{Reader.{Reader}, Encoding.{Encoding}, Version.the-variants.{Plain, Packed}, Run.{Run, the-variants.{Idle, Backward}}}
-use Rattle.verdict.specs.Verdict.{after, passing}
-use Rattle.verdict.specs.declared.{field.{Span.{Span}, Field.{Field}, Open.{Open, the-variants.{About, Shut}}}, glide.Led.{Led, the-variants.{To, Out}}}
-use Rattle.verdict.specs.declared.step.Tally.{Tally}
+use mir.Val.{SFits}
+use Rattle.border.specs.{Encoding.{encodedBy}, Place.{pointAt, movedBy}, Trace.{Trace, point, traceOf}, declared.{place.Point.{Point}, reader.{Encoding.{Encoding}, Reader.{Reader}, Run.{Run}}}}
+use Rattle.border.specs.declared.reader.{Run.the-variants.{Idle, Backward}, Version.the-variants.{Plain, Packed}}
+use Rattle.verdict.specs.{Verdict.{after, passing}, declared.{field.{Field.{Field}, Open.{Open, the-variants.{About, Shut}}, Span.{Span}}, glide.Led.{Led, the-variants.{To, Out}}}}
+use Rattle.verdict.specs.declared.{glide.Wide.{Wide}, step.Tally.{Tally}}
 use Rattle.border.specs.Trace as T
 use Rattle.verdict.specs.Step as S
 
@@ -36,9 +33,18 @@ aside fix field = beside (fix .lat .0) (field .lat) && beside (fix .lon .0) (fie
 unfoldable pub within : Field → Point → Bool
 within field p = inSpan (field .lat) (p .lat .0) && inSpan (field .lon) (p .lon .0)
 
+-- the point of which both coordinates are held wide
+abbrev pub pointed : Wide → Point
+pointed w = pointAt (w .lat) (w .lon)
+
+-- they are i32s all the same
+pub record Narrow (w : Wide) : Type 0 where
+  pub lat-fits : SFits w32 (w .lat)
+  pub lon-fits : SFits w32 (w .lon)
+
 -- a move leads to a point of the field
-abbrev pub LedTo : Field → Point → RawPoint → Led → Type 0
-LedTo field p by (To to) = (found to ≡ movedBy p by) × (within field to ≡ true)
+abbrev pub LedTo : Field → Wide → RawPoint → Led → Type 0
+LedTo field p by (To to) = (found (pointed to) ≡ movedBy (pointed p) by) × (within field (pointed to) ≡ true) × Narrow to
 LedTo field p by Out = Unit
 
 -- a trace after a point comes to what is left of it after a later point, and all points on the way lie in the field

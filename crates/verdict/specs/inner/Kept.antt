@@ -1,8 +1,6 @@
 -- What inner functions of the verdict keep from edge to edge and say to each other. No promise of a public function speaks of it.
-use mathlib.Core.{Path.{_≡_}, Bool.{Bool}}
-use Rattle.numbers.specs.Answer.{if_then_else_}
-use Rattle.verdict.specs.{Edge.{quadrantOf, spotOf}, Verdict.{Judgement, failed, refused, Last, none, after, closedAt}}
-use Rattle.verdict.specs.declared.{edge.{Spot.{Spot}, Seen.{Seen}}, step.Tally.{Tally}}
+use Rattle.numbers.specs.{Answer.{if_then_else_}, Prelude.{Bool, _≡_}}
+use Rattle.verdict.specs.{Edge.{quadrantOf, spotOf}, Verdict.{Judgement, failed, refused, Last, none, after, closedAt}, declared.{edge.{Seen.{Seen}, Spot.{Spot}}, step.Tally.{Tally}}}
 use Rattle.border.specs.declared.{place.Point.{Point}, reader.Next.{Next}}
 use Rattle.border.specs.declared.reader.Next.the-variants as N
 

@@ -1,9 +1,8 @@
 -- What a walk along a border comes to. No promise of a public function speaks of it.
-use Prim.Native.Nat.{ℕ}
-use mathlib.Core.{Path.{_≡_}, Bool.{Bool, true, false}, List.{List}}
-use Rattle.border.specs.{Trace.{traceOf}, declared.{place.Point.{Point}, reader.{Reader.{Reader}, Encoding.{Encoding}}}}
-use Rattle.verdict.specs.{inner.{Gliding.{Opens}, Kept.{endedAt}}, Step.{Step, found, told}, Stretch.{passingFirst}, Verdict.{Judgement, refused, none, after, closedAt, thenOn, judge}}
-use Rattle.verdict.specs.declared.{field.Open.{Open, the-variants.{About, Shut}}, judge.Walk.{Walk, the-variants.{Ended, Stopped, Enough}}, step.Tally.{Tally}}
+use Rattle.numbers.specs.Prelude.{ℕ, Bool, true, false, List, _≡_}
+use Rattle.border.specs.{Trace.{traceOf}, declared.{place.Point.{Point}, reader.{Encoding.{Encoding}, Reader.{Reader}}}}
+use Rattle.verdict.specs.{Step.{Step, found, told}, Stretch.{passingFirst}, Verdict.{Judgement, refused, none, after, closedAt, thenOn, judge}, declared.field.Open.{Open, the-variants.{About}}}
+use Rattle.verdict.specs.{declared.{field.Open.the-variants.{Shut}, judge.Walk.{Walk, the-variants.{Ended, Stopped, Enough}}, step.Tally.{Tally}}, inner.{Gliding.{Opens}, Kept.{endedAt}}}
 
 -- a calm field that holds the point, and no limit; or none
 abbrev pub OpensUnless : Bool → Point → Bool → Tally → Point → Open → Type 0

@@ -1,10 +1,7 @@
 -- What the writer's inner functions say of each other.
-use Prim.Native.Nat.{ℕ, _+_, _≤_, min}
-use mathlib.Core.{Path.{_≡_}, List.{List, [], _∷_}}
-use lib.{IntN.{ℤ, pos, _-ℤ_}, ListN.{length, take, getD}, Seq.{sets}}
-use Rattle.numbers.specs.declared.point.RawPoint.{RawPoint}
+use Rattle.numbers.specs.{Prelude.{ℕ, _+_, _≤_, min, ℤ, pos, _-ℤ_, length, take, getD, sets, List, [], _∷_, _≡_}, declared.point.RawPoint.{RawPoint}}
 use Rattle.border.specs.Place.{moveBy}
-use Rattle.writer.specs.{Limits.{mostPieces}, Pieces.{goodPieces}, declared.{write.Piece.{Piece}, pieces.Check.{Check}}}
+use Rattle.writer.specs.{Limits.{mostPieces}, Pieces.{goodPieces}, declared.{pieces.Check.{Check}, write.Piece.{Piece}}}
 
 -- the bytes were stored from a place on, as many as fit, and the next place is behind all of them
 pub record Stored (before : List ℕ) (place : ℕ) (bytes after : List ℕ) (next : ℕ) : Type 0 where

@@ -1,16 +1,11 @@
 -- The first match's description, by how far the code came. Assumes nothing.
-use mathlib.Core.{Path.{_≡_, refl, sym, ap, subst, _∙_}, Bool.{Bool, true, false}, List.{List, [], _∷_, _++_}, Option.{Option, none, some}}
-use Prim.Native.Nat.{ℕ, _<_}
-use native.Mathlib.{Nat.{sub-zero}, Omega.{arith}}
-use borrow.Author.Tests.{le-leb}
-use denote.Enum.Declared.{tagOf, declared}
-use lib.{Dec.{leb}, ListN.{length, getD, drop}, Seq.{drop-cons}}
-use Rattle.numbers.specs.{Lists.{zeros, padded}, Reply.{Reply, given, refused, plain, demand, _>>=_, _>>_}, declared.refusal.Refusal.{Refusal}}
-use Rattle.numbers.proofs.Replies.{carried, onward, met}
+use Rattle.numbers.proofs.Prelude.{ℕ, _<_, le-leb, tagOf, declared, leb, length, drop, getD, drop-cons, Bool, true, false, List, [], _∷_, _++_, _≡_, refl, sym, ap, subst, _∙_, sub-zero, arith}
+use Rattle.numbers.{proofs.Replies.{carried, onward, met}, specs.{Lists.{zeros, padded}, Reply.{Reply, given, refused, plain, demand, _>>=_, _>>_}, declared.refusal.Refusal.{Refusal}}}
+use mathlib.Core.Option.{Option, none, some}
 use Rattle.header.specs.{Text.{bytesOf}, declared.header.Head.{Head}}
-use Rattle.table.{specs.{Hits.{noHit}, inner.Agreeing.{Agrees}, declared.hits.Hit.{Hit}}, proofs.Agreeing.{agree-given, agree-refused, gave, refused-so}}
-use Rattle.zones.specs.{Fields.{Wrote}, Simple.{descriptionAt, descriptionOf, bytesIn, fitting, wordedOf, Worded, toldNamed, LiesNamed, LiesParts}}
-use Rattle.zones.specs.declared.simple.{Parts.{Parts}, Named.{Named}}
+use Rattle.table.{proofs.Agreeing.{agree-given, agree-refused, gave, refused-so}, specs.{Hits.{noHit}, declared.hits.Hit.{Hit}, inner.Agreeing.{Agrees}}}
+use Rattle.zones.specs.{Fields.{Wrote}, Simple.{descriptionAt, descriptionOf, bytesIn, fitting, wordedOf, Worded, toldNamed, LiesNamed, LiesParts}, declared.simple.Named.{Named}}
+use Rattle.zones.specs.declared.simple.Parts.{Parts}
 use Rattle.zones.specs.declared.simple.Named.the-variants as N
 use Rattle.zones.specs.declared.simple.Description.the-variants as D
 use Rattle.zones.proofs.simple.Named as K
@@ -30,11 +25,10 @@ both file parts = bytesOf file (parts .one) ++ bytesOf file (parts .two)
 
 -- what fits is what was to fit
 fitted : (room : ℕ) (all : List ℕ) {bytes : List ℕ} → given bytes ≡ fitting room all → bytes ≡ all
-fitted room all {bytes} e = go (leb (length all) room) e
-  where
-    go : (test : Bool) → given bytes ≡ (demand test (plain 18) >> given all) → bytes ≡ all
-    go true e = cc
-    go false e = let z : _≡_ {A = ℕ} 0 1 = cc in absurd (omega arith)
+fitted room all {bytes} e = go (leb (length all) room) e where
+  go : (test : Bool) → given bytes ≡ (demand test (plain 18) >> given all) → bytes ≡ all
+  go true e = cc
+  go false e = let z : _≡_ {A = ℕ} 0 1 = cc in absurd (omega arith)
 
 -- what the first match is called describes it
 pub described : (file : List ℕ) (head : Head) (all : List Hit) (named : Named) {got : Hit} → 0 < length all → got ≡ getD all 0 noHit → toldNamed file named ≡ descriptionAt file head (got .metadata)
@@ -51,8 +45,7 @@ module _ (file : List ℕ) (head : Head) (room : ℕ) (all : List Hit) where
   worded d e = onward e (λ x. fitting room (bytesIn x) >>= λ bytes. given x)
 
   nothing : {text : List ℕ} → text ≡ zeros room → given none ≡ descriptionOf file head all → Agrees (Worded room text) (wordedOf file head room all) (given D.Missing)
-  nothing z e =
-      let empty : given [] ≡ fitting room [] = met (le-leb 0 room (omega arith)) (plain 18) (given []) in
+  nothing z e = let empty : given [] ≡ fitting room [] = met (le-leb 0 room (omega arith)) (plain 18) (given []) in
       agree-given (Worded room _) (onward empty (λ bytes. given none) ∙ worded none e) (record { said = refl; kept = simp sub-zero z })
 
   pub no-matches : {text : List ℕ} → text ≡ zeros room → all ≡ [] → Agrees (Worded room text) (wordedOf file head room all) (given D.Missing)
@@ -74,12 +67,9 @@ module _ (file : List ℕ) (head : Head) (room : ℕ) (all : List Hit) where
       module _ (last : List ℕ) {reply : Reply ℕ} (agrees : Agrees (Wrote room last) (fitting room (both file parts)) reply) where
         pub no-room : {why : Refusal} (text : List ℕ) → reply ≡ refused why → Agrees (Worded room text) (wordedOf file head room all) (refused why)
         no-room text r =
-            agree-refused (Worded room text)
-            (carried (refused-so (Wrote room last) (fitting room (both file parts)) agrees r) (λ bytes. given (some (both file parts))) ∙ goes-out)
+            agree-refused (Worded room text) (carried (refused-so (Wrote room last) (fitting room (both file parts)) agrees r) (λ bytes. given (some (both file parts))) ∙ goes-out)
 
         pub written : {size : ℕ} → reply ≡ given size → Agrees (Worded room last) (wordedOf file head room all) (given (D.Length size))
-        written r =
-            let o = gave (Wrote room last) (fitting room (both file parts)) agrees r in
-            let same = fitted room (both file parts) (o .is) in
+        written r = let o = gave (Wrote room last) (fitting room (both file parts)) agrees r in let same = fitted room (both file parts) (o .is) in
             agree-given (Worded room last) (onward (o .is) (λ bytes. given (some (both file parts))) ∙ goes-out)
             (record { said = ap D.Length (o .fits .said ∙ ap length same); kept = o .fits .kept ∙ ap (padded room) same })

@@ -1,23 +1,38 @@
 -- Two lists of bytes, compared one by one. Assumes nothing.
-use mathlib.Core.{Path.{_≡_, refl, sym, ap, _∙_}, Bool.{Bool, true, false, _&&_}, List.{List, [], _∷_, map}}
-use Prim.Native.Nat.{ℕ, suc, _+_, _≤_, _<_}
-use native.Mathlib.{Numerals.{add-one}, Omega.{arith}}
-use borrow.Author.Tests.{eq-eqb, ne-eqb}
-use lib.{Bits.{bitXor}, Dec.{eqb}, ListN.{length, getD, drop, length-map, drop-of-length-le}, Seq.{drop-cons}}
+use Rattle.numbers.proofs.Prelude.{ℕ, suc, _+_, _≤_, _<_, eq-eqb, ne-eqb, eqb, length, drop, getD, length-map, drop-of-length-le, drop-cons, Bool, true, false, _&&_, List, [], _∷_, map, _≡_, refl}
+use Rattle.numbers.proofs.Prelude.{sym, ap, _∙_, add-one, arith}
+use lib.Bits.{bitXor}
 use Rattle.zones.specs.Simple.{same, name, timezoneId, timezoneIdPrefix, partOf}
-use Rattle.header.{specs.Utf8.{unmasked}, proofs.Buffers.{map-at}}
+use Rattle.header.{proofs.Buffers.{map-at}, specs.Utf8.{unmasked}}
+use mathlib.Core.Bool.{and-false}
 
-both-false : (t : Bool) {u : Bool} → u ≡ false → (t && u) ≡ false
-both-false true e = e
-both-false false e = refl
-
-lengths-differ : (xs ys : List ℕ) → (length xs ≡ length ys → ⊥) → same xs ys ≡ false
+pub lengths-differ : (xs ys : List ℕ) → (length xs ≡ length ys → ⊥) → same xs ys ≡ false
 unfolding same
 lengths-differ [] [] h = absurd (h refl)
 lengths-differ [] (y ∷ ys) h = refl
 lengths-differ (x ∷ xs) [] h = refl
-lengths-differ (x ∷ xs) (y ∷ ys) h = both-false (eqb x y) (lengths-differ xs ys (λ e. h (ap suc e)))
+lengths-differ (x ∷ xs) (y ∷ ys) h = ap (λ (t : Bool). eqb x y && t) (lengths-differ xs ys (λ e. h (ap suc e))) ∙ and-false (eqb x y)
 
+module _ (xs ys : List ℕ) (lengths : length xs ≡ length ys) (i : ℕ) {whole : Bool} (so-far : same (drop i xs) (drop i ys) ≡ whole) where
+  pub all-same : length xs ≤ i → true ≡ whole
+  unfolding same
+  all-same h = let one : drop i xs ≡ [] = drop-of-length-le xs {i = i} h in
+      let two : drop i ys ≡ [] = drop-of-length-le ys {i = i} (omega (arith, lengths, h)) in sym (λ j. same (one j) (two j)) ∙ so-far
+
+  module _ (more : i < length xs) where
+    opened : (eqb (getD xs i 0) (getD ys i 0) && same (drop (i + 1) xs) (drop (i + 1) ys)) ≡ whole
+    unfolding same
+    opened = let first : drop i xs ≡ getD xs i 0 ∷ drop (i + 1) xs = drop-cons xs i 0 more ∙ (λ j. getD xs i 0 ∷ drop (sym (add-one i) j) xs) in
+        let second : drop i ys ≡ getD ys i 0 ∷ drop (i + 1) ys = drop-cons ys i 0 (omega (arith, lengths, more)) ∙ (λ j. getD ys i 0 ∷ drop (sym (add-one i) j) ys) in
+        sym (λ j. same (first j) (second j)) ∙ so-far
+
+    pub differs : (getD xs i 0 ≡ getD ys i 0 → ⊥) → false ≡ whole
+    differs n = simp (ne-eqb _ _ n) at opened
+
+    pub goes-on : getD xs i 0 ≡ getD ys i 0 → same (drop (i + 1) xs) (drop (i + 1) ys) ≡ whole
+    goes-on e = simp (eq-eqb _ _ e) at opened
+
+-- a stored string, unmasked byte by byte, and a name
 module _ (stored name : List ℕ) where
   abbrev called : List ℕ
   called = map unmasked stored
@@ -26,27 +41,24 @@ module _ (stored name : List ℕ) where
   not-as-long h = sym (lengths-differ called name (λ e. h (sym (length-map stored unmasked) ∙ e)))
 
   module _ (i : ℕ) (lengths : length stored ≡ length name) {whole : Bool} (so-far : same (drop i called) (drop i name) ≡ whole) where
-    pub all-same : length name ≤ i → true ≡ whole
-    unfolding same
-    all-same h =
-        let one : drop i called ≡ [] = drop-of-length-le called {i = i} (rw length-map (omega arith)) in
-        let two : drop i name ≡ [] = drop-of-length-le name {i = i} h in
-        sym (λ j. same (one j) (two j)) ∙ so-far
+    sizes : length called ≡ length name
+    sizes = length-map stored unmasked ∙ lengths
+
+    pub all-called : length name ≤ i → true ≡ whole
+    all-called h = all-same called name sizes i so-far (omega (arith, sizes, h))
 
     module _ (more : i < length name) where
-      opened : (eqb (bitXor (getD stored i 0) 0x80) (getD name i 0) && same (drop (i + 1) called) (drop (i + 1) name)) ≡ whole
-      unfolding same
-      opened =
-          let there : i < length stored = omega arith in
-          let first : drop i called ≡ bitXor (getD stored i 0) 0x80 ∷ drop (i + 1) called = drop-cons called i 0 (rw length-map there) ∙ (λ j. map-at unmasked stored i there j ∷ drop (sym (add-one i) j) called) in
-          let second : drop i name ≡ getD name i 0 ∷ drop (i + 1) name = drop-cons name i 0 more ∙ (λ j. getD name i 0 ∷ drop (sym (add-one i) j) name) in
-          sym (λ j. same (first j) (second j)) ∙ so-far
+      there : i < length called
+      there = omega (arith, sizes, more)
 
-      pub differs : (bitXor (getD stored i 0) 0x80 ≡ getD name i 0 → ⊥) → false ≡ whole
-      differs n = simp (ne-eqb _ _ n) at opened
+      byte : getD called i 0 ≡ bitXor (getD stored i 0) 0x80
+      byte = map-at unmasked stored i (omega (arith, lengths, more))
 
-      pub goes-on : bitXor (getD stored i 0) 0x80 ≡ getD name i 0 → same (drop (i + 1) called) (drop (i + 1) name) ≡ whole
-      goes-on e = simp (eq-eqb _ _ e) at opened
+      pub called-other : (bitXor (getD stored i 0) 0x80 ≡ getD name i 0 → ⊥) → false ≡ whole
+      called-other n = differs called name sizes i so-far there (λ e. n (sym byte ∙ e))
+
+      pub called-on : bitXor (getD stored i 0) 0x80 ≡ getD name i 0 → same (drop (i + 1) called) (drop (i + 1) name) ≡ whole
+      called-on e = goes-on called name sizes i so-far there (byte ∙ e)
 
 -- ---- the part that a name stands for, by the tests that the code makes
 module _ (kind : ℕ) (called : List ℕ) where

@@ -1,17 +1,12 @@
 -- What a match is called, by how far the code came. Assumes nothing.
-use mathlib.Core.{Path.{_≡_, refl, sym, ap, _∙_}, List.{List}}
-use Prim.Native.Nat.{ℕ}
-use native.Mathlib.Omega.{arith}
-use denote.Enum.Declared.{tagOf, declared}
-use lib.ListN.{length}
-use Rattle.numbers.{proofs.Replies.{carried, onward}, specs.{Reply.{given, refused, _>>=_}, declared.refusal.Refusal.{Refusal}}}
+use Rattle.numbers.{proofs.{Prelude.{ℕ, tagOf, declared, length, List, _≡_, refl, sym, ap, _∙_, arith}, Replies.{carried, onward}}, specs.{Reply.{given, _>>=_}, declared.refusal.Refusal.{Refusal}}}
 use Rattle.header.specs.declared.{header.Head.{Head}, text.Text.{Text}}
-use Rattle.zones.specs.{Fields.{fieldsPlace}, Simple.{begun, pickedFrom, joined, descriptionAt, toldPicks, toldNamed, LiesNamed}}
-use Rattle.zones.specs.declared.simple.{Value.{Value}, Picked.{Picked}, Picks.{Picks}, Named.{Named}}
+use Rattle.zones.specs.{Fields.{fieldsPlace}, Simple.{begun, pickedFrom, joined, descriptionAt, toldPicks, toldNamed, LiesNamed}, declared.simple.{Named.{Named}, Picked.{Picked}}}
+use Rattle.zones.specs.declared.simple.{Picks.{Picks}, Value.{Value}}
+use Rattle.zones.proofs.simple.Picking.{picked-lies, lies-at}
 use Rattle.zones.specs.declared.simple.Value.the-variants as X
 use Rattle.zones.specs.declared.simple.Picks.the-variants as P
 use Rattle.zones.specs.declared.simple.Named.the-variants as N
-use Rattle.zones.proofs.simple.Picking.{picked-lies, lies-at}
 use Rattle.zones.proofs.simple.Value as K
 
 pub no-value : (value : Value) → tagOf (declared K.enum) value ≡ 1 → value ≡ X.Missing
@@ -45,6 +40,5 @@ module _ (file : List ℕ) (head : Head) (metadata : ℕ) {place : ℕ} (picks :
 
       pub both-picked : {two : Text} → picked .two ≡ X.At two → Says (N.Name (record { one = one; two = two }))
       unfolding LiesNamed
-      both-picked second =
-          let lies = picked-lies file head place (sym (ap toldPicks is) ∙ e) in
+      both-picked second = let lies = picked-lies file head place (sym (ap toldPicks is) ∙ e) in
           (sym (λ i. given (joined file (first i) (second i))) ∙ so, record { one = lies-at file _ first (lies .one); two = lies-at file _ second (lies .two) })

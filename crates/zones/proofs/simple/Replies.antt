@@ -1,12 +1,9 @@
 -- From the matches to the outcome, by how far the code came, whatever was searched. Assumes nothing.
-use mathlib.Core.{Path.{_≡_, refl, ap, _∙_}, List.{List}, Option.{Option}}
-use Prim.Native.Nat.{ℕ}
-use native.Mathlib.Omega.{arith}
-use denote.Enum.Declared.{tagOf, declared}
-use lib.ListN.{length, take}
-use Rattle.numbers.{specs.{Reply.{Reply, given, refused, _>>_, _>>=_}, declared.refusal.Refusal.{Refusal}}, proofs.Replies.{carried, onward}}
-use Rattle.table.specs.{Hits.{slots}, Find.{Matched, Matching}, inner.Agreeing.{Agrees}, declared.{hits.Hit.{Hit}, find.Matches.{Matches}}}
-use Rattle.table.proofs.{Agreeing.{Gave, agree-given, agree-refused, gave, refused-so}, Matches.{count-is, matches-are}}
+use Rattle.numbers.proofs.Prelude.{ℕ, tagOf, declared, length, take, List, _≡_, refl, ap, _∙_, arith}
+use Rattle.numbers.{proofs.Replies.{carried, onward}, specs.{Reply.{Reply, given, refused, _>>_, _>>=_}, declared.refusal.Refusal.{Refusal}}}
+use mathlib.Core.Option.{Option}
+use Rattle.table.{proofs.{Agreeing.{Gave, agree-given, agree-refused, gave, refused-so}, Matches.{count-is, matches-are}}, specs.{Find.{Matched, Matching}, Hits.{slots}}}
+use Rattle.table.specs.{declared.{find.Matches.{Matches}, hits.Hit.{Hit}}, inner.Agreeing.{Agrees}}
 use Rattle.zones.specs.{Lent.{Outcome, replied, repliedOf, Filled}, Simple.{bytesIn, lengthIn, checked, wordedOf, describing, Worded, ToldSimply, describedFrom, toldChecked}}
 use Rattle.zones.specs.declared.simple.{Checked.{Checked}, Described.{Described}, Description.{Description}}
 use Rattle.header.specs.declared.header.Head.{Head}
@@ -38,8 +35,7 @@ module _ (file : List ℕ) (head : Head) (room : ℕ) (matches : List Hit) (foun
     not-described text′ e = agree-refused (ToldSimply room text′ found) (refused-so (Worded room text) _ a e ∙ passed good _)
 
     pub described : {d : Description} → reply ≡ given d → Says text (given (record { matches = found .count; mark = found .mark; description = d }))
-    described e =
-        let words = gave (Worded room text) _ a e in
+    described e = let words = gave (Worded room text) _ a e in
         agree-given (ToldSimply room text found) (words .is ∙ passed good _)
         (record { said = λ i. record { matches = found .count; mark = found .mark; description = words .fits .said i }; kept = words .fits .kept })
 
@@ -64,17 +60,14 @@ module _ (file : List ℕ) (head : Head) (n room : ℕ) (matched : Reply Matched
     whole : (said : Reply (Option (List ℕ))) → said ≡ describing file head room (take (matches .count) (slots ws)) → (said >>= λ d. given (outcome d)) ≡ describedFrom file head room matched
     whole said e =
         ap (λ (r : Reply (Option (List ℕ))). r >>= λ d. given (outcome d)) (e ∙ (λ i. describing file head room (matches-are (g .fits) i)))
-        ∙ joined (checked file head (g .it .matches)) (wordedOf file head room (g .it .matches))
-        ∙ onward (g .is) _
-      where
-        joined : (step : Reply (Unit {0})) (said : Reply (Option (List ℕ))) → ((step >> said) >>= λ d. given (outcome d)) ≡ (step >> (said >>= λ d. given (outcome d)))
-        joined (given u) said = refl
-        joined (refused why) said = refl
+        ∙ joined (checked file head (g .it .matches)) (wordedOf file head room (g .it .matches)) ∙ onward (g .is) _ where
+          joined : (step : Reply (Unit {0})) (said : Reply (Option (List ℕ))) → ((step >> said) >>= λ d. given (outcome d)) ≡ (step >> (said >>= λ d. given (outcome d)))
+          joined (given u) said = refl
+          joined (refused why) said = refl
 
     pub looked : (reply : Reply Described) → Told reply → Agrees (Filled n room ws ts) (describedFrom file head room matched) reply
     unfolding repliedOf
-    looked (given d) a =
-        let t = gave (ToldSimply room ts matches) _ a refl in
+    looked (given d) a = let t = gave (ToldSimply room ts matches) _ a refl in
         agree-given (Filled n room ws ts) (whole (given (t .it)) (t .is))
         (λ i. replied (given ((t .fits .said ∙ (λ j. record { matches = count-is (g .fits) j; mark = g .fits .said j .mark; description = lengthIn (t .it) })) i)) (g .fits .kept i) (t .fits .kept i))
     looked (refused why) a = agree-refused (Filled n room ws ts) (whole (refused why) (refused-so (ToldSimply room ts matches) _ a refl))

@@ -1,16 +1,10 @@
 -- What the functions say that sum up a builder's lists with a yard more, and note it afresh.
-use Prim.Native.Nat.{ℕ, _+_, _*_, _^_, _≤_, _<_}
-use lib.{IntN.{ℤ}, ListN.{length, getD}}
-use mathlib.Core.{List.{List, map}, Path.{_≡_}}
-use Rattle.build.specs.declared.room.Work.{Work}
-use Rattle.builder.specs.{Borders.{Drawn}, Metadata.{layoutOf}, Yards.{Yard, sumOf}}
-use Rattle.builder.specs.Grouping.Keys.{numbersFrom}
-use Rattle.add.specs.{inner.Growing.Joins.{measuredAs}, Growing.Notes.{NotesRoom, valuesIn}}
-use Rattle.draft.specs.{Held.{State.{Stands}, Totals.{totalsFor}}, declared.held.state.Held.{Held}}
-use Rattle.build.specs.Metadata.Kept.{joined}
+use Rattle.numbers.specs.Prelude.{ℕ, _+_, _*_, _^_, _≤_, _<_, ℤ, length, getD, List, map, _≡_}
+use Rattle.build.specs.{Metadata.Kept.{joined}, declared.room.Work.{Work}}
+use Rattle.builder.specs.{Borders.{Drawn}, Grouping.Keys.{numbersFrom}, Metadata.{layoutOf}, Yards.{Yard, sumOf}}
+use Rattle.add.specs.{Growing.Notes.{NotesRoom, valuesIn}, declared.afresh.measure.Measured.{Measured}, inner.Growing.Joins.{measuredAs}}
+use Rattle.draft.specs.{Held.{State.{Stands}, Totals.{totalsFor}}, declared.held.state.Held.{Held}, inner.Summed.Sums.{Summing, beginsOf}}
 use Rattle.notes.specs.Noted.Records.{fieldsIn}
-use Rattle.draft.specs.inner.Summed.Sums.{Summing, beginsOf}
-use Rattle.add.specs.declared.afresh.measure.Measured.{Measured}
 
 -- where each yard's record begins, at every second place
 abbrev pub gathered : List ℕ → ℕ → List ℕ

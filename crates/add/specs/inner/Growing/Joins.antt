@@ -1,15 +1,9 @@
 -- What the functions that add a yard say of each other.
-use Prim.Native.Nat.{ℕ, _+_, _^_, _≤_, _<_}
-use lib.{Dec.{leb}, IntN.{ℤ}, ListN.{length}}
-use mathlib.Core.{List.{List, [], _∷_, _++_}, Path.{_≡_}}
+use Rattle.numbers.specs.{Answer.{if_then_else_}, Prelude.{ℕ, _+_, _^_, _≤_, _<_, leb, ℤ, length, List, [], _∷_, _++_, _≡_}, Reply.{plain}}
 use Rattle.builder.specs.{Borders.{Drawn}, File.{upTo}, Yards.{Yard}}
-use Rattle.draft.specs.{Held.{State.{Stands}, Totals.{Totals, totalsFor, fileSize}}, declared.held.state.{Held.{Held}, Changed.{Changed}}}
+use Rattle.draft.specs.{Held.{State.{Stands, heldWith}, Totals.{Totals, totalsFor, fileSize}}, declared.{held.state.{Changed.{Changed}, Held.{Held}}, summed.sums.Sums.{Sums}}}
+use Rattle.add.specs.{Growing.{Joins.{Renoted}, Notes.{Notes}}, declared.growing.grow.Added.{Added}}
 use Rattle.draft.specs.declared.held.state.Changed.the-variants as C
-use Rattle.numbers.specs.{Answer.{if_then_else_}, Reply.{plain}}
-use Rattle.draft.specs.declared.summed.sums.Sums.{Sums}
-use Rattle.add.specs.{Growing.Notes.{Notes}, declared.growing.grow.Added.{Added}}
-use Rattle.add.specs.Growing.Joins.{Renoted}
-use Rattle.draft.specs.Held.State.{heldWith}
 
 -- the numbers with these totals; 28 where the file does not fit
 unfoldable pub measuredAs : Held → ℕ → Totals → Changed

@@ -1,13 +1,10 @@
 -- What the functions that join a yard to a builder say of each other.
-use Prim.Native.Nat.{ℕ, _+_, _-_, _*_, _^_, _≤_, _<_}
-use lib.{IntN.{ℤ}, ListN.{length, take, drop}}
-use mathlib.Core.{Bool.{true}, List.{List, [], _∷_, _++_, map}, Path.{_≡_}}
+use Rattle.numbers.specs.{Prelude.{ℕ, _+_, _-_, _*_, _^_, _≤_, _<_, ℤ, length, take, drop, true, List, [], _∷_, _++_, map, _≡_}, Reply.{given}}
 use Rattle.build.specs.{Room.{enough}, declared.room.Work.{Work}}
 use Rattle.builder.specs.{Borders.{Drawn, withBorder}, File.{upTo}, Yards.{Yard, sumOf}}
-use Rattle.add.specs.{inner.Growing.Joins.{Growing, Grew}, Growing.{Joins.{Renoted}, Notes.{Notes, NotedBy, NotesRoom}}, declared.growing.grow.Added.{Added}}
+use Rattle.add.specs.{Growing.{Joins.{Renoted}, Notes.{Notes, NotedBy, NotesRoom}}, Offered.Offers.{offeredAs, offerGood}, declared.growing.grow.Added.{Added}}
+use Rattle.add.specs.inner.Growing.Joins.{Growing, Grew}
 use Rattle.draft.specs.{Held.{Builder.{Builder, Offered, yardOf, joined, summed, fitting}, Space.{Space}, State.{Lists, Holds, Answers}, Totals.{dataOf}}, declared.held.state.Held.{Held}}
-use Rattle.numbers.specs.Reply.{given}
-use Rattle.add.specs.Offered.Offers.{offeredAs, offerGood}
 
 -- where the lengths of the values end, with a yard more
 abbrev pub valuesEnd : Held → ℕ

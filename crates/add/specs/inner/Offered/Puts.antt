@@ -1,9 +1,6 @@
 -- What the functions that change the lists of a builder say.
-use Prim.Native.Nat.{ℕ, _+_, _-_, _*_, _^_, _≤_, _<_}
-use lib.{IntN.{ℤ, pos}, ListN.{length, take, replicate}, Seq.{sets}}
-use mathlib.Core.{List.{List, [], _∷_, _++_}, Path.{_≡_}}
-use Rattle.build.specs.Entries.Corners.{cornersOf}
-use Rattle.builder.specs.{Entries.{boxOf}, Yards.{Yard}}
+use Rattle.numbers.specs.Prelude.{ℕ, _+_, _-_, _*_, _^_, _≤_, _<_, ℤ, pos, length, take, replicate, sets, List, [], _∷_, _++_, _≡_}
+use Rattle.builder.specs.Entries.{boxOf}
 use Rattle.draft.specs.{Held.State.{Lists}, declared.held.state.Held.{Held}}
 
 -- where the lengths of a builder end

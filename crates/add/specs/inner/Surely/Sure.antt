@@ -1,15 +1,11 @@
 -- What the functions say that join a yard by a sure step.
-use Prim.Native.Nat.{ℕ, _+_, _-_, _*_, _^_, _≤_, _<_}
-use lib.{IntN.{ℤ}, ListN.{length, take}}
-use mathlib.Core.{List.{List, [], _∷_, _++_, map}, Path.{_≡_}}
+use Rattle.numbers.specs.{Lists.{zeros}, Prelude.{ℕ, _+_, _-_, _*_, _^_, _≤_, _<_, ℤ, length, take, List, [], _∷_, _++_, map, _≡_}}
 use Rattle.builder.specs.{Borders.{Drawn}, Yards.{Yard, sumOf}}
-use Rattle.add.specs.{inner.Growing.Joins.{Growing, measuredAs}, Growing.Notes.{Notes, Noted, NotedBy, NotesRoom}}
+use Rattle.add.specs.{Growing.Notes.{Notes, Noted, NotedBy, NotesRoom}, declared.surely.sure.{Growth.{Growth}, Surely.{Surely}}, inner.Growing.Joins.{Growing, measuredAs}}
 use Rattle.draft.specs.{Held.Totals.{Totals, totalsFor}, declared.held.state.Held.{Held}}
+use Rattle.notes.specs.{declared.quick.step.{Numbers.{Numbers}, Stepped.{Stepped}, Sureness.{Sureness}}, inner.Quick.Steps.{Stepping, Steps}}
 use Rattle.draft.specs.declared.held.state.Changed.the-variants as C
-use Rattle.numbers.specs.Lists.{zeros}
-use Rattle.notes.specs.{inner.Quick.Steps.{Stepping, Steps}, declared.quick.step.{Numbers.{Numbers}, Stepped.{Stepped}, Sureness.{Sureness}}}
 use Rattle.notes.specs.declared.quick.step.Sureness.the-variants as Q
-use Rattle.add.specs.declared.surely.sure.{Growth.{Growth}, Surely.{Surely}}
 use Rattle.add.specs.declared.surely.sure.Growth.the-variants as G
 use Rattle.add.specs.declared.surely.sure.Surely.the-variants as S
 

@@ -1,8 +1,5 @@
 -- `atlas::course::is_markable` meets its contract, test by test. Assumes nothing.
-use borrow.Author.Needs.{needs}
-use Prim.Native.Nat.{_^_}
-use mathlib.Core.Path.{_≡_, refl, sym, ap, subst, _∙_}
-use borrow.Author.Tests.{lt-ltb, le-ltb, not-true, not-false}
+use Rattle.numbers.proofs.Prelude.{_^_, needs, lt-ltb, le-ltb, not-false, not-true, sym, _∙_}
 use Rattle.marks.specs.Marks.{isMarkable}
 use Rattle.atlas.proofs.course.is_markable.Statement.{statement}
 use Rattle.atlas.proofs.course.is_markable.Tie as tie
@@ -13,104 +10,51 @@ returns c = rw (not-true (c .before .before .args .reader .begun) (c .if1 .taken
 
 returns-2 : tie.Need-returns-2
 unfolding isMarkable
-returns-2 c =
-    let args = c .before .before .before .args in
-    let if1 = c .before .if1 in
-    let begun = not-false (args .reader .begun) (if1 .left) in
-    rw (begun, c .if2 .taken)
-
-same-point-requires : tie.Need-same-point-requires
-same-point-requires c κs = search needs
+returns-2 c = let begun = not-false (c .before .before .before .args .reader .begun) (c .before .if1 .left) in rw (begun, c .if2 .taken)
 
 returns-3 : tie.Need-returns-3
 unfolding isMarkable
-returns-3 c =
-    let args = c .before .before .before .before .before .args in
-    let if1 = c .before .before .before .if1 in
-    let if2 = c .before .before .if2 in
-    let same-point = c .before .same-point in
-    let begun = not-false (args .reader .begun) (if1 .left) in
-    rw (begun, if2 .left, sym (same-point .ensures) ∙ not-true (same-point .result) (c .if3 .taken))
+returns-3 c = let begun = not-false (c .before .before .before .before .before .args .reader .begun) (c .before .before .before .if1 .left) in
+    rw (begun, c .before .before .if2 .left, sym (c .before .same-point .ensures) ∙ not-true (c .before .same-point .result) (c .if3 .taken))
 
 returns-4 : tie.Need-returns-4
 unfolding isMarkable
-returns-4 c =
-    let args = c .before .before .before .before .before .before .before .args in
-    let if1 = c .before .before .before .before .before .if1 in
-    let if2 = c .before .before .before .before .if2 in
-    let same-point = c .before .before .before .same-point in
-    let if3 = c .before .before .if3 in
-    let begun = not-false (args .reader .begun) (if1 .left) in
-    let same = sym (same-point .ensures) ∙ not-false (same-point .result) (if3 .left) in
-    rw (begun, if2 .left, same, le-ltb (args .reader .place) (2 ^ 32) (c .if4 .taken))
+returns-4 c = let args = c .before .before .before .before .before .before .before .args in let same-point = c .before .before .before .same-point in
+    let begun = not-false (args .reader .begun) (c .before .before .before .before .before .if1 .left) in
+    let same = sym (same-point .ensures) ∙ not-false (same-point .result) (c .before .before .if3 .left) in
+    rw (begun, c .before .before .before .before .if2 .left, same, le-ltb (args .reader .place) (2 ^ 32) (c .if4 .taken))
 
 returns-5 : tie.Need-returns-5
 unfolding isMarkable
-returns-5 c =
-    let args = c .before .before .before .before .before .before .before .before .before .args in
-    let if1 = c .before .before .before .before .before .before .before .if1 in
-    let if2 = c .before .before .before .before .before .before .if2 in
+returns-5 c = let args = c .before .before .before .before .before .before .before .before .before .args in
     let same-point = c .before .before .before .before .before .same-point in
-    let if3 = c .before .before .before .before .if3 in
-    let if4 = c .before .before .if4 in
-    let begun = not-false (args .reader .begun) (if1 .left) in
-    let same = sym (same-point .ensures) ∙ not-false (same-point .result) (if3 .left) in
-    let place = lt-ltb (args .reader .place) (2 ^ 32) (if4 .left) in
-    rw (begun, if2 .left, same, place, le-ltb (args .reader .moves) (2 ^ 32) (c .if5 .taken))
-
-is-short-run-requires : tie.Need-is-short-run-requires
-is-short-run-requires c κs = search needs
+    let begun = not-false (args .reader .begun) (c .before .before .before .before .before .before .before .if1 .left) in
+    let same = sym (same-point .ensures) ∙ not-false (same-point .result) (c .before .before .before .before .if3 .left) in
+    let place = lt-ltb (args .reader .place) (2 ^ 32) (c .before .before .if4 .left) in
+    rw (begun, c .before .before .before .before .before .before .if2 .left, same, place, le-ltb (args .reader .moves) (2 ^ 32) (c .if5 .taken))
 
 returns-6 : tie.Need-returns-6
 unfolding isMarkable
-returns-6 c =
-    let args = c .before .before .before .before .before .before .before .before .before .before .before .args in
-    let if1 = c .before .before .before .before .before .before .before .before .before .if1 in
+returns-6 c = let args = c .before .before .before .before .before .before .before .before .before .before .before .args in
     let if2 = c .before .before .before .before .before .before .before .before .if2 in
     let same-point = c .before .before .before .before .before .before .before .same-point in
-    let if3 = c .before .before .before .before .before .before .if3 in
-    let if4 = c .before .before .before .before .if4 in
-    let if5 = c .before .before .if5 in
-    let is-short-run = c .before .is-short-run in
-    let begun = not-false (args .reader .begun) (if1 .left) in
-    let same = sym (same-point .ensures) ∙ not-false (same-point .result) (if3 .left) in
-    let place = lt-ltb (args .reader .place) (2 ^ 32) (if4 .left) in
-    let moves = lt-ltb (args .reader .moves) (2 ^ 32) (if5 .left) in
-    rw (begun, if2 .left, same, place, moves, sym (is-short-run .ensures) ∙ not-true (is-short-run .result) (c .if6 .taken))
-
-is-narrow-requires : tie.Need-is-narrow-requires
-is-narrow-requires c κs = search needs
+    let begun = not-false (args .reader .begun) (c .before .before .before .before .before .before .before .before .before .if1 .left) in
+    let same = sym (same-point .ensures) ∙ not-false (same-point .result) (c .before .before .before .before .before .before .if3 .left) in
+    let place = lt-ltb (args .reader .place) (2 ^ 32) (c .before .before .before .before .if4 .left) in
+    let moves = lt-ltb (args .reader .moves) (2 ^ 32) (c .before .before .if5 .left) in
+    rw (begun, if2 .left, same, place, moves, sym (c .before .is-short-run .ensures) ∙ not-true (c .before .is-short-run .result) (c .if6 .taken))
 
 returns-7 : tie.Need-returns-7
 unfolding isMarkable
-returns-7 c =
-    let args = c .before .before .before .before .before .before .before .before .before .before .before .before .args in
-    let if1 = c .before .before .before .before .before .before .before .before .before .before .if1 in
-    let if2 = c .before .before .before .before .before .before .before .before .before .if2 in
+returns-7 c = let args = c .before .before .before .before .before .before .before .before .before .before .before .before .args in
     let same-point = c .before .before .before .before .before .before .before .before .same-point in
-    let if3 = c .before .before .before .before .before .before .before .if3 in
-    let if4 = c .before .before .before .before .before .if4 in
-    let if5 = c .before .before .before .if5 in
-    let is-short-run = c .before .before .is-short-run in
-    let if6 = c .before .if6 in
-    let begun = not-false (args .reader .begun) (if1 .left) in
-    let same = sym (same-point .ensures) ∙ not-false (same-point .result) (if3 .left) in
-    let place = lt-ltb (args .reader .place) (2 ^ 32) (if4 .left) in
-    let moves = lt-ltb (args .reader .moves) (2 ^ 32) (if5 .left) in
-    let run = sym (is-short-run .ensures) ∙ not-false (is-short-run .result) (if6 .left) in
-    rw (begun, if2 .left, same, place, moves, run) (c .is-narrow .ensures)
+    let begun = not-false (args .reader .begun) (c .before .before .before .before .before .before .before .before .before .before .if1 .left) in
+    let same = sym (same-point .ensures) ∙ not-false (same-point .result) (c .before .before .before .before .before .before .before .if3 .left) in
+    let place = lt-ltb (args .reader .place) (2 ^ 32) (c .before .before .before .before .before .if4 .left) in
+    let moves = lt-ltb (args .reader .moves) (2 ^ 32) (c .before .before .before .if5 .left) in
+    let run = sym (c .before .before .is-short-run .ensures) ∙ not-false (c .before .before .is-short-run .result) (c .before .if6 .left) in
+    rw (begun, c .before .before .before .before .before .before .before .before .before .if2 .left, same, place, moves, run) (c .is-narrow .ensures)
 
 pub is-markable-spec : {M : Type 1} → statement M
-is-markable-spec =
-    tie.close
-    (tie.spec
-    returns
-    returns-2
-    same-point-requires
-    returns-3
-    returns-4
-    returns-5
-    is-short-run-requires
-    returns-6
-    is-narrow-requires
-    returns-7)
+is-markable-spec = tie.close (tie.spec returns returns-2 (λ c κs. search needs) returns-3 returns-4 returns-5 (λ c κs. search needs) returns-6
+    (λ c κs. search needs) returns-7)

@@ -1,27 +1,8 @@
 -- `atlas::entry::entry_for` meets its contract. Assumes nothing.
-use borrow.Author.Needs.{needs}
-use mathlib.Core.Path.{_≡_, refl, sym, ap, _∙_}
-use borrow.Author.Tests.{eq-eqb, ne-eqb}
+use Rattle.numbers.proofs.Prelude.{needs, eq-eqb, ne-eqb, _∙_}
 use Rattle.atlas.proofs.entry.entry_for.Statement.{statement}
 use Rattle.atlas.proofs.entry.entry_for.Tie as tie
 
-returns : tie.Need-returns
-returns c =
-    let args = c .before .args in
-    let if1 = c .if1 in
-    rw (eq-eqb (args .at) (args .next) (if1 .taken))
-
-returns-2 : tie.Need-returns-2
-returns-2 c =
-    let low-of = c .low-of in
-    let args = c .before .before .args in
-    let if1 = c .before .if1 in
-    low-of .ensures ∙ rw (ne-eqb (args .at) (args .next) (if1 .left))
-
 pub entry-for-spec : {M : Type 1} → statement M
-entry-for-spec =
-    tie.close
-    (tie.spec
-    returns
-    (λ c κs. search needs)
-    returns-2)
+entry-for-spec = tie.close (tie.spec (λ c. let args = c .before .args in let if1 = c .if1 in rw (eq-eqb (args .at) (args .next) (if1 .taken)))
+    (λ c κs. search needs) (λ c. c .low-of .ensures ∙ rw (ne-eqb (c .before .before .args .at) (c .before .before .args .next) (c .before .if1 .left))))

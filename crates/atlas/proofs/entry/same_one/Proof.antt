@@ -1,46 +1,8 @@
 -- `atlas::entry::same_one` meets its contract. Assumes nothing.
-use borrow.Author.Needs.{needs}
-use native.Mathlib.Omega.{arith}
-use mathlib.Core.Path.{_≡_, refl, sym, ap, _∙_}
-use lib.ListN.{length, getD, take, drop}
-use Prim.Native.Nat.{ℕ, _+_}
-use mathlib.Core.List.{List}
+use Rattle.numbers.proofs.Prelude.{ℕ, _+_, needs, not-false, not-true, length, sym, ap, _∙_, arith}
 use Rattle.atlas.specs.inner.{Building.{marksAtRecord}, Marking.{marksOf}}
-use borrow.Author.Tests.{not-true, not-false}
-use Rattle.atlas.proofs.{Behind.{entry-is, marks-size, size-few}, Owned.{other-word, other-marks, marks-so}}
-use Rattle.atlas.proofs.entry.same_one.Statement.{statement}
+use Rattle.atlas.proofs.{Behind.{entry-is, marks-size, size-few}, Owned.{other-word, other-marks, marks-so}, entry.same_one.Statement.{statement}}
 use Rattle.atlas.proofs.entry.same_one.Tie as tie
-
-course-of-requires : tie.Need-course-of-requires
-course-of-requires c κs =
-    let pre = c .before .before .before .pre in
-    pre .0
-
-size-of-requires : tie.Need-size-of-requires
-size-of-requires c κs =
-    let course-of = c .course-of in
-    course-of .ensures .1
-
-add-next : tie.Need-add-next
-add-next c =
-    let pre = c .before .before .before .before .before .pre in
-    let size-of = c .size-of in
-    omega (arith, pre .2, size-of .ensures .1)
-
-sub-entry-for : tie.Need-sub-entry-for
-sub-entry-for c =
-    let pre = c .before .before .before .before .before .pre in
-    omega (arith, pre .1)
-
-sub-entry-for-2 : tie.Need-sub-entry-for-2
-sub-entry-for-2 c =
-    let pre = c .before .before .before .before .before .pre in
-    omega (arith, pre .1)
-
-add-is-word : tie.Need-add-is-word
-add-is-word c =
-    let pre = c .before .before .before .before .before .before .pre in
-    omega (arith, pre .1, pre .2)
 
 returns : tie.Need-returns
 returns c =
@@ -54,14 +16,16 @@ returns c =
     let if1 = c .if1 in
     let is = (λ i. marksOf (args .file .now) (encoding-of .ensures i) (course-of .result)) ∙ course-of .ensures .0 in
     let size = size-of .ensures .0 ∙ sym (marks-size (args .file .now) (encoding-of .result) (course-of .result)) in
-    let word = entry-for .ensures ∙ entry-is (args .at) (args .at + size-of .result) (args .first) (marksAtRecord (args .file .now) (args .head) (args .words .now) (args .k)) (ap (λ (n : ℕ). args .at + n) (size ∙ ap length is)) (omega (arith, pre .1)) in
-    (other-word (args .words .now) (args .first + args .k) (args .at) word is (sym (is-word .ensures) ∙ not-true _ (if1 .taken)), omega (arith, ap length is, marks-size (args .file .now) (encoding-of .result) (course-of .result), size-few (course-of .result .count) (course-of .ensures .1)))
+    let word = entry-for .ensures ∙ entry-is (args .at) (args .at + size-of .result) (args .first) (marksAtRecord (args .file .now) (args .head) (args .words .now) (args .k))
+    (ap (λ (n : ℕ). args .at + n) (size ∙ ap length is)) (omega (arith, pre .1)) in (
+      other-word (args .words .now) (args .first + args .k) (args .at) word is (sym (is-word .ensures) ∙ not-true _ (if1 .taken)),
+      omega
+          (arith, ap length is, marks-size (args .file .now) (encoding-of .result) (course-of .result), size-few (course-of .result .count) (course-of .ensures .1)),
+    )
 
 same-marks-requires : tie.Need-same-marks-requires
-same-marks-requires c κs =
-    let pre = c .before .before .before .before .before .before .before .before .pre in
-    let course-of = c .before .before .before .before .course-of in
-    (pre .2, omega (arith, course-of .ensures .1))
+same-marks-requires c κs = let pre = c .before .before .before .before .before .before .before .before .pre in
+    let course-of = c .before .before .before .before .course-of in (pre .2, omega (arith, course-of .ensures .1))
 
 returns-2 : tie.Need-returns-2
 returns-2 c =
@@ -77,8 +41,13 @@ returns-2 c =
     let if2 = c .if2 in
     let is = (λ i. marksOf (args .file .now) (encoding-of .ensures i) (course-of .result)) ∙ course-of .ensures .0 in
     let size = size-of .ensures .0 ∙ sym (marks-size (args .file .now) (encoding-of .result) (course-of .result)) in
-    let word = entry-for .ensures ∙ entry-is (args .at) (args .at + size-of .result) (args .first) (marksAtRecord (args .file .now) (args .head) (args .words .now) (args .k)) (ap (λ (n : ℕ). args .at + n) (size ∙ ap length is)) (omega (arith, pre .1)) in
-    (marks-so (args .words .now) (args .first + args .k) (args .at) word is (sym (is-word .ensures) ∙ not-false _ (if1 .left)) (sym (same-marks .ensures) ∙ if2 .taken) (ap (λ (n : ℕ). args .at + n) size), omega (arith, ap length is, marks-size (args .file .now) (encoding-of .result) (course-of .result), size-few (course-of .result .count) (course-of .ensures .1)))
+    let word = entry-for .ensures ∙ entry-is (args .at) (args .at + size-of .result) (args .first) (marksAtRecord (args .file .now) (args .head) (args .words .now) (args .k))
+    (ap (λ (n : ℕ). args .at + n) (size ∙ ap length is)) (omega (arith, pre .1)) in (
+      marks-so (args .words .now) (args .first + args .k) (args .at) word is (sym (is-word .ensures) ∙ not-false _ (if1 .left)) (sym (same-marks .ensures)
+          ∙ if2 .taken) (ap (λ (n : ℕ). args .at + n) size),
+      omega
+          (arith, ap length is, marks-size (args .file .now) (encoding-of .result) (course-of .result), size-few (course-of .result .count) (course-of .ensures .1)),
+    )
 
 returns-3 : tie.Need-returns-3
 returns-3 c =
@@ -94,23 +63,18 @@ returns-3 c =
     let if2 = c .if2 in
     let is = (λ i. marksOf (args .file .now) (encoding-of .ensures i) (course-of .result)) ∙ course-of .ensures .0 in
     let size = size-of .ensures .0 ∙ sym (marks-size (args .file .now) (encoding-of .result) (course-of .result)) in
-    let word = entry-for .ensures ∙ entry-is (args .at) (args .at + size-of .result) (args .first) (marksAtRecord (args .file .now) (args .head) (args .words .now) (args .k)) (ap (λ (n : ℕ). args .at + n) (size ∙ ap length is)) (omega (arith, pre .1)) in
-    (other-marks (args .words .now) (args .first + args .k) (args .at) word is (sym (is-word .ensures) ∙ not-false _ (if1 .left)) (sym (same-marks .ensures) ∙ if2 .left), omega (arith, ap length is, marks-size (args .file .now) (encoding-of .result) (course-of .result), size-few (course-of .result .count) (course-of .ensures .1)))
+    let word = entry-for .ensures ∙ entry-is (args .at) (args .at + size-of .result) (args .first) (marksAtRecord (args .file .now) (args .head) (args .words .now) (args .k))
+    (ap (λ (n : ℕ). args .at + n) (size ∙ ap length is)) (omega (arith, pre .1)) in (
+      other-marks (args .words .now) (args .first + args .k) (args .at) word is (sym (is-word .ensures) ∙ not-false _ (if1 .left)) (sym (same-marks .ensures)
+          ∙ if2 .left),
+      omega (arith, ap length is, marks-size (args .file .now) (encoding-of .result) (course-of .result), size-few (course-of .result .count) (course-of .ensures .1)),
+    )
 
 pub same-one-spec : {M : Type 1} → statement M
-same-one-spec =
-    tie.close
-    (tie.spec
-    (λ c κs. search needs)
-    course-of-requires
-    size-of-requires
-    add-next
-    sub-entry-for
-    sub-entry-for-2
-    (λ c κs. search needs)
-    add-is-word
-    (λ c κs. search needs)
-    returns
-    same-marks-requires
-    returns-2
-    returns-3)
+same-one-spec = tie.close (tie.spec (λ c κs. search needs) (λ c κs. let pre = c .before .before .before .pre in pre .0)
+    (λ c κs. let course-of = c .course-of in course-of .ensures .1)
+    (λ c. let pre = c .before .before .before .before .before .pre in let size-of = c .size-of in omega (arith, pre .2, size-of .ensures .1))
+    (λ c. let pre = c .before .before .before .before .before .pre in omega (arith, pre .1))
+    (λ c. let pre = c .before .before .before .before .before .pre in omega (arith, pre .1)) (λ c κs. search needs)
+    (λ c. let pre = c .before .before .before .before .before .before .pre in omega (arith, pre .1, pre .2)) (λ c κs. search needs) returns same-marks-requires
+    returns-2 returns-3)

@@ -1,45 +1,15 @@
 -- `atlas::entry::size_of` meets its contract. Assumes nothing.
-use borrow.Author.{Needs.{needs}, Tests.{eq-eqb, ne-eqb}}
-use native.Mathlib.Omega.{arith}
+use Rattle.numbers.proofs.Prelude.{needs, eq-eqb, ne-eqb, arith}
 use Rattle.atlas.proofs.{Behind.{groups-few}, entry.size_of.Statement.{statement}}
 use Rattle.atlas.proofs.entry.size_of.Tie as tie
 
-returns : tie.Need-returns
-returns c = (rw (eq-eqb (c .before .args .count) 0 (c .if1 .taken)), omega arith)
-
-mul-result : tie.Need-mul-result
-mul-result c = omega (arith, c .before .before .pre)
-
-add-result : tie.Need-add-result
-add-result c = omega (arith, c .before .before .pre)
-
-mul-result-2 : tie.Need-mul-result-2
-mul-result-2 c =
-    let pre = c .before .before .pre in
-    let args = c .before .before .args in
-    omega (arith, pre, c .groups-of .ensures, groups-few (args .count))
-
-add-result-2 : tie.Need-add-result-2
-add-result-2 c =
-    let pre = c .before .before .pre in
-    let args = c .before .before .args in
-    omega (arith, pre, c .groups-of .ensures, groups-few (args .count))
-
 returns-2 : tie.Need-returns-2
-returns-2 c =
-    let args = c .before .before .args in
-    let if1 = c .before .if1 in
-    let pre = c .before .before .pre in
+returns-2 c = let args = c .before .before .args in let if1 = c .before .if1 in let pre = c .before .before .pre in
     (rw (ne-eqb (args .count) 0 (if1 .left)) (omega (arith, c .groups-of .ensures)), omega (arith, pre, c .groups-of .ensures, groups-few (args .count)))
 
 pub size-of-spec : {M : Type 1} → statement M
-size-of-spec =
-    tie.close
-    (tie.spec
-    returns
-    (λ c κs. search needs)
-    mul-result
-    add-result
-    mul-result-2
-    add-result-2
+size-of-spec = tie.close (tie.spec (λ c. (rw (eq-eqb (c .before .args .count) 0 (c .if1 .taken)), omega arith)) (λ c κs. search needs)
+    (λ c. omega (arith, c .before .before .pre)) (λ c. omega (arith, c .before .before .pre))
+    (λ c. let pre = c .before .before .pre in let args = c .before .before .args in omega (arith, pre, c .groups-of .ensures, groups-few (args .count)))
+    (λ c. let pre = c .before .before .pre in let args = c .before .before .args in omega (arith, pre, c .groups-of .ensures, groups-few (args .count)))
     returns-2)

@@ -1,44 +1,19 @@
 -- `atlas::put::put_point` meets its contract. Assumes nothing.
-use borrow.Author.Needs.{needs}
+use Rattle.numbers.proofs.Prelude.{needs, ap, _∙_, w32, ofZ, toZ-ofZ}
 use Rattle.writer.proofs.Stores.{stored-then}
-use mathlib.Core.Path.{_≡_, refl, sym, ap, _∙_}
-use mir.{Syntax.{w32}, Val.{ofZ}, ValLaws.{toZ-ofZ}}
-use Rattle.atlas.proofs.Writing.{same-word}
 use Rattle.atlas.proofs.put.put_point.Statement.{statement}
+use Rattle.index.proofs.Stores.{same-word}
 use Rattle.atlas.proofs.put.put_point.Tie as tie
 
-word-of-requires : tie.Need-word-of-requires
-word-of-requires c κs = search needs
-
-put-requires : tie.Need-put-requires
-put-requires c κs = search needs
-
-word-of-requires-2 : tie.Need-word-of-requires-2
-word-of-requires-2 c κs = search needs
-
-put-requires-2 : tie.Need-put-requires-2
-put-requires-2 c κs = search needs
-
-same-length : tie.Need-same-length
-same-length c = search needs
-
 returns : tie.Need-returns
-returns c =
-    let args = c .before .before .before .before .before .before .before .before .before .before .before .before .before .args in
+returns c = let args = c .before .before .before .before .before .before .before .before .before .before .before .before .before .args in
     let struct-told = c .before .before .before .before .before .before .before .before .before .before .struct-told in
     let struct-told2 = c .before .before .before .before .struct-told2 in
     let word-of = c .before .before .before .before .before .before .before .before .before .word-of in
-    let put = c .before .before .before .before .before .before .before .before .put in
-    let word-of2 = c .before .before .before .word-of2 in
-    let put2 = c .before .before .put2 in
-    let p = args .point in
-    let lat = struct-told .given in
-    let lon = struct-told2 .given in
+    let put = c .before .before .before .before .before .before .before .before .put in let word-of2 = c .before .before .before .word-of2 in
+    let put2 = c .before .before .put2 in let p = args .point in let lat = struct-told .given in let lon = struct-told2 .given in
     let one = same-word (word-of .ensures ∙ ap (ofZ w32) (toZ-ofZ w32 (p .lat .0) (search needs))) (put .ensures) in
-    let two = same-word (word-of2 .ensures ∙ ap (ofZ w32) (toZ-ofZ w32 (p .lon .0) (search needs))) (put2 .ensures) in
-    stored-then _ _ one two
+    let two = same-word (word-of2 .ensures ∙ ap (ofZ w32) (toZ-ofZ w32 (p .lon .0) (search needs))) (put2 .ensures) in stored-then _ _ one two
 
 pub put-point-spec : {M : Type 1} → statement M
-put-point-spec =
-    tie.close
-    (tie.spec word-of-requires put-requires word-of-requires-2 put-requires-2 same-length returns)
+put-point-spec = tie.close (tie.spec (λ c κs. search needs) (λ c κs. search needs) (λ c κs. search needs) (λ c κs. search needs) (λ c. search needs) returns)

@@ -1,8 +1,5 @@
 -- `atlas::same::same_level` meets its contract: what is left to compare comes to what the whole does. Assumes nothing.
-use Prim.Native.Nat.{_+_, _*_, _^_, _<_}
-use borrow.Author.{Needs.{needs}, Tests.{not-true, not-false}}
-use mathlib.Core.Path.{_≡_, refl, sym, ap, _∙_}
-use native.Mathlib.Omega.{arith}
+use Rattle.numbers.proofs.Prelude.{_+_, _*_, _^_, _<_, needs, not-false, not-true, _≡_, refl, sym, ap, _∙_, arith}
 use Rattle.index.specs.inner.Own.{isAt}
 use Rattle.marks.specs.Marks.{marksFrom}
 use Rattle.atlas.proofs.{Standing.{mark-not, mark-so, no-marks}, same.same_level.Statement.{statement}}
@@ -15,40 +12,18 @@ Inv-loop file encoding edges count words place left₀ at₀ reader₀ left at r
 abbrev μ-loop : tie.MeasureT-loop
 μ-loop file encoding edges count words place left₀ at₀ reader₀ left at reader = left
 
-loop-holds : tie.Need-loop-holds Inv-loop μ-loop
-loop-holds c =
-    let pre = c .before .before .pre in
-    (refl, omega (arith, pre .0, pre .1))
-
-same-mark-requires : tie.Need-same-mark-requires Inv-loop μ-loop
-same-mark-requires c κs = omega (arith, c .before .before .loop .inv .1)
-
 returns : tie.Need-returns Inv-loop μ-loop
-returns c =
-    let span-from = c .before .before .span-from in
-    let loop-test = c .before .before .before .loop-test in
-    let same-mark = c .before .same-mark in
+returns c = let span-from = c .before .before .span-from in let loop-test = c .before .before .before .loop-test in
     let loop = c .before .before .before .before .loop in
-    mark-not _ _ _ _ _ (span-from .ensures) _ _ (loop-test .taken) (sym (same-mark .ensures) ∙ not-true _ (c .if1 .taken)) ∙ loop .inv .0
+    mark-not _ _ _ _ _ (span-from .ensures) _ _ (loop-test .taken) (sym (c .before .same-mark .ensures) ∙ not-true _ (c .if1 .taken)) ∙ loop .inv .0
 
 add-at : tie.Need-add-at Inv-loop μ-loop
-add-at c =
-    let loop = c .before .before .before .before .loop in
-    let loop-test = c .before .before .before .loop-test in
+add-at c = let loop = c .before .before .before .before .loop in let loop-test = c .before .before .before .loop-test in
     omega (arith, loop .inv .1, loop-test .taken)
 
-loop-less : tie.Need-loop-less Inv-loop μ-loop
-loop-less c =
-    let loop-test = c .before .before .before .before .loop-test in
-    omega (arith, loop-test .taken)
-
 loop-again : tie.Need-loop-again Inv-loop μ-loop
-loop-again c =
-    let span-from = c .before .before .before .span-from in
-    let loop-test = c .before .before .before .before .loop-test in
-    let same-mark = c .before .before .same-mark in
-    let if1 = c .before .if1 in
-    let loop = c .before .before .before .before .before .loop in
+loop-again c = let span-from = c .before .before .before .span-from in let loop-test = c .before .before .before .before .loop-test in
+    let same-mark = c .before .before .same-mark in let if1 = c .before .if1 in let loop = c .before .before .before .before .before .loop in
     (mark-so _ _ _ _ _ (span-from .ensures) _ _ (loop-test .taken) (sym (same-mark .ensures) ∙ not-false _ (if1 .left)) ∙ loop .inv .0, omega (arith, loop .inv .1, loop-test .taken))
 
 returns-2 : tie.Need-returns-2 Inv-loop μ-loop
@@ -56,17 +31,6 @@ unfolding isAt
 returns-2 c = sym (ap (isAt _ _) (no-marks _ _ _ _ _ (omega (arith, c .loop-test .left)))) ∙ c .before .loop .inv .0
 
 pub same-level-spec : {M : Type 1} → statement M
-same-level-spec =
-    tie.close
-    (tie.spec
-    Inv-loop
-    μ-loop
-    loop-holds
-    (λ c. search needs)
-    (λ c κs. search needs)
-    same-mark-requires
-    returns
-    add-at
-    loop-less
-    loop-again
-    returns-2)
+same-level-spec = tie.close (tie.spec Inv-loop μ-loop (λ c. let pre = c .before .before .pre in (refl, omega (arith, pre .0, pre .1))) (λ c. search needs)
+    (λ c κs. search needs) (λ c κs. omega (arith, c .before .before .loop .inv .1)) returns add-at
+    (λ c. let loop-test = c .before .before .before .before .loop-test in omega (arith, loop-test .taken)) loop-again returns-2)

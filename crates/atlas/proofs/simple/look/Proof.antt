@@ -1,9 +1,5 @@
 -- `atlas::simple::look` meets its contract, by how far it came. Assumes nothing.
-use Prim.Native.Nat.{_/_}
-use borrow.Author.Needs.{needs}
-use lib.ListN.{length}
-use mathlib.Core.{Bool.{false}, Path.{ap}}
-use native.Mathlib.Omega.{arith}
+use Rattle.numbers.proofs.Prelude.{_/_, needs, length, false, ap, arith}
 use Rattle.atlas.proofs.simple.look.Statement.{statement}
 use Rattle.atlas.specs.Beside.{matchedBeside, describedBeside}
 use Rattle.table.{proofs.{Agreeing.{Gave, gave, refused-so}, Matches.{matches-room}}, specs.{Find.{toldFound, Matching}, Hits.{width}}}
@@ -15,27 +11,22 @@ unfolding describedBeside
 returns c = no-match _ _ _ _ _ _ _ (refused-so _ _ (c .before .before .before .before .before .find-beside .ensures) (ap toldFound (c .before .why .given .1)))
 
 -- where matches were found
-matched : (c : tie.After-found) → let args = c .before .before .before .before .before .before .before .before .before .before .args in
-    Gave (Matching (length (args .hits .now)) (c .before .before .before .before .find-beside .last .1 .1 .1 .1 .1 .0)) (matchedBeside (args .file .now) (args .head) (args .words .now) (args .location) false (length (args .hits .now) / width)) (c .found .given .0 .0)
+matched : (c : tie.After-found) → let args = c .before .before .before .before .before .before .before .before .before .before .args in Gave (Matching (length (args .hits .now))
+    (c .before .before .before .before .find-beside .last .1 .1 .1 .1 .1 .0)) (matchedBeside (args .file .now) (args .head) (args .words .now)
+    (args .location) false (length (args .hits .now) / width)) (c .found .given .0 .0)
 matched c = gave _ _ (c .before .before .before .before .find-beside .ensures) (ap toldFound (c .found .given .1))
 
 tell-requires : tie.Need-tell-requires
-tell-requires c κs = (c .before .before .before .before .before .before .before .before .before .before .before .before .before .pre, matches-room (matched (c .before .before .before) .fits) (omega (arith, c .before .before .before .before .before .before .hits .given)))
+tell-requires c κs = (
+  c .before .before .before .before .before .before .before .before .before .before .before .before .before .pre,
+  matches-room (matched (c .before .before .before) .fits)
+      (omega (arith, c .before .before .before .before .before .before .hits .given)),
+)
 
 returns-2 : tie.Need-returns-2
 unfolding describedBeside
 returns-2 c = looked _ _ _ _ _ (matched (c .before .before .before .before .before .before)) _ _ (c .before .before .tell .ensures)
 
 pub look-spec : {M : Type 1} → statement M
-look-spec =
-    tie.close
-    (tie.spec
-    (λ c κs. search needs)
-    (λ c. search needs)
-    (λ c. search needs)
-    (λ c. search needs)
-    returns
-    tell-requires
-    (λ c. search needs)
-    (λ c. search needs)
-    returns-2)
+look-spec = tie.close (tie.spec (λ c κs. search needs) (λ c. search needs) (λ c. search needs) (λ c. search needs) returns tell-requires (λ c. search needs)
+    (λ c. search needs) returns-2)

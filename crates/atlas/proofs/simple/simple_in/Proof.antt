@@ -1,9 +1,6 @@
 -- `atlas::simple::simple_in` meets its contract: a text of zeros, then the lookup, then zeros again where it refused. Assumes nothing.
-use borrow.Author.Needs.{needs}
-use lib.ListN.{length}
-use mathlib.Core.Path.{refl, ap, _∙_}
+use Rattle.numbers.{proofs.Prelude.{needs, length, refl, ap, _∙_}, specs.Lists.{zeros}}
 use Rattle.header.proofs.Buffers.{of-length, all-zero}
-use Rattle.numbers.specs.Lists.{zeros}
 use Rattle.zones.{proofs.Replying.{given-reply, refused-reply}, specs.Simple.{toldSimple}}
 use Rattle.atlas.specs.Beside.{describedBeside}
 use Rattle.atlas.proofs.simple.simple_in.Statement.{statement}
@@ -20,32 +17,25 @@ same-length-2 c = search needs
 
 returns : tie.Need-returns
 returns c =
-    let args = c .before .before .before .before .before .before .before .before .before .before .before .before .before .before .before .before .before .before .before .before .before .before .before .before .before .args in
+    let args =
+    c .before .before .before .before .before .before .before .before .before .before .before .before .before .before .before .before .before .before .before
+    .before .before .before .before .before .before .args in
     let look = c .before .before .before .before .before .before .before .before .before .before .before .before .before .before .look in
     let zero-both = c .before .before .before .before .zero-both in
-    refused-reply (describedBeside (args .file .now) (args .head) (args .words .now) (args .location)) (toldSimple (look .result)) _ _ refl (of-length _ (length (args .text .now)) (c .before .before .before .before .before .before .before .before .before .before .before .before .before .before .before .before .before .before .before .zero .ensures)) (look .ensures)
-    (ap toldSimple (c .before .before .before .before .before .before .before .before .why .given .1))
-    (all-zero _ (length (look .last .1 .1 .1 .1 .0)) (zero-both .ensures .0) ∙ ap zeros (same-length c)) (all-zero _ (length (look .last .1 .1 .1 .1 .1 .0)) (zero-both .ensures .1) ∙ ap zeros (same-length-2 c))
+    refused-reply (describedBeside (args .file .now) (args .head) (args .words .now) (args .location)) (toldSimple (look .result)) _ _ refl
+    (of-length _ (length (args .text .now))
+    (c .before .before .before .before .before .before .before .before .before .before .before .before .before .before .before .before .before .before .before .zero .ensures))
+    (look .ensures) (ap toldSimple (c .before .before .before .before .before .before .before .before .why .given .1)) (all-zero _ (length (look .last .1 .1 .1 .1 .0))
+    (zero-both .ensures .0) ∙ ap zeros (same-length c)) (all-zero _ (length (look .last .1 .1 .1 .1 .1 .0)) (zero-both .ensures .1) ∙ ap zeros (same-length-2 c))
 
 returns-2 : tie.Need-returns-2
 returns-2 c =
     let args = c .before .before .before .before .before .before .before .before .before .before .before .before .before .before .before .before .before .before .args in
     let look = c .before .before .before .before .before .before .before .look in
-    given-reply (describedBeside (args .file .now) (args .head) (args .words .now) (args .location)) (toldSimple (look .result)) _ _ refl (of-length _ (length (args .text .now)) (c .before .before .before .before .before .before .before .before .before .before .before .before .zero .ensures)) (look .ensures)
+    given-reply (describedBeside (args .file .now) (args .head) (args .words .now) (args .location)) (toldSimple (look .result)) _ _ refl
+    (of-length _ (length (args .text .now)) (c .before .before .before .before .before .before .before .before .before .before .before .before .zero .ensures)) (look .ensures)
     (ap toldSimple (c .before .described .given .1))
 
 pub simple-in-spec : {M : Type 1} → statement M
-simple-in-spec =
-    tie.close
-    (tie.spec
-    (λ c κs. search needs)
-    look-requires
-    (λ c. search needs)
-    (λ c. search needs)
-    (λ c κs. search needs)
-    same-length
-    same-length-2
-    returns
-    (λ c. search needs)
-    (λ c. search needs)
-    returns-2)
+simple-in-spec = tie.close (tie.spec (λ c κs. search needs) look-requires (λ c. search needs) (λ c. search needs) (λ c κs. search needs) same-length
+    same-length-2 returns (λ c. search needs) (λ c. search needs) returns-2)

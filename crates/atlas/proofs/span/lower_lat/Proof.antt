@@ -1,5 +1,5 @@
 -- `atlas::span::lower_lat` meets its contract. Assumes nothing.
-use borrow.Author.Needs.{needs}
+use Rattle.numbers.proofs.Prelude.{needs}
 use Rattle.border.specs.Box.{minZ}
 use Rattle.atlas.proofs.span.lower_lat.Statement.{statement}
 use Rattle.atlas.proofs.span.lower_lat.Tie as tie

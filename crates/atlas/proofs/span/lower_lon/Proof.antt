@@ -1,5 +1,5 @@
 -- `atlas::span::lower_lon` meets its contract. Assumes nothing.
-use borrow.Author.Needs.{needs}
+use Rattle.numbers.proofs.Prelude.{needs}
 use Rattle.border.specs.Box.{minZ}
 use Rattle.atlas.proofs.span.lower_lon.Statement.{statement}
 use Rattle.atlas.proofs.span.lower_lon.Tie as tie

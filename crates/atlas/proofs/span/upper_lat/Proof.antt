@@ -1,5 +1,5 @@
 -- `atlas::span::upper_lat` meets its contract. Assumes nothing.
-use borrow.Author.Needs.{needs}
+use Rattle.numbers.proofs.Prelude.{needs}
 use Rattle.border.specs.Box.{maxZ}
 use Rattle.atlas.proofs.span.upper_lat.Statement.{statement}
 use Rattle.atlas.proofs.span.upper_lat.Tie as tie

@@ -1,5 +1,5 @@
 -- `atlas::span::upper_lon` meets its contract. Assumes nothing.
-use borrow.Author.Needs.{needs}
+use Rattle.numbers.proofs.Prelude.{needs}
 use Rattle.border.specs.Box.{maxZ}
 use Rattle.atlas.proofs.span.upper_lon.Statement.{statement}
 use Rattle.atlas.proofs.span.upper_lon.Tie as tie

@@ -1,5 +1,5 @@
 -- `atlas::words::kind_of` meets its contract, by the run's cases. Assumes nothing.
-use borrow.Author.Needs.{needs}
+use Rattle.numbers.proofs.Prelude.{needs}
 use Rattle.marks.specs.Marks.{kindOf}
 use Rattle.atlas.proofs.words.kind_of.Statement.{statement}
 use Rattle.atlas.proofs.words.kind_of.Tie as tie

@@ -1,5 +1,5 @@
 -- `batch::many::lookup_many` meets its contract: there is no atlas. Assumes nothing.
-use borrow.Author.Needs.{needs}
+use Rattle.numbers.proofs.Prelude.{needs}
 use Rattle.batch.proofs.many.lookup_many.Statement.{statement}
 use Rattle.batch.specs.Many.{lookedUpMany}
 use Rattle.batch.proofs.many.lookup_many.Tie as tie

@@ -1,5 +1,5 @@
 -- `border::reader::backward_from` meets its contract. Assumes nothing.
-use borrow.Author.Tests.{le-leb, lt-leb}
+use Rattle.numbers.proofs.Prelude.{le-leb, lt-leb}
 use Rattle.border.proofs.reader.backward_from.Statement.{statement}
 use Rattle.border.specs.Reader.{backwardFrom}
 use Rattle.border.proofs.reader.backward_from.Tie as tie

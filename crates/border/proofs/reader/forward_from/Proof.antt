@@ -1,5 +1,5 @@
 -- `border::reader::forward_from` meets its contract. Assumes nothing.
-use borrow.Author.Tests.{le-leb, lt-leb}
+use Rattle.numbers.proofs.Prelude.{le-leb, lt-leb}
 use Rattle.border.proofs.reader.forward_from.Statement.{statement}
 use Rattle.border.specs.Reader.{forwardFrom}
 use Rattle.border.proofs.reader.forward_from.Tie as tie

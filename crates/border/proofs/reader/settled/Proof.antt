@@ -1,5 +1,5 @@
 -- `border::reader::settled` meets its contract. Assumes nothing.
-use borrow.Author.Needs.{needs}
+use Rattle.numbers.proofs.Prelude.{needs}
 use Rattle.border.proofs.reader.settled.Statement.{statement}
 use Rattle.border.specs.Trace.{roundAgain}
 use Rattle.border.proofs.reader.settled.Tie as tie
@@ -21,16 +21,5 @@ unfolding roundAgain
 returns-5 c = rw (c .enum-told3 .given .1)
 
 pub settled-spec : {M : Type 1} → statement M
-settled-spec =
-    tie.close
-    (tie.spec
-    (λ c. search needs)
-    (λ c. search needs)
-    (λ c. search needs)
-    (λ c. search needs)
-    (λ c. search needs)
-    returns
-    returns-2
-    returns-3
-    (λ c. search needs)
-    returns-5)
+settled-spec = tie.close (tie.spec (λ c. search needs) (λ c. search needs) (λ c. search needs) (λ c. search needs) (λ c. search needs) returns returns-2
+    returns-3 (λ c. search needs) returns-5)

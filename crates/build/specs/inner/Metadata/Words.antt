@@ -1,10 +1,6 @@
 -- The words of the records' fields: 0 for one that is inline, else one more than how far behind the records its text lies.
-use Prim.Native.Nat.{ℕ, suc, _+_, _*_, _^_, _≤_, _<_}
-use lib.{Dec.{eqb}, ListN.{length, take}}
-use mathlib.Core.{List.{List, [], _∷_, map, flatMap}, Path.{_≡_}}
-use Rattle.builder.specs.{Metadata.{inlined, isRemote, remotes, offsetOf}, Sharing.{sameText, firsts, goodOnes}, Yards.{Text, cutBy, sumOf}}
-use Rattle.builder.specs.Grouping.{Items.{startsFrom}, Keys.{keysOf}}
-use Rattle.numbers.specs.Answer.{if_then_else_}
+use Rattle.numbers.specs.{Answer.{if_then_else_}, Prelude.{ℕ, suc, _+_, _*_, _^_, _≤_, _<_, eqb, length, take, List, [], _∷_, map, flatMap, _≡_}}
+use Rattle.builder.specs.{Grouping.{Items.{startsFrom}, Keys.{keysOf}}, Metadata.{inlined, isRemote, remotes, offsetOf}, Sharing.{sameText, firsts, goodOnes}, Yards.{Text, cutBy, sumOf}}
 
 module _ (fields : List Text) where
   unfoldable pub wordIn : Text → ℕ

@@ -1,10 +1,6 @@
 -- What the functions that lay out the metadata section say.
-use Prim.Native.Nat.{ℕ, _+_, _*_, _^_, _≤_, _<_}
-use lib.ListN.{length, take}
-use mathlib.Core.{List.{List, map, flatMap}, Path.{_≡_}}
-use Rattle.builder.specs.{Metadata.{inlined, remotes, layoutOf}, Yards.{Text, sumOf}}
-use Rattle.builder.specs.inner.Drawing.Section.{spread}
-use Rattle.builder.specs.Grouping.Keys.{numbersFrom}
+use Rattle.numbers.specs.Prelude.{ℕ, _+_, _*_, _^_, _≤_, _<_, length, take, List, map, flatMap, _≡_}
+use Rattle.builder.specs.{Grouping.Keys.{numbersFrom}, Metadata.{inlined, remotes, layoutOf}, Yards.{Text, sumOf}, inner.Drawing.Section.{spread}}
 use Rattle.layout.specs.inner.Layout.{Least}
 use Rattle.build.specs.{Metadata.Kept.{fieldsTo, joined, beginOf}, inner.Metadata.Words.{wordIn}}
 

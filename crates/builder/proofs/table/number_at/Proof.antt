@@ -1,9 +1,8 @@
 -- `builder::table::number_at` meets its contract. Assumes nothing.
-use borrow.Author.Needs.{needs}
-use lib.{IntN.{pos}, ListN.{List·getD-eq-default}}
-use mathlib.Core.Path.{sym}
+use Rattle.numbers.proofs.Prelude.{needs, pos, List·getD-eq-default, sym}
 use Rattle.builder.proofs.table.number_at.Statement.{statement}
 use Rattle.builder.proofs.table.number_at.Tie as tie
 
 pub number-at-spec : {M : Type 1} → statement M
-number-at-spec = tie.close (tie.spec (λ c. search needs) (λ c. search needs) (λ c. search needs) (λ c. sym (List·getD-eq-default (c .before .args .list .now) (pos 0) (c .if1 .left))))
+number-at-spec = tie.close (tie.spec (λ c. search needs) (λ c. search needs) (λ c. search needs)
+    (λ c. sym (List·getD-eq-default (c .before .args .list .now) (pos 0) (c .if1 .left))))

@@ -1,11 +1,8 @@
 -- What the functions that draw the data section say.
-use Prim.Native.Nat.{ℕ, _+_, _*_, _≤_, min}
-use lib.{Dec.{ltb}, IntN.{ℤ}, ListN.{length, take, set}}
-use mathlib.Core.{List.{List, [], _∷_}, Path.{_≡_}}
+use Rattle.numbers.specs.{Prelude.{ℕ, _+_, _*_, _≤_, min, ltb, ℤ, length, take, set, List, [], _∷_, _≡_}, Reply.{Reply, given, refused}}
 use Rattle.writer.specs.{Pieces.{piecesOf}, Writer.{borderOf}}
 use Rattle.builder.specs.{Borders.{Drawn, appended}, Yards.{partOf}, declared.borders.Border.{Border}}
 use Rattle.builder.specs.declared.borders.Border.the-variants as B
-use Rattle.numbers.specs.Reply.{Reply, given, refused}
 
 -- so much is lent for a border of so many points
 pub record LentFor (points room lent : ℕ) : Type 0 where

@@ -1,5 +1,5 @@
 -- `bundle::head::is_index` meets its contract. Assumes nothing.
-use borrow.Author.Tests.{le-leb, lt-leb}
+use Rattle.numbers.proofs.Prelude.{le-leb, lt-leb}
 use Rattle.bundle.proofs.head.is_index.Statement.{statement}
 use Rattle.bundle.specs.Bundle.{isIndex}
 use Rattle.bundle.proofs.head.is_index.Tie as tie

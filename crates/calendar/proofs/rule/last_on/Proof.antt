@@ -1,8 +1,5 @@
 -- `calendar::rule::last_on` meets its contract. Assumes nothing.
-use Prim.Native.Nat.{ℕ, _+_, _-_, _%_}
-use borrow.Author.Needs.{needs}
-use mathlib.Core.Path.{ap}
-use native.Mathlib.Omega.{arith}
+use Rattle.numbers.proofs.Prelude.{ℕ, _+_, _-_, _%_, needs, ap, arith}
 use Rattle.calendar.proofs.{Weeks.{weekday-small}, rule.last_on.Statement.{statement}}
 use Rattle.calendar.specs.Rules.{lastOn}
 use Rattle.calendar.proofs.rule.last_on.Tie as tie
@@ -12,4 +9,5 @@ unfolding lastOn
 returns c = ap (λ (w : ℕ). c .before .args .day - (w + 7 - c .before .args .weekday) % 7) (c .weekday-of .ensures)
 
 pub last-on-spec : {M : Type 1} → statement M
-last-on-spec = tie.close (tie.spec (λ c κs. search needs) (λ c. omega (arith, c .weekday-of .ensures, weekday-small (c .before .args .day))) (λ c. search needs) (λ c. search needs) returns)
+last-on-spec = tie.close (tie.spec (λ c κs. search needs) (λ c. omega (arith, c .weekday-of .ensures, weekday-small (c .before .args .day))) (λ c. search needs)
+    (λ c. search needs) returns)

@@ -1,15 +1,9 @@
 -- What the functions that sum up the held yards say of each other.
-use Prim.Native.Nat.{ℕ, _*_, _^_, _≤_}
-use lib.{IntN.{ℤ, pos}, ListN.{length, take, getD}}
-use mathlib.Core.{Bool.{true}, List.{List, map}, Path.{_≡_}}
-use Rattle.builder.specs.{Borders.{Drawn}, Entries.{wordOfYard}, Metadata.{fieldsOf, layoutOf, recordsOf, startOf}, Yards.{Yard, sumOf}}
-use Rattle.build.specs.{Room.{enough}, declared.room.Work.{Work}}
-use Rattle.builder.specs.inner.Drawing.Section.{spread}
-use Rattle.builder.specs.Grouping.Keys.{numbersFrom}
-use Rattle.draft.specs.Held.Totals.{Totals, totalsFor}
+use Rattle.numbers.specs.Prelude.{ℕ, _*_, _^_, _≤_, ℤ, pos, length, take, getD, true, List, map, _≡_}
+use Rattle.builder.specs.{Borders.{Drawn}, Entries.{wordOfYard}, Grouping.Keys.{numbersFrom}, Metadata.{fieldsOf, layoutOf, recordsOf, startOf}, Yards.{Yard, sumOf}, inner.Drawing.Section.{spread}}
+use Rattle.build.specs.{Room.{enough}, declared.room.Work.{Work}, inner.Recording.Recorded.{Recorded}}
+use Rattle.draft.specs.{Held.Totals.{Totals, totalsFor}, declared.summed.sums.{Summed.{Summed}, Sums.{Sums}}}
 use Rattle.layout.specs.Order.{keyOf, sortedBy}
-use Rattle.build.specs.inner.Recording.Recorded.{Recorded}
-use Rattle.draft.specs.declared.summed.sums.{Sums.{Sums}, Summed.{Summed}}
 use Rattle.draft.specs.declared.summed.sums.Summed.the-variants as S
 
 -- so many names and yards, lengths, borders and bytes of texts, and lists that are long enough for them

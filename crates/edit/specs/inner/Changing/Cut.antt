@@ -1,7 +1,5 @@
 -- A builder's lists, cut: of each so much is kept, and behind it is zero.
-use Prim.Native.Nat.{ℕ, _-_, _≤_}
-use lib.{IntN.{pos}, ListN.{length, take, replicate}}
-use mathlib.Core.List.{List, _++_}
+use Rattle.numbers.specs.Prelude.{ℕ, _-_, _≤_, pos, length, take, replicate, List, _++_}
 use Rattle.draft.specs.Held.State.{Lists, listsAs}
 use Rattle.edit.specs.declared.changing.cut.Ends.{Ends}
 

@@ -1,14 +1,8 @@
 -- What the functions that drop a yard say of each other.
-use Prim.Native.Nat.{ℕ, _+_, _-_, _*_, _≤_, _<_}
-use lib.{IntN.{ℤ}, ListN.{length, getD}}
-use mathlib.Core.{Bool.{true, false}, List.{List}, Path.{_≡_}}
-use Rattle.draft.specs.{Held.{Builder.{Builder, dropLast}, Space.{longEnough, standing}, State.{Holds, Lists}}, declared.held.{room.Rooms.{Rooms}, state.Changed.{Changed}}}
-use Rattle.draft.specs.declared.held.state.Held.{Held}
+use Rattle.numbers.specs.{Prelude.{ℕ, _+_, _-_, _*_, _≤_, _<_, ℤ, length, getD, true, false, List, _≡_}, Reply.{plain, refused}}
+use Rattle.draft.specs.{Held.{Builder.{Builder, dropLast}, Space.{longEnough, standing}, State.{Holds, Lists, heldWith}}, declared.held.{room.Rooms.{Rooms}, state.{Changed.{Changed}, Held.{Held}}}}
+use Rattle.edit.specs.{Changing.Dropped.{lastSize, leftSpace}, declared.changing.cut.Ends.{Ends}}
 use Rattle.draft.specs.declared.held.state.Changed.the-variants as C
-use Rattle.numbers.specs.Reply.{plain, refused}
-use Rattle.edit.specs.declared.changing.cut.Ends.{Ends}
-use Rattle.edit.specs.Changing.Dropped.{lastSize, leftSpace}
-use Rattle.draft.specs.Held.State.{heldWith}
 
 -- the numbers with a yard less, and the sums as they were
 unfoldable pub shortOf : Held → ℕ → ℕ → Held

@@ -1,6 +1,5 @@
 -- What the inner function that sums lengths says.
-use Prim.Native.Nat.{ℕ, _≤_, _<_}
-use mathlib.Core.{List.{List}, Path.{_≡_}}
+use Rattle.numbers.specs.Prelude.{ℕ, _≤_, _<_, List, _≡_}
 use Rattle.builder.specs.Yards.{sumOf}
 use Rattle.edit.specs.declared.changing.sum.Sum.{Sum}
 use Rattle.edit.specs.declared.changing.sum.Sum.the-variants as S

@@ -1,7 +1,5 @@
 -- One text of many in the place of another.
-use Prim.Native.Nat.{ℕ, _+_, _-_, _^_, _≤_}
-use lib.ListN.{length}
-use mathlib.Core.{List.{List, _++_}, Path.{_≡_}}
+use Rattle.numbers.specs.Prelude.{ℕ, _+_, _-_, _^_, _≤_, length, List, _++_, _≡_}
 use Rattle.draft.specs.Held.State.{Front}
 
 -- the old text ends at `from`, all texts at `strings`; what lies between is put aside

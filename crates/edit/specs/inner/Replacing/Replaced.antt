@@ -1,16 +1,12 @@
 -- What the functions that replace a value say of each other.
-use Prim.Native.Nat.{ℕ, _+_, _-_, _*_, _^_, _≤_, _<_}
-use lib.{Dec.{leb}, IntN.{ℤ, pos}, ListN.{length, take, drop, set}}
-use mathlib.Core.{Bool.{Bool, true}, List.{List}, Path.{_≡_}}
+use Rattle.numbers.specs.{Answer.{if_then_else_}, Prelude.{ℕ, _+_, _-_, _*_, _^_, _≤_, _<_, leb, ℤ, pos, length, take, drop, set, Bool, true, List, _≡_}, Reply.{plain}}
 use Rattle.build.specs.{Room.{enough}, declared.room.Work.{Work}}
 use Rattle.builder.specs.{Borders.{Drawn}, File.{isText, upTo}, Yards.{Text, Yard}}
-use Rattle.draft.specs.Held.{Builder.{Builder, fitting, summed}, Space.{Space}, State.{Answers, Holds, Lists, Stands}}
-use Rattle.draft.specs.{Held.Totals.{fileSize, totalsFor}, declared.held.state.{Changed.{Changed}, Held.{Held}}}
+use Rattle.draft.specs.{Held.{Builder.{Builder, fitting, summed}, Space.{Space}, State.{Answers, Holds, Lists, Stands}, Totals.{fileSize, totalsFor}}, declared.held.state.Changed.{Changed}}
+use Rattle.draft.specs.declared.held.state.Held.{Held}
+use Rattle.edit.specs.{Replacing.Replaced.{replaced}, declared.replacing.check.Spot.{Spot}, inner.Replacing.{Exchange.{Exchanged}, Spot.{sizeWith, spotIn, textAt}}}
 use Rattle.draft.specs.declared.held.state.Changed.the-variants as C
-use Rattle.numbers.specs.{Answer.{if_then_else_}, Reply.{plain}}
-use Rattle.edit.specs.{inner.Replacing.{Exchange.{Exchanged}, Spot.{sizeWith, spotIn, textAt}}, declared.replacing.check.Spot.{Spot}}
-use Rattle.edit.specs.Replacing.Replaced.{replaced}
-use Rattle.draft.specs.Held.State as State
+use Rattle.draft.specs.Held.State
 
 -- only the length of the file is left to ask
 abbrev pub afterChecks : Space

@@ -1,11 +1,8 @@
 -- Where a value lies in a builder's lists, and whether a text may stand there.
-use Prim.Native.Nat.{ℕ, _+_, _-_, _*_, _^_, _≤_, _<_}
-use lib.{Dec.{ltb, leb}, ListN.{length, take, getD}}
-use mathlib.Core.{Bool.{Bool, true, _&&_}, List.{List}, Path.{_≡_}}
+use Rattle.numbers.specs.{Prelude.{ℕ, _+_, _-_, _*_, _^_, ltb, leb, length, take, getD, Bool, _&&_, List}, Reply.{Reply, given, refused, plain, demand, _>>=_, _>>_}}
 use Rattle.builder.specs.{File.{isText}, Yards.{Text, sumOf}}
 use Rattle.draft.specs.{Held.Space.{longEnough, standing}, declared.held.{room.Rooms.{Rooms}, state.Held.{Held}}}
-use Rattle.numbers.specs.Reply.{Reply, given, refused, plain, demand, _>>=_, _>>_}
-use Rattle.edit.specs.declared.replacing.check.{Spot.{Spot}, Checked.{Checked}}
+use Rattle.edit.specs.declared.replacing.check.{Checked.{Checked}, Spot.{Spot}}
 use Rattle.edit.specs.declared.replacing.check.Checked.the-variants as C
 
 -- behind the names and the notice, yard by yard

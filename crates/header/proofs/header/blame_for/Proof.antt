@@ -1,5 +1,5 @@
 -- `header::header::blame_for` meets its contract. Assumes nothing.
-use borrow.Author.Tests.{lt-ltb, le-ltb}
+use Rattle.numbers.proofs.Prelude.{lt-ltb, le-ltb}
 use Rattle.header.proofs.header.blame_for.Statement.{statement}
 use Rattle.header.proofs.header.blame_for.Tie as tie
 

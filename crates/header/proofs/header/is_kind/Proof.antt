@@ -1,5 +1,5 @@
 -- `header::header::is_kind` meets its contract. Assumes nothing.
-use borrow.Author.Tests.{eq-eqb, ne-eqb}
+use Rattle.numbers.proofs.Prelude.{eq-eqb, ne-eqb}
 use Rattle.header.proofs.header.is_kind.Statement.{statement}
 use Rattle.header.proofs.header.is_kind.Tie as tie
 

@@ -1,10 +1,5 @@
 -- `header::header::sections_from` meets its contract. Assumes nothing.
-use Prim.Native.Nat.{_+_, _^_}
-use borrow.Author.Tests.{lt-ltb, le-ltb, eq-eqb, ne-eqb}
-use lib.Dec.{ltb}
-use mathlib.Core.{Bool.{true}, Path.{_≡_, ap, _∙_}}
-use native.Mathlib.Omega.{arith}
-use Rattle.numbers.{proofs.Replies.{met, unmet}, specs.Reply.{refused}}
+use Rattle.numbers.{proofs.{Prelude.{_+_, _^_, eq-eqb, ne-eqb, lt-ltb, le-ltb, ltb, true, _≡_, ap, _∙_, arith}, Replies.{met, unmet}}, specs.Reply.{refused}}
 use Rattle.header.specs.Header.{sectionsFrom}
 use Rattle.header.proofs.header.sections_from.Statement.{statement}
 use Rattle.header.proofs.header.sections_from.Tie as tie
@@ -18,14 +13,11 @@ high c = let args = c .before .before .args in lt-ltb (args .rest + (args .end +
 
 returns : tie.Need-returns
 unfolding sectionsFrom
-returns c =
-    let args = c .before .before .args in
-    ap refused (c .plain .ensures) ∙ unmet (le-ltb (args .end + args .«data») (2 ^ 32) (omega arith)) _ _
+returns c = let args = c .before .before .args in ap refused (c .plain .ensures) ∙ unmet (le-ltb (args .end + args .«data») (2 ^ 32) (omega arith)) _ _
 
 returns-2 : tie.Need-returns-2
 unfolding sectionsFrom
-returns-2 c =
-    let args = c .before .before .before .args in
+returns-2 c = let args = c .before .before .before .args in
     ap refused (c .plain2 .ensures) ∙ unmet (le-ltb (args .rest + (args .end + args .«data»)) (2 ^ 64) (omega arith)) _ _ ∙ met (low (c .before .before)) _ _
 
 returns-3 : tie.Need-returns-3
@@ -37,23 +29,5 @@ unfolding sectionsFrom
 returns-4 c = met (eq-eqb _ _ (c .if3 .left)) _ _ ∙ met (high (c .before)) _ _ ∙ met (low (c .before .before)) _ _
 
 pub sections-from-spec : {M : Type 1} → statement M
-sections-from-spec =
-    tie.close
-    (tie.spec
-    (λ c. omega arith)
-    (λ c κs. tt)
-    returns
-    (λ c. omega arith)
-    (λ c. omega arith)
-    (λ c κs. tt)
-    returns-2
-    (λ c. omega arith)
-    (λ c. omega arith)
-    (λ c κs. tt)
-    returns-3
-    (λ c. omega arith)
-    (λ c. omega arith)
-    (λ c. omega arith)
-    (λ c. omega arith)
-    (λ c. omega arith)
-    returns-4)
+sections-from-spec = tie.close (tie.spec (λ c. omega arith) (λ c κs. tt) returns (λ c. omega arith) (λ c. omega arith) (λ c κs. tt) returns-2 (λ c. omega arith)
+    (λ c. omega arith) (λ c κs. tt) returns-3 (λ c. omega arith) (λ c. omega arith) (λ c. omega arith) (λ c. omega arith) (λ c. omega arith) returns-4)

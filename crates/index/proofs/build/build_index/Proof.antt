@@ -1,12 +1,8 @@
 -- `index::build::build_index` meets its contract. Assumes nothing.
-use borrow.Author.Needs.{needs}
-use lib.ListN.{length}
-use mathlib.Core.Path.{sym, ap, _∙_}
-use native.Mathlib.Omega.{arith}
-use Rattle.numbers.specs.Lists.{zeros}
-use Rattle.header.{proofs.Buffers.{of-length, all-zero}, specs.Header.{toldHead}}
+use Rattle.numbers.{proofs.Prelude.{needs, length, false, sym, ap, _∙_, arith}, specs.Lists.{zeros}}
+use Rattle.header.{proofs.{Buffers.{of-length, all-zero}, ReadFrom.{opened-small}}, specs.Header.{toldHead}}
 use Rattle.index.specs.Index.{toldBuilt}
-use Rattle.index.proofs.{Filling.{not-opened, built, not-built}, Opened.{opened-small}, build.build_index.Statement.{statement}}
+use Rattle.index.proofs.{Filling.{not-opened, built, not-built}, build.build_index.Statement.{statement}}
 use Rattle.index.proofs.build.build_index.Tie as tie
 
 returns : tie.Need-returns
@@ -17,7 +13,7 @@ fill-requires c κs = (
   all-zero _ (length (c .before .before .before .before .before .before .before .before .before .before .before .args .index .now))
       (c .before .before .before .before .before .before .before .zero-words .ensures),
   omega
-      (arith, opened-small _ (sym (ap toldHead (c .before .before .head .given .1)) ∙ c .before .before .before .before .head-of .ensures)),
+      (arith, opened-small false _ (sym (ap toldHead (c .before .before .head .given .1)) ∙ c .before .before .before .before .head-of .ensures)),
 )
 
 same-length-2 : tie.Need-same-length-2
@@ -31,25 +27,19 @@ abbrev at-head : tie.After-slice-known4 → tie.After-head
 at-head c = c .before .before .before .before .before .before .before .before .before .before .before .before
 
 returns-2 : tie.Need-returns-2
-returns-2 c =
-    let fill = c .before .before .before .before .before .before .before .before .before .fill in
+returns-2 c = let fill = c .before .before .before .before .before .before .before .before .before .fill in
     let same = of-length _ (length (at-head c .before .before .before .before .before .before .before .before .before .args .index .now))
     (at-head c .before .before .before .before .before .zero-words .ensures) in
     not-built _ _ (sym (ap toldHead (at-head c .head .given .1)) ∙ at-head c .before .before .head-of .ensures) same (toldBuilt (fill .result)) _ (fill .ensures)
-    (ap toldBuilt (c .before .before .before .before .before .why2 .given .1))
-    (all-zero _ (length (fill .last .1 .1 .0)) (c .before .before .zero-words2 .ensures) ∙ ap zeros (same-length-2 c))
+    (ap toldBuilt (c .before .before .before .before .before .why2 .given .1)) (all-zero _ (length (fill .last .1 .1 .0)) (c .before .before .zero-words2 .ensures) ∙ ap zeros (same-length-2 c))
 
 returns-3 : tie.Need-returns-3
-returns-3 c =
-    let fill = c .before .before .before .before .before .fill in
+returns-3 c = let fill = c .before .before .before .before .before .fill in
     let same = of-length _ (length (at-head-2 c .before .before .before .before .before .before .before .before .before .args .index .now))
     (at-head-2 c .before .before .before .before .before .zero-words .ensures) in
     built _ _ (sym (ap toldHead (at-head-2 c .head .given .1)) ∙ at-head-2 c .before .before .head-of .ensures) same (toldBuilt (fill .result)) _ (fill .ensures)
     (ap toldBuilt (c .before .used .given .1))
 
 pub build-index-spec : {M : Type 1} → statement M
-build-index-spec =
-    tie.close
-    (tie.spec
-    (λ c κs. search needs) (λ c κs. search needs) (λ c. search needs) (λ c. search needs) (λ c. search needs) returns fill-requires
-    (λ c. search needs) (λ c. search needs) (λ c κs. search needs) same-length-2 returns-2 (λ c. search needs) returns-3)
+build-index-spec = tie.close (tie.spec (λ c κs. search needs) (λ c κs. search needs) (λ c. search needs) (λ c. search needs) (λ c. search needs) returns
+    fill-requires (λ c. search needs) (λ c. search needs) (λ c κs. search needs) same-length-2 returns-2 (λ c. search needs) returns-3)

@@ -1,13 +1,9 @@
 -- `index::build::fill` meets its contract. Assumes nothing.
-use Prim.Native.Nat.{_≤_}
-use borrow.Author.Needs.{needs}
-use lib.{ListN.{length}, Seq.{length-sets}}
-use mathlib.Core.{List.{[], _∷_}, Path.{sym, ap, _∙_}}
-use native.Mathlib.Omega.{arith}
+use Rattle.numbers.proofs.Prelude.{_≤_, needs, length, length-sets, [], _∷_, sym, ap, _∙_, arith}
 use Rattle.table.proofs.Agreeing.{gave, refused-so, agree-given, agree-refused}
 use Rattle.index.specs.inner.Building.{toldTable}
-use Rattle.index.proofs.Filling.{precise, begin-is, length-two, length-four, early, used-is, made}
-use Rattle.index.proofs.{Whole.{bad-precision, bad-table, no-room, too-large, has-room}, build.fill.Statement.{statement}}
+use Rattle.index.proofs.{Filling.{precise, begin-is, length-two, length-four, early, used-is, made}, Whole.{bad-precision, bad-table, no-room, too-large, has-room}}
+use Rattle.index.proofs.build.fill.Statement.{statement}
 use Rattle.index.proofs.build.fill.Tie as tie
 
 returns : tie.Need-returns
@@ -57,14 +53,13 @@ cast-put-head-2 : tie.Need-cast-put-head-2
 cast-put-head-2 c = let t = gave _ _ (at-put-table (at-n-2 (c .before .before)) .put-table .ensures) (ap toldTable (at-n-2 (c .before .before) .n .given .1)) in omega (arith, t .fits .few)
 
 put-lists-requires : tie.Need-put-lists-requires
-put-lists-requires c κs =
-    let args = at-start (at-put-table (at-n c) .before .before) .args in
+put-lists-requires c κs = let args = at-start (at-put-table (at-n c) .before .before) .args in
     let p = precise _ (sym (at-put-table (at-n c) .before .before .before .is-precision .ensures) ∙ at-put-table (at-n c) .before .before .if1 .taken) in
     let t = gave _ _ (at-put-table (at-n c) .put-table .ensures) (ap toldTable (at-n c .n .given .1)) in let k = at-put-kept c .put-kept .ensures in
     let size = length-two _ _ _ _ _ _ _ t k in let begin = begin-is _ _ _ _ _ _ _ t k in
     let small = put-kept-requires (at-put-kept c .before) (at-put-kept c .put-kept .lifetimes) .0 in
-    let same = ap length (c .before .before .before .put-head .ensures) ∙
-    length-sets (at-put-kept c .put-kept .last .1 .1 .0) 0 (length (args .file .now) ∷ args .head .sections .metadata ∷ at-n c .n .given .0 .0 ∷ []) in (
+    let same = ap length (c .before .before .before .put-head .ensures) ∙ length-sets (at-put-kept c .put-kept .last .1 .1 .0) 0 (length (args .file .now)
+    ∷ args .head .sections .metadata ∷ at-n c .n .given .0 .0 ∷ []) in (
       t .fits .few,
       omega (arith, begin, t .fits .counted),
       omega (arith, begin, t .fits .counted, t .fits .few, small),
@@ -109,14 +104,9 @@ returns-5 c =
     (made _ _ _ _ _ _ _ t k fine _ _ _ room (at-put-head (c .before .before) .put-head .ensures) (c .before .before .before .before .put-lists .ensures)
     (at-start (at-then1 (c .before .before)) .pre .0) few (omega (arith, c .if4 .left)))
 
-returns-6 : tie.Need-returns-6
-returns-6 c = rw (c .plain5 .ensures) (agree-refused _ (bad-precision _ _ _ (sym (c .before .before .is-precision .ensures) ∙ c .before .if1 .left)))
-
 pub fill-spec : {M : Type 1} → statement M
-fill-spec =
-    tie.close
-    (tie.spec
-    (λ c κs. search needs) (λ c κs. search needs) (λ c. search needs) (λ c. search needs) (λ c κs. search needs) (λ c. search needs) returns
-    (λ c. search needs) mul-put-kept add-put-kept put-kept-requires (λ c κs. search needs) (λ c. search needs) returns-2 (λ c. search needs)
-    cast-put-head-2 (λ c κs. search needs) put-lists-requires (λ c κs. search needs) (λ c. search needs) returns-3 (λ c κs. search needs)
-    (λ c. search needs) returns-4 (λ c. search needs) returns-5 (λ c κs. search needs) returns-6)
+fill-spec = tie.close (tie.spec (λ c κs. search needs) (λ c κs. search needs) (λ c. search needs) (λ c. search needs) (λ c κs. search needs) (λ c. search needs)
+    returns (λ c. search needs) mul-put-kept add-put-kept put-kept-requires (λ c κs. search needs) (λ c. search needs) returns-2 (λ c. search needs)
+    cast-put-head-2 (λ c κs. search needs) put-lists-requires (λ c κs. search needs) (λ c. search needs) returns-3 (λ c κs. search needs) (λ c. search needs)
+    returns-4 (λ c. search needs) returns-5 (λ c κs. search needs)
+    (λ c. rw (c .plain5 .ensures) (agree-refused _ (bad-precision _ _ _ (sym (c .before .before .is-precision .ensures) ∙ c .before .if1 .left)))))

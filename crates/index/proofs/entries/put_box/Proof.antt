@@ -1,8 +1,5 @@
 -- `index::entries::put_box` meets its contract. Assumes nothing.
-use borrow.Author.Needs.{needs}
-use mathlib.Core.Path.{ap, _∙_}
-use native.Mathlib.Omega.{arith}
-use mir.{Syntax.{w32}, Val.{ofZ}, ValLaws.{toZ-ofZ}}
+use Rattle.numbers.proofs.Prelude.{needs, ap, _∙_, w32, ofZ, toZ-ofZ, arith}
 use Rattle.writer.proofs.Stores.{stored-then}
 use Rattle.index.proofs.{Stores.{same-word}, entries.put_box.Statement.{statement}}
 use Rattle.index.proofs.entries.put_box.Tie as tie
@@ -11,8 +8,7 @@ put-requires-2 : tie.Need-put-requires-2
 put-requires-2 c κs = omega (arith, c .before .before .before .before .before .put .ensures .place-after, c .before .before .before .before .before .before .before .before .before .before .pre)
 
 put-requires-3 : tie.Need-put-requires-3
-put-requires-3 c κs =
-    let told = c .before .before .before .before .before .before .before .before .before .before .before .put .ensures .place-after in
+put-requires-3 c κs = let told = c .before .before .before .before .before .before .before .before .before .before .before .put .ensures .place-after in
     let told-2 = c .before .before .before .before .before .before .before .before .before .before .before .before .before .before .before .before .pre in
     omega (arith, told, c .before .before .before .before .before .put2 .ensures .place-after, told-2)
 
@@ -33,8 +29,7 @@ put-requires-4 c κs = omega (
 )
 
 returns : tie.Need-returns
-returns c =
-    let told = at-put (c .before .before .before) .before .before .struct-told .given in
+returns c = let told = at-put (c .before .before .before) .before .before .struct-told .given in
     let b = at-put (c .before .before .before) .before .before .before .before .before .args .bounds in
     let one = same-word (at-put (c .before .before .before) .before .word-of .ensures ∙ ap (ofZ w32) (toZ-ofZ w32 (b .«min_lat» .0) (search needs)))
     (at-put (c .before .before .before) .put .ensures) in
@@ -46,8 +41,5 @@ returns c =
     stored-then _ _ (stored-then _ _ (stored-then _ _ one two) three) four
 
 pub put-box-spec : {M : Type 1} → statement M
-put-box-spec =
-    tie.close
-    (tie.spec
-    (λ c κs. search needs) (λ c κs. search needs) (λ c κs. search needs) put-requires-2 (λ c κs. search needs) put-requires-3 (λ c κs. search needs)
-    put-requires-4 (λ c. search needs) returns)
+put-box-spec = tie.close (tie.spec (λ c κs. search needs) (λ c κs. search needs) (λ c κs. search needs) put-requires-2 (λ c κs. search needs) put-requires-3
+    (λ c κs. search needs) put-requires-4 (λ c. search needs) returns)

@@ -1,5 +1,5 @@
 -- `index::entries::put_record` meets its contract. Assumes nothing.
-use borrow.Author.Needs.{needs}
+use Rattle.numbers.proofs.Prelude.{needs}
 use Rattle.writer.proofs.Stores.{stored-then}
 use Rattle.index.proofs.entries.put_record.Statement.{statement}
 use Rattle.index.proofs.entries.put_record.Tie as tie
@@ -11,7 +11,5 @@ returns c = stored-then _ _ (stored-then _ _
     (c .before .before .put-box .ensures)
 
 pub put-record-spec : {M : Type 1} → statement M
-put-record-spec =
-    tie.close
-    (tie.spec
-    (λ c. search needs) (λ c κs. search needs) (λ c κs. search needs) (λ c κs. search needs) (λ c κs. search needs) (λ c. search needs) returns)
+put-record-spec = tie.close (tie.spec (λ c. search needs) (λ c κs. search needs) (λ c κs. search needs) (λ c κs. search needs) (λ c κs. search needs)
+    (λ c. search needs) returns)

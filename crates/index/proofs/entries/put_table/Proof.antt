@@ -1,9 +1,5 @@
 -- `index::entries::put_table` meets its contract. The loop's invariant is `Tabling`. Assumes nothing.
-use Prim.Native.Nat.{_-_}
-use borrow.Author.Needs.{needs}
-use lib.ListN.{length}
-use mathlib.Core.Path.{_≡_, refl, sym, ap, _∙_}
-use native.Mathlib.Omega.{arith}
+use Rattle.numbers.proofs.Prelude.{_-_, needs, length, _≡_, refl, sym, ap, _∙_, arith}
 use Rattle.table.{proofs.Agreeing.{agree-given, agree-refused}, specs.Rows.{toldReading}}
 use Rattle.writer.proofs.Stores.{stored-length}
 use Rattle.index.proofs.Tabling.{Tabling, tabling-starts, tabling-ends, tabling-unreadable, tabling-refused, tabling-not-next, tabling-less, tabling-next, row-place, same-table}
@@ -35,32 +31,27 @@ abbrev at-row : tie.After-after Inv-loop μ-loop → tie.After-row Inv-loop μ-l
 at-row c = at-row-2 (c .before .before .before .before .before)
 
 put-record-requires : tie.Need-put-record-requires Inv-loop μ-loop
-put-record-requires c κs =
-    let g = at-loop (at-row-2 c) .loop .inv .0 in (
-      omega (arith, g .here, g .few, at-loop (at-row-2 c) .before .before .before .struct-known .given),
-      omega (
-        arith,
-        row-place _ _ _ (sym (ap toldReading (at-row-2 c .row .given .1)) ∙ at-row-2 c .before .before .row-at .ensures),
-        at-row-2 c .before .before .before .if1 .taken,
-        at-loop (at-row-2 c) .before .before .before .struct-known .given,
-      ),
-    )
-
-add-n : tie.Need-add-n Inv-loop μ-loop
-add-n c = omega (arith, at-loop (at-row c) .loop .inv .0 .few, at-loop (at-row c) .before .before .before .struct-known .given)
+put-record-requires c κs = let g = at-loop (at-row-2 c) .loop .inv .0 in (
+  omega (arith, g .here, g .few, at-loop (at-row-2 c) .before .before .before .struct-known .given),
+  omega (
+    arith,
+    row-place _ _ _ (sym (ap toldReading (at-row-2 c .row .given .1)) ∙ at-row-2 c .before .before .row-at .ensures),
+    at-row-2 c .before .before .before .if1 .taken,
+    at-loop (at-row-2 c) .before .before .before .struct-known .given,
+  ),
+)
 
 loop-less : tie.Need-loop-less Inv-loop μ-loop
 loop-less c = tabling-less _ _ _ _ _ _ (at-loop (at-row c) .loop .inv .0) (at-row c .before .before .before .if1 .taken)
     (sym (ap toldReading (at-row c .row .given .1)) ∙ at-row c .before .before .row-at .ensures) (c .after .ensures)
 
 loop-again : tie.Need-loop-again Inv-loop μ-loop
-loop-again c =
-    let loop = at-loop (at-row c) .loop in let put-record = c .before .before .before .before .put-record in (
-      tabling-next _ _ _ _ _ _ (loop .inv .0) (at-row c .before .before .before .if1 .taken) (sym (ap toldReading (at-row c .row .given .1)) ∙ at-row c .before .before .row-at .ensures)
-          (sym (c .before .before .before .before .before .before .before .is-next .ensures) ∙ c .before .before .before .before .before .before .if2 .taken) (c .after .ensures)
-          (put-record .ensures),
-      stored-length (put-record .ensures) ∙ loop .inv .1,
-    )
+loop-again c = let loop = at-loop (at-row c) .loop in let put-record = c .before .before .before .before .put-record in (
+  tabling-next _ _ _ _ _ _ (loop .inv .0) (at-row c .before .before .before .if1 .taken) (sym (ap toldReading (at-row c .row .given .1)) ∙ at-row c .before .before .row-at .ensures)
+      (sym (c .before .before .before .before .before .before .before .is-next .ensures) ∙ c .before .before .before .before .before .before .if2 .taken) (c .after .ensures)
+      (put-record .ensures),
+  stored-length (put-record .ensures) ∙ loop .inv .1,
+)
 
 returns-3 : tie.Need-returns-3 Inv-loop μ-loop
 returns-3 c = agree-refused _ (tabling-not-next _ _ _ _ _ _ (at-loop (c .before .before .before .before) .loop .inv .0)
@@ -74,10 +65,8 @@ returns-4 c =
     agree-given _ (e .0 ∙ same-table _ _ (c .before .before .before .start-at .ensures)) (e .1)
 
 pub put-table-spec : {M : Type 1} → statement M
-put-table-spec =
-    tie.close
-    (tie.spec
-    Inv-loop μ-loop (λ c. search needs) (λ c. search needs) (λ c κs. search needs) (λ c. (tabling-starts _ _ _ _ _ _, refl)) (λ c κs. search needs)
-    (λ c. search needs) (λ c. search needs) (λ c. c .before .before .before .before .before .loop .inv .1) returns (λ c. search needs)
-    (λ c. c .before .before .before .before .before .loop .inv .1) returns-2 (λ c κs. search needs) put-record-requires (λ c κs. search needs) add-n
-    loop-less loop-again (λ c. at-loop (c .before .before .before .before) .loop .inv .1) returns-3 (λ c. c .before .before .loop .inv .1) returns-4)
+put-table-spec = tie.close (tie.spec Inv-loop μ-loop (λ c. search needs) (λ c. search needs) (λ c κs. search needs) (λ c. (tabling-starts _ _ _ _ _ _, refl))
+    (λ c κs. search needs) (λ c. search needs) (λ c. search needs) (λ c. c .before .before .before .before .before .loop .inv .1) returns (λ c. search needs)
+    (λ c. c .before .before .before .before .before .loop .inv .1) returns-2 (λ c κs. search needs) put-record-requires (λ c κs. search needs)
+    (λ c. omega (arith, at-loop (at-row c) .loop .inv .0 .few, at-loop (at-row c) .before .before .before .struct-known .given)) loop-less loop-again
+    (λ c. at-loop (c .before .before .before .before) .loop .inv .1) returns-3 (λ c. c .before .before .loop .inv .1) returns-4)

@@ -1,6 +1,5 @@
 -- `index::kept::put_kept` meets its contract. The loop's invariant is `Keeping`. Assumes nothing.
-use Prim.Native.Nat.{_+_, _-_}
-use native.Mathlib.Omega.{arith}
+use Rattle.numbers.proofs.Prelude.{_+_, _-_, arith}
 use Rattle.index.proofs.{Keeping.{Keeping, keeping-starts, keeping-step, keeping-ends}, Stores.{same-word}, kept.put_kept.Statement.{statement}}
 use Rattle.index.proofs.kept.put_kept.Tie as tie
 
@@ -27,9 +26,7 @@ loop-again c = keeping-step (c .before .before .before .before .before .before .
     (same-word (c .before .before .before .four-at .ensures) (c .before .before .put .ensures))
 
 pub put-kept-spec : {M : Type 1} → statement M
-put-kept-spec =
-    tie.close
-    (tie.spec
-    Inv-loop μ-loop (λ c. keeping-starts) (λ c κs. omega (arith, c .before .loop-test .taken, c .before .before .before .before .before .pre .0))
-    put-requires add-place (λ c. omega (arith, c .before .before .before .before .before .loop-test .taken)) loop-again
-    (λ c. c .before .loop .inv .left .size) (λ c. keeping-ends (c .before .loop .inv) (c .loop-test .left)))
+put-kept-spec = tie.close (tie.spec Inv-loop μ-loop (λ c. keeping-starts)
+    (λ c κs. omega (arith, c .before .loop-test .taken, c .before .before .before .before .before .pre .0)) put-requires add-place
+    (λ c. omega (arith, c .before .before .before .before .before .loop-test .taken)) loop-again (λ c. c .before .loop .inv .left .size)
+    (λ c. keeping-ends (c .before .loop .inv) (c .loop-test .left)))

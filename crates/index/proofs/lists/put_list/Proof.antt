@@ -1,7 +1,5 @@
 -- `index::lists::put_list` meets its contract. The loop's invariant is `Going`. Assumes nothing.
-use Prim.Native.Nat.{_-_}
-use native.Mathlib.Omega.{arith}
-use mathlib.Core.Path.{sym, _∙_}
+use Rattle.numbers.proofs.Prelude.{_-_, sym, _∙_, arith}
 use Rattle.index.proofs.{Listing.{Going, going-starts, going-met, going-not, going-ends}, lists.put_list.Statement.{statement}}
 use Rattle.index.proofs.lists.put_list.Tie as tie
 
@@ -34,11 +32,7 @@ loop-again-2 c = going-not (c .before .before .before .before .loop .inv) (c .be
     (sym (c .before .is-met-in .ensures) ∙ c .if1 .left)
 
 pub put-list-spec : {M : Type 1} → statement M
-put-list-spec =
-    tie.close
-    (tie.spec
-    Inv-loop μ-loop (λ c. going-starts) (λ c. omega (arith, c .loop-test .taken, c .before .before .before .pre .0)) is-met-in-requires
-    (λ c. omega (arith, in-loop c .loop-test .taken, in-loop c .before .before .before .pre .0)) put-requires
-    (λ c. omega (arith, in-loop (c .before .before .before) .loop-test .taken)) loop-again
-    (λ c. omega (arith, c .before .before .before .loop-test .taken)) loop-again-2 (λ c. c .before .loop .inv .left .size)
-    (λ c. going-ends (c .before .loop .inv) (c .loop-test .left)))
+put-list-spec = tie.close (tie.spec Inv-loop μ-loop (λ c. going-starts) (λ c. omega (arith, c .loop-test .taken, c .before .before .before .pre .0))
+    is-met-in-requires (λ c. omega (arith, in-loop c .loop-test .taken, in-loop c .before .before .before .pre .0)) put-requires
+    (λ c. omega (arith, in-loop (c .before .before .before) .loop-test .taken)) loop-again (λ c. omega (arith, c .before .before .before .loop-test .taken))
+    loop-again-2 (λ c. c .before .loop .inv .left .size) (λ c. going-ends (c .before .loop .inv) (c .loop-test .left)))

@@ -1,25 +1,17 @@
 -- `index::tiles::begins_at` meets its contract. Assumes nothing.
-use borrow.Author.Needs.{needs}
-use native.Mathlib.Omega.{arith}
+use Rattle.numbers.proofs.Prelude.{needs, arith}
 use Rattle.index.proofs.{Sides.{half-small, away-small}, tiles.begins_at.Statement.{statement}}
 use Rattle.index.proofs.tiles.begins_at.Tie as tie
 
-sub-result : tie.Need-sub-result
-sub-result c = omega (arith, c .before .power-of-two .ensures, half-small (c .before .before .args .precision) (c .before .before .pre .1))
-
 mul-result : tie.Need-mul-result
-mul-result c =
-    let args = c .before .before .args in
+mul-result c = let args = c .before .before .args in
     rw (c .side-of .ensures) (omega (arith, away-small (args .power) (args .precision) (args .i) (c .before .before .pre .1) (c .before .before .pre .2)))
 
 add-result : tie.Need-add-result
-add-result c =
-    let args = c .before .before .args in
+add-result c = let args = c .before .before .args in
     rw (c .side-of .ensures) (omega (arith, away-small (args .power) (args .precision) (args .i) (c .before .before .pre .1) (c .before .before .pre .2)))
 
 pub begins-at-spec : {M : Type 1} → statement M
-begins-at-spec =
-    tie.close
-    (tie.spec
-    (λ c. search needs) (λ c κs. search needs) (λ c κs. search needs) sub-result mul-result add-result
+begins-at-spec = tie.close (tie.spec (λ c. search needs) (λ c κs. search needs) (λ c κs. search needs)
+    (λ c. omega (arith, c .before .power-of-two .ensures, half-small (c .before .before .args .precision) (c .before .before .pre .1))) mul-result add-result
     (λ c. rw (c .side-of .ensures, c .before .power-of-two .ensures)))

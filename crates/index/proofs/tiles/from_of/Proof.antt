@@ -1,6 +1,5 @@
 -- `index::tiles::from_of` meets its contract. Assumes nothing.
-use borrow.Author.Tests.{ne-eqb, eq-eqb}
-use native.Mathlib.Omega.{arith}
+use Rattle.numbers.proofs.Prelude.{eq-eqb, ne-eqb, arith}
 use Rattle.index.specs.Tiles.{spanOf}
 use Rattle.index.proofs.tiles.from_of.Statement.{statement}
 use Rattle.index.proofs.tiles.from_of.Tie as tie

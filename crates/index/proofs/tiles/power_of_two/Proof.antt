@@ -1,8 +1,6 @@
 -- `index::tiles::power_of_two` meets its contract: nothing is shifted out. Assumes nothing.
-use borrow.Author.Needs.{needs}
-use lib.{Dec.{lit<}, Pow.{shl-exact}}
-use mathlib.Core.Path.{_∙_}
-use native.Mathlib.{Nat.{one-mul}, Omega.{arith}}
+use Rattle.numbers.proofs.Prelude.{needs, lit<, _∙_, one-mul, arith}
+use lib.Pow.{shl-exact}
 use Rattle.index.proofs.tiles.power_of_two.Statement.{statement}
 use Rattle.index.proofs.tiles.power_of_two.Tie as tie
 

@@ -1,5 +1,5 @@
 -- `index::tiles::span_of` meets its contract. Assumes nothing.
-use borrow.Author.Needs.{needs}
+use Rattle.numbers.proofs.Prelude.{needs}
 use Rattle.index.proofs.tiles.span_of.Statement.{statement}
 use Rattle.index.proofs.tiles.span_of.Tie as tie
 

@@ -1,5 +1,5 @@
 -- `index::tiles::tile_at` meets its contract. Assumes nothing.
-use native.Mathlib.Omega.{arith}
+use Rattle.numbers.proofs.Prelude.{arith}
 use Rattle.index.proofs.tiles.tile_at.Statement.{statement}
 use Rattle.index.proofs.tiles.tile_at.Tie as tie
 

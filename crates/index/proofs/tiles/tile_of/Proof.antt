@@ -1,9 +1,5 @@
 -- `index::tiles::tile_of` meets its contract: row and column of the fix's tile. Assumes nothing.
-use Prim.Native.Nat.{ℕ, _+_, _*_}
-use borrow.Author.Needs.{needs}
-use mathlib.Core.Path.{ap, _∙_}
-use mir.{Syntax.{w32}, Val.{ofZ}, ValLaws.{toZ-ofZ}}
-use native.Mathlib.Omega.{arith}
+use Rattle.numbers.proofs.Prelude.{ℕ, _+_, _*_, needs, ap, _∙_, w32, ofZ, toZ-ofZ, arith}
 use Rattle.index.proofs.{Sides.{row-few, column-few}, tiles.tile_of.Statement.{statement}}
 use Rattle.index.specs.Tiles.{lift, tileAlong}
 use Rattle.index.proofs.tiles.tile_of.Tie as tie
@@ -16,8 +12,7 @@ mul-result : tie.Need-mul-result
 mul-result c = omega (arith, c .before .before .before .before .tile-along .ensures, row-few (at-lift c .before .before .before .before .before .args .precision) (at-lift c .lift .result))
 
 add-result : tie.Need-add-result
-add-result c =
-    let args = at-lift c .before .before .before .before .before .args in
+add-result c = let args = at-lift c .before .before .before .before .before .args in
     omega (
       arith,
       c .before .before .before .before .tile-along .ensures,
@@ -27,8 +22,7 @@ add-result c =
     )
 
 returns : tie.Need-returns
-returns c =
-    let fix = at-lift c .before .before .before .before .before .args .fix in let above = at-lift c .before .before .struct-told .given in
+returns c = let fix = at-lift c .before .before .before .before .before .args .fix in let above = at-lift c .before .before .struct-told .given in
     let beside = c .before .before .before .struct-told2 .given in
     let lat = at-lift c .before .word-of .ensures ∙ ap (ofZ w32) (toZ-ofZ w32 (fix .lat .0) (search needs)) in
     let lon = c .before .before .word-of2 .ensures ∙ ap (ofZ w32) (toZ-ofZ w32 (fix .lon .0) (search needs)) in
@@ -46,8 +40,5 @@ returns c =
     )
 
 pub tile-of-spec : {M : Type 1} → statement M
-tile-of-spec =
-    tie.close
-    (tie.spec
-    (λ c κs. search needs) (λ c κs. search needs) (λ c κs. search needs) (λ c κs. search needs) (λ c κs. search needs) (λ c κs. search needs)
-    mul-result add-result returns)
+tile-of-spec = tie.close (tie.spec (λ c κs. search needs) (λ c κs. search needs) (λ c κs. search needs) (λ c κs. search needs) (λ c κs. search needs)
+    (λ c κs. search needs) mul-result add-result returns)

@@ -1,7 +1,5 @@
 -- `line::bytes::byte_at` meets its contract. Assumes nothing.
-use borrow.Author.Needs.{needs}
-use lib.ListN.{List·getD-eq-default}
-use mathlib.Core.Path.{sym}
+use Rattle.numbers.proofs.Prelude.{needs, List·getD-eq-default, sym}
 use Rattle.line.proofs.bytes.byte_at.Statement.{statement}
 use Rattle.line.proofs.bytes.byte_at.Tie as tie
 

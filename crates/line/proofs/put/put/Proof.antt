@@ -1,23 +1,9 @@
 -- `line::put::put` meets its contract. Assumes nothing.
-use borrow.Author.Needs.{needs}
-use native.Mathlib.Omega.{arith}
+use Rattle.numbers.proofs.Prelude.{needs, arith}
 use Rattle.line.proofs.{Puts.{put-past, put-far}, put.put.Statement.{statement}}
 use Rattle.line.proofs.put.put.Tie as tie
 
-returns-2 : tie.Need-returns-2
-returns-2 c = put-past _ _ _ (c .before .if1 .left) (omega (arith, c .if2 .taken))
-
-returns-3 : tie.Need-returns-3
-returns-3 c = put-far _ _ _ (c .before .if1 .left) (omega (arith, c .if2 .left))
-
 pub put-spec : {M : Type 1} → statement M
-put-spec =
-    tie.close
-    (tie.spec
-    (λ c. search needs)
-    (λ c. search needs)
-    (λ c. search needs)
-    (λ c. record { place-after = omega (arith, c .if1 .taken); stored = search needs })
-    (λ c. search needs)
-    returns-2
-    returns-3)
+put-spec = tie.close (tie.spec (λ c. search needs) (λ c. search needs) (λ c. search needs)
+    (λ c. record { place-after = omega (arith, c .if1 .taken); stored = search needs }) (λ c. search needs)
+    (λ c. put-past _ _ _ (c .before .if1 .left) (omega (arith, c .if2 .taken))) (λ c. put-far _ _ _ (c .before .if1 .left) (omega (arith, c .if2 .left))))

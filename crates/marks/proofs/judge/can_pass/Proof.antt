@@ -1,6 +1,5 @@
 -- `marks::judge::can_pass` meets its contract, by its tests. Assumes nothing.
-use borrow.Author.Needs.{needs}
-use mathlib.Core.Path.{sym, _∙_}
+use Rattle.numbers.proofs.Prelude.{needs, sym, _∙_}
 use Rattle.marks.proofs.judge.can_pass.Statement.{statement}
 use Rattle.marks.specs.Judging.{canPass}
 use Rattle.marks.proofs.judge.can_pass.Tie as tie

@@ -1,5 +1,5 @@
 -- `marks::judge::few_of` meets its contract. Assumes nothing.
-use native.Mathlib.Omega.{arith}
+use Rattle.numbers.proofs.Prelude.{arith}
 use Rattle.marks.proofs.judge.few_of.Statement.{statement}
 use Rattle.marks.specs.Marks.{groupWide}
 use Rattle.marks.proofs.judge.few_of.Tie as tie

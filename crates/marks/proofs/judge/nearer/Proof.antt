@@ -1,15 +1,12 @@
 -- `marks::judge::nearer` meets its contract, by the distance. Assumes nothing.
-use borrow.Author.Needs.{needs}
-use borrow.Author.Tests.{lt-ltb, le-ltb}
-use native.Mathlib.Omega.{arith}
+use Rattle.numbers.proofs.Prelude.{needs, lt-ltb, le-ltb, arith}
 use Rattle.marks.proofs.judge.nearer.Statement.{statement}
 use Rattle.marks.specs.Judging.{nearerBy}
 use Rattle.marks.proofs.judge.nearer.Tie as tie
 
 returns : tie.Need-returns
 unfolding nearerBy
-returns c =
-    rw (← c .before .before .to-vertex .ensures, c .enum-told .given .1)
+returns c = rw (← c .before .before .to-vertex .ensures, c .enum-told .given .1)
 
 returns-2 : tie.Need-returns-2
 unfolding nearerBy
@@ -32,13 +29,4 @@ returns-3 c =
     )
 
 pub nearer-spec : {M : Type 1} → statement M
-nearer-spec =
-    tie.close
-    (tie.spec
-    (λ c κs. search needs)
-    (λ c. search needs)
-    (λ c. search needs)
-    returns
-    (λ c. search needs)
-    returns-2
-    returns-3)
+nearer-spec = tie.close (tie.spec (λ c κs. search needs) (λ c. search needs) (λ c. search needs) returns (λ c. search needs) returns-2 returns-3)

@@ -1,36 +1,20 @@
 -- `marks::judge::pass_group` meets its contract, by whether it may be passed as its one edge. Assumes nothing.
-use borrow.Author.Needs.{needs}
-use denote.Ref.{now}
+use Rattle.numbers.proofs.Prelude.{needs, now}
 use Rattle.marks.proofs.judge.{Turns.{stretch-passed, stretch-entered}, pass_group.Statement.{statement}}
 use Rattle.marks.specs.Judging.{stretchesBy}
 use Rattle.marks.proofs.judge.pass_group.Tie as tie
 
 returns : tie.Need-returns
-returns c =
-    let a = c .before .before .before .before .before .before .args in
-    let is-passed = c .before .before .before .is-passed in
+returns c = let a = c .before .before .before .before .before .before .args in let is-passed = c .before .before .before .is-passed in
     let if1 = c .before .before .if1 in
-    stretch-passed (now (a .file)) (a .encoding) (a .fix) (a .asked) (now (a .words)) (a .first) (a .at) (a .to)
-    (stretchesBy (now (a .file)) (a .encoding) (a .fix) (a .asked) (now (a .words)) (a .first) (a .few) (a .fine) (a .to))
-    (a .tally) (is-passed .ensures) (if1 .taken) (c .before .point-at .ensures) (c .leap .ensures)
+    stretch-passed (now (a .file)) (a .encoding) (a .fix) (a .asked) (now (a .words)) (a .first) (a .at) (a .to) (stretchesBy (now (a .file)) (a .encoding)
+    (a .fix) (a .asked) (now (a .words)) (a .first) (a .few) (a .fine) (a .to)) (a .tally) (is-passed .ensures) (if1 .taken) (c .before .point-at .ensures) (c .leap .ensures)
 
 returns-2 : tie.Need-returns-2
-returns-2 c =
-    let a = c .before .before .before .before .before .args in
-    let is-passed = c .before .before .is-passed in
-    let if1 = c .before .if1 in
-    stretch-entered (now (a .file)) (a .encoding) (a .fix) (a .asked) (now (a .words)) (a .first) (a .at) (a .to)
-    (stretchesBy (now (a .file)) (a .encoding) (a .fix) (a .asked) (now (a .words)) (a .first) (a .few) (a .fine) (a .to))
-    (a .tally) (is-passed .ensures) (if1 .left) (c .pass-stretches .ensures)
+returns-2 c = let a = c .before .before .before .before .before .args in let is-passed = c .before .before .is-passed in let if1 = c .before .if1 in
+    stretch-entered (now (a .file)) (a .encoding) (a .fix) (a .asked) (now (a .words)) (a .first) (a .at) (a .to) (stretchesBy (now (a .file)) (a .encoding)
+    (a .fix) (a .asked) (now (a .words)) (a .first) (a .few) (a .fine) (a .to)) (a .tally) (is-passed .ensures) (if1 .left) (c .pass-stretches .ensures)
 
 pub pass-group-spec : {M : Type 1} → statement M
-pass-group-spec =
-    tie.close
-    (tie.spec
-    (λ c κs. search needs)
-    (λ c. search needs)
-    (λ c κs. search needs)
-    (λ c κs. search needs)
-    returns
-    (λ c κs. search needs)
+pass-group-spec = tie.close (tie.spec (λ c κs. search needs) (λ c. search needs) (λ c κs. search needs) (λ c κs. search needs) returns (λ c κs. search needs)
     returns-2)

@@ -1,14 +1,9 @@
 -- `marks::judge::pass_stretches` meets its contract. The loop's invariant: what is left, passed from where it has come to, is what the whole gives. Assumes nothing.
-use Prim.Native.Nat.{_+_, _*_, _-_, _≤_}
-use borrow.Author.Needs.{needs}
-use denote.Ref.{now}
-use lib.ListN.{length}
-use mathlib.Core.Path.{_≡_, refl, sym, ap, _∙_}
-use native.Mathlib.Omega.{arith}
-use Rattle.marks.proofs.judge.{Turns.{stays-stopped, stretches-done, stretches-next}, pass_stretches.Statement.{statement}}
+use Rattle.numbers.proofs.Prelude.{_+_, _-_, _*_, _≤_, needs, now, length, _≡_, refl, ap, _∙_, arith}
+use Rattle.marks.proofs.judge.{Turns.{stretches-done, stretches-next}, pass_stretches.Statement.{statement}}
 use Rattle.marks.specs.Judging.{stretchBy, pointsBy, stretchesBy}
 use Rattle.border.specs.declared.place.Point.{Point}
-use Rattle.verdict.specs.{Step.{Step, told, _>>=_}, declared.step.{Passed.{Passed}, Tally.{Tally}}}
+use Rattle.verdict.{proofs.winding.Cases.{stays}, specs.{Step.{Step, told, _>>=_}, declared.step.Tally.{Tally}}}
 use Rattle.marks.proofs.judge.pass_stretches.Tie as tie
 
 abbrev Inv-loop : tie.InvT-loop
@@ -18,73 +13,30 @@ Inv-loop file encoding fix asked words first count place end left₀ at₀ count
 abbrev μ-loop : tie.MeasureT-loop
 μ-loop file encoding fix asked words first count place end left₀ at₀ counted₀ left at counted = left
 
-end-at-requires : tie.Need-end-at-requires Inv-loop μ-loop
-end-at-requires c κs = omega (arith, c .before .loop .inv .1, c .loop-test .taken)
-
-pass-stretch-requires : tie.Need-pass-stretch-requires Inv-loop μ-loop
-pass-stretch-requires c κs =
-    let loop = c .before .before .loop in
-    let loop-test = c .before .loop-test in
-    omega (arith, loop .inv .1, loop-test .taken)
-
 -- the stretch that was passed, followed by the others
-stepped : (c : tie.After-pass-stretch Inv-loop μ-loop) →
-    let a = c .before .before .before .before .before .before .args in
-    let l = c .before .before .before .loop in
-    (told (c .pass-stretch .result) >>= stretchesBy (now (a .file)) (a .encoding) (a .fix) (a .asked) (now (a .words)) (a .first) (l .left - 1) (l .at + 11) (a .end))
-    ≡ stretchesBy (now (a .file)) (a .encoding) (a .fix) (a .asked) (now (a .words)) (a .first) (a .count) (a .place) (a .end) (a .tally)
-stepped c =
-    let a = c .before .before .before .before .before .before .args in
-    let l = c .before .before .before .loop in
-    let end-at = c .before .end-at in
+stepped : (c : tie.After-pass-stretch Inv-loop μ-loop) → let a = c .before .before .before .before .before .before .args in let l = c .before .before .before .loop in
+    (told (c .pass-stretch .result) >>= stretchesBy (now (a .file)) (a .encoding) (a .fix) (a .asked) (now (a .words)) (a .first) (l .left - 1) (l .at + 11)
+    (a .end)) ≡ stretchesBy (now (a .file)) (a .encoding) (a .fix) (a .asked) (now (a .words)) (a .first) (a .count) (a .place) (a .end) (a .tally)
+stepped c = let a = c .before .before .before .before .before .before .args in let l = c .before .before .before .loop in let end-at = c .before .end-at in
     let loop-test = c .before .before .loop-test in
-    let end-at = end-at in
-    let loop-test = loop-test in
     let rest = stretchesBy (now (a .file)) (a .encoding) (a .fix) (a .asked) (now (a .words)) (a .first) (l .left - 1) (l .at + 11) (a .end) in
-    ap (λ (m : Step Tally). m >>= rest) (c .pass-stretch .ensures)
-    ∙ ap (λ (to : Point). stretchBy (now (a .file)) (a .encoding) (a .fix) (a .asked) (now (a .words)) (a .first) (l .at) to
-    (pointsBy (now (a .file)) (a .encoding) (a .fix) (a .asked) (now (a .words)) (a .first) (l .at)) (l .counted) >>= rest) (end-at .ensures)
-    ∙ stretches-next (now (a .file)) (a .encoding) (a .fix) (a .asked) (now (a .words)) (a .first) (l .left) (l .at) (a .end) (l .counted) (loop-test .taken)
-    ∙ l .inv .0
-
-returns : tie.Need-returns Inv-loop μ-loop
-returns c = stays-stopped (c .before .pass-stretch .result) _ (c .match .keys2) ∙ stepped (c .before)
+    ap (λ (m : Step Tally). m >>= rest) (c .pass-stretch .ensures) ∙ ap (λ (to : Point). stretchBy (now (a .file)) (a .encoding) (a .fix) (a .asked)
+    (now (a .words)) (a .first) (l .at) to (pointsBy (now (a .file)) (a .encoding) (a .fix) (a .asked) (now (a .words)) (a .first) (l .at)) (l .counted) >>= rest)
+    (end-at .ensures) ∙ stretches-next (now (a .file)) (a .encoding) (a .fix) (a .asked) (now (a .words)) (a .first) (l .left) (l .at) (a .end) (l .counted) (loop-test .taken) ∙ l .inv .0
 
 loop-again : tie.Need-loop-again Inv-loop μ-loop
-loop-again c =
-    let passed = c .before .passed in
-    let loop = c .before .before .before .before .before .before .loop in
+loop-again c = let passed = c .before .passed in let loop = c .before .before .before .before .before .before .loop in
     let loop-test = c .before .before .before .before .before .loop-test in
     (rw (passed .given .1) at (stepped (c .before .before .before)), omega (arith, loop .inv .1, loop-test .taken))
 
-returns-2 : tie.Need-returns-2 Inv-loop μ-loop
-returns-2 c = stretches-done _ _ _ _ _ _ _ _ _ _ (omega (arith, c .loop-test .left)) ∙ c .before .loop .inv .0
-
 add-at : tie.Need-add-at Inv-loop μ-loop
-add-at c =
-    let loop = c .before .before .before .before .before .before .loop in
-    let loop-test = c .before .before .before .before .before .loop-test in
-    let pre = c .before .before .before .before .before .before .before .before .before .pre in
-    omega (arith, loop .inv .1, loop-test .taken, pre)
-
-loop-less : tie.Need-loop-less Inv-loop μ-loop
-loop-less c =
-    let loop-test = c .before .before .before .before .before .loop-test in
-    omega (arith, loop-test .taken)
+add-at c = let loop = c .before .before .before .before .before .before .loop in let loop-test = c .before .before .before .before .before .loop-test in
+    let pre = c .before .before .before .before .before .before .before .before .before .pre in omega (arith, loop .inv .1, loop-test .taken, pre)
 
 pub pass-stretches-spec : {M : Type 1} → statement M
-pass-stretches-spec =
-    tie.close
-    (tie.spec
-    Inv-loop
-    μ-loop
-    (λ c. (refl, c .before .before .pre))
-    (λ c. search needs)
-    end-at-requires
-    pass-stretch-requires
-    (λ c. search needs)
-    returns
-    add-at
-    loop-less
-    loop-again
-    returns-2)
+pass-stretches-spec = tie.close (tie.spec Inv-loop μ-loop (λ c. (refl, c .before .before .pre)) (λ c. search needs)
+    (λ c κs. omega (arith, c .before .loop .inv .1, c .loop-test .taken))
+    (λ c κs. let loop = c .before .before .loop in let loop-test = c .before .loop-test in omega (arith, loop .inv .1, loop-test .taken)) (λ c. search needs)
+    (λ c. stays (c .before .pass-stretch .result) _ (c .match .keys2) ∙ stepped (c .before)) add-at
+    (λ c. let loop-test = c .before .before .before .before .before .loop-test in omega (arith, loop-test .taken)) loop-again
+    (λ c. stretches-done _ _ _ _ _ _ _ _ _ _ (omega (arith, c .loop-test .left)) ∙ c .before .loop .inv .0))

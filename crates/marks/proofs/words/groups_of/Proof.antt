@@ -1,6 +1,5 @@
 -- `marks::words::groups_of` meets its contract. Assumes nothing.
-use borrow.Author.Needs.{needs}
-use native.Mathlib.Omega.{arith}
+use Rattle.numbers.proofs.Prelude.{needs, arith}
 use Rattle.marks.proofs.words.groups_of.Statement.{statement}
 use Rattle.marks.specs.Marks.{groupsOf}
 use Rattle.marks.proofs.words.groups_of.Tie as tie

@@ -1,5 +1,5 @@
 -- `marks::words::run_of` meets its contract, by the tests that led to each answer. Assumes nothing.
-use borrow.Author.Tests.{eq-eqb, ne-eqb}
+use Rattle.numbers.proofs.Prelude.{eq-eqb, ne-eqb}
 use Rattle.marks.proofs.words.run_of.Statement.{statement}
 use Rattle.marks.specs.Words.{runOf}
 use Rattle.marks.proofs.words.run_of.Tie as tie

@@ -1,9 +1,6 @@
 -- The entries of yards as they came, and the neighbours that one more has in the table.
-use Prim.Native.Nat.{ℕ, zero, suc, _+_, _*_, _≤_, _<_}
-use lib.{IntN.{ℤ, pos}, ListN.{getD, length}}
-use mathlib.Core.{List.{List, map}, Option.{Option, none, some}, Path.{_≡_}}
-use Rattle.builder.specs.{Entries.{Entry, boundsAt, entryAt, entryBytes, fromSouth}, declared.entry.Places.{Places}}
-use Rattle.builder.specs.Grouping.Keys.{numbersFrom}
+use Rattle.numbers.specs.Prelude.{ℕ, zero, suc, _+_, _*_, _≤_, _<_, ℤ, pos, length, getD, List, map, Option, some, none, _≡_}
+use Rattle.builder.specs.{Entries.{Entry, boundsAt, entryAt, entryBytes, fromSouth}, Grouping.Keys.{numbersFrom}, declared.entry.Places.{Places}}
 use Rattle.draft.proofs.held.Inserted.{lowIn, highIn}
 use Rattle.layout.specs.Order.{sortedBy}
 

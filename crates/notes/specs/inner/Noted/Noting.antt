@@ -1,10 +1,7 @@
 -- What the functions that note a builder's yards say. Notes may be forged: they speak of notes that were right.
-use Prim.Native.Nat.{ℕ, _+_, _*_, _≤_, _<_}
-use lib.ListN.{length}
-use mathlib.Core.{Bool.{Bool, true}, List.{List}, Path.{_≡_}}
-use Rattle.builder.specs.Yards.{sumOf}
+use Rattle.numbers.specs.Prelude.{ℕ, _+_, _*_, _≤_, _<_, length, Bool, true, List, _≡_}
+use Rattle.builder.specs.{Grouping.Items.{startsFrom}, Yards.{sumOf}}
 use Rattle.notes.specs.Chains.{Chains.{Chained, ItemsInside}, Entered.{bucketOf, Indexed}}
-use Rattle.builder.specs.Grouping.Items.{startsFrom}
 
 -- chains of single values up to a yard's are chains with the first so many of its values, where these count as entered
 abbrev pub EntersAll : ℕ → ℕ → List ℕ → List ℕ → List ℕ → List ℕ → ℕ → Type 0

@@ -1,7 +1,5 @@
 -- What one more yard does, whose record takes so many bytes more and begins there.
-use Prim.Native.Nat.{ℕ, _+_}
-use lib.ListN.{length}
-use mathlib.Core.{Bool.{true}, List.{List, [], _∷_, _++_, map}, Path.{_≡_}}
+use Rattle.numbers.specs.Prelude.{ℕ, _+_, length, true, List, [], _∷_, _++_, map, _≡_}
 use Rattle.builder.specs.{Metadata.{layoutOf, metadataOf, recordsOf}, Sharing.{sameTexts, isIn}, Yards.{Yard}}
 use Rattle.notes.specs.Noted.Records.{fieldsIn, beginIn}
 

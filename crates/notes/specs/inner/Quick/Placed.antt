@@ -1,14 +1,9 @@
 -- Where the record of a yard more begins, and what it adds, by the notes of the yards before it.
-use Prim.Native.Nat.{ℕ, _*_, _≤_}
-use lib.ListN.{length, take}
-use mathlib.Core.{List.{List, flatMap, map}, Path.{_≡_}}
-use Rattle.builder.specs.{Metadata.{inlined, layoutOf, remotes}, Yards.{Yard}}
-use Rattle.notes.specs.Chains.{Chains.{Chained}, Entered.{bucketOf, isFirst}}
-use Rattle.builder.specs.Grouping.Items.{itemAt}
-use Rattle.build.specs.Metadata.Kept.{valuesTo}
-use Rattle.notes.specs.{inner.Noted.OneMore.{OneMore}, Noted.Records.{fieldsIn, beginIn}}
+use Rattle.numbers.specs.Prelude.{ℕ, _*_, _≤_, length, take, List, map, flatMap, _≡_}
+use Rattle.builder.specs.{Grouping.Items.{itemAt}, Metadata.{inlined, layoutOf, remotes}, Yards.{Yard}}
+use Rattle.notes.specs.{Chains.{Chains.{Chained}, Entered.{bucketOf, isFirst}}, Noted.Records.{fieldsIn, beginIn}, declared.quick.place.Placing.{Placing}, inner.Noted.OneMore.{OneMore}}
 use Rattle.notes.specs.inner.Weighed.Weighing.{Noted}
-use Rattle.notes.specs.declared.quick.place.Placing.{Placing}
+use Rattle.build.specs.Metadata.Kept.{valuesTo}
 use Rattle.notes.specs.declared.quick.place.Placing.the-variants as P
 
 -- some yards and one more by their values, the notes of the fields, and the lengths of the records and of the texts behind them without that one

@@ -1,17 +1,13 @@
 -- What a yard more makes of the totals of those that are held, where its step is sure: no other record changes.
-use Prim.Native.Nat.{ℕ, _+_, _*_, _≤_, _<_}
-use lib.{IntN.{ℤ}, ListN.{length, take}}
-use mathlib.Core.{List.{List, [], _∷_, _++_, map}, Path.{_≡_}}
-use Rattle.builder.specs.{Borders.{Drawn}, Metadata.{layoutOf}, Yards.{Yard}}
-use Rattle.notes.specs.Chains.Entered.{Indexed}
-use Rattle.builder.specs.Grouping.Items.{startsFrom}
+use Rattle.numbers.specs.Prelude.{ℕ, _+_, _*_, _≤_, _<_, ℤ, length, take, List, [], _∷_, _++_, map, _≡_}
+use Rattle.builder.specs.{Borders.{Drawn}, Grouping.Items.{startsFrom}, Metadata.{layoutOf}, Yards.{Yard}}
+use Rattle.notes.specs.{Chains.Entered.{Indexed}, Noted.Records.{fieldsIn, beginIn}, declared.quick.step.{Numbers.{Numbers}, Stepped.{Stepped}, Sureness.{Sureness}}}
 use Rattle.draft.specs.Held.{State.{Stands}, Totals.{totalsFor}}
-use Rattle.notes.specs.Noted.Records.{fieldsIn, beginIn}
-use Rattle.notes.specs.declared.quick.step.{Numbers.{Numbers}, Stepped.{Stepped}, Sureness.{Sureness}}
 use Rattle.notes.specs.declared.quick.step.Sureness.the-variants as S
 
 -- some yards and one more, as they lie in a builder's lists; the totals of the yards without that one, and what is noted of them
-pub record Stepping (yards : List Yard) (y : Yard) (drawn drawn′ : Drawn) (names count : ℕ) (numbers : Numbers) (boxes : List ℤ) (borders lengths starts texts chains groups begins : List ℕ) : Type 0 where
+pub record Stepping (yards : List Yard) (y : Yard) (drawn drawn′ : Drawn) (names count : ℕ) (numbers : Numbers) (boxes : List ℤ)
+    (borders lengths starts texts chains groups begins : List ℕ) : Type 0 where
   pub many : count ≡ length yards
   pub stands : Stands (yards ++ (y ∷ [])) drawn′ names (count + 1) boxes borders lengths texts
   pub place : ℕ

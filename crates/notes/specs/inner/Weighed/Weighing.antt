@@ -1,14 +1,11 @@
 -- What the functions that weigh a new record say.
-use Prim.Native.Nat.{ℕ, _+_, _-_, _*_, _^_, _≤_, _<_}
-use lib.ListN.{length}
-use mathlib.Core.{List.{List, [], _∷_}, Path.{_≡_}}
-use Rattle.builder.specs.Yards.{Text, sumOf}
-use Rattle.notes.specs.Chains.{Chains.{Chained}, Entered.{bucketOf, isField}}
-use Rattle.builder.specs.Grouping.Items.{startsFrom, textAt, itemAt}
+use Rattle.numbers.specs.Prelude.{ℕ, _+_, _-_, _*_, _^_, _≤_, _<_, length, List, [], _∷_, _≡_}
+use Rattle.builder.specs.{Grouping.Items.{startsFrom, textAt, itemAt}, Yards.{Text, sumOf}}
+use Rattle.notes.specs.{Chains.{Chains.{Chained}, Entered.{bucketOf, isField}}, declared.weighed.weigh.Weight.{Weight, the-variants.{Takes, Unsure}}}
+use Rattle.notes.specs.inner.Weighed.Weights.{Weight as Known, weightOf}
 use Rattle.draft.proofs.held.Sure.{Sure}
 use Rattle.layout.proofs.Everyone.{Every}
 use Rattle.build.specs.Metadata.Kept.{fieldsTo}
-use Rattle.notes.specs.{inner.Weighed.Weights.{Weight as Known, weightOf}, declared.weighed.weigh.Weight.{Weight, the-variants.{Takes, Unsure}}}
 
 -- where the values of some yards and of one more begin, and the chains of the fields of these yards without that one
 pub record Noted (names count : ℕ) (lengths starts texts chains : List ℕ) : Type 0 where

@@ -1,9 +1,6 @@
 -- A value of a new record that changes no other record: it is empty, stands behind the records already, or was met neither among the held values nor before it in its own record.
-use Prim.Native.Nat.{ℕ}
-use lib.ListN.{length}
-use mathlib.Core.{Bool.{true, false}, List.{List, [], _∷_, _++_}, Path.{_≡_}}
+use Rattle.numbers.specs.{Answer.{if_then_else_}, Prelude.{ℕ, length, true, false, List, [], _∷_, _++_, _≡_}}
 use Rattle.builder.specs.{Metadata.{inlined, isRemote}, Sharing.{sameText, isIn}, Yards.{Text}}
-use Rattle.numbers.specs.Answer.{if_then_else_}
 
 module _ (fields values : List Text) where
   pub data Weight (seen : List Text) (t : Text) : Type 0 where

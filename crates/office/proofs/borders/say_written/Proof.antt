@@ -1,29 +1,12 @@
-use mathlib.Core.Path.{ap, sym, _∙_}
+use Rattle.numbers.{proofs.{Prelude.{needs, sym, ap, _∙_}, Saying.{said-given, said-refused}}, specs.Reply.{refused}}
 use Rattle.writer.specs.{Writer.{told}, declared.write.Written.{Written}}
-use Rattle.numbers.specs.Reply.{refused}
-use Rattle.uskelzar.proofs.Saying.{said-given, said-refused}
 use Rattle.office.proofs.borders.say_written.Statement.{statement}
 use Rattle.office.specs.Written.{lengthValue}
-use borrow.Author.Needs.{needs}
 use Rattle.office.proofs.borders.say_written.Tie as tie
-use Rattle.office.proofs.borders.say_written.Reads as reads
-use Rattle.office.proofs.borders.say_written.Lts as lts
-use Rattle.uskelzar.proofs.say_refused.Reads as say-refused-reads
-use Rattle.numbers.proofs.refusal.refuse.Reads as refuse-reads
-
-returns : tie.Need-returns
-returns c = said-given lengthValue (ap (λ (w : Written). told w) (c .before .written .given .1))
 
 returns-2 : tie.Need-returns-2
 returns-2 c = said-refused lengthValue (c .say-refused .ensures) (ap (λ (w : Written). told w) (c .before .before .before .written2 .given .1) ∙ ap refused (sym (c .before .refuse .ensures)))
 
 pub say-written-spec : {M : Type 1} → statement M
-say-written-spec =
-    tie.close
-    (tie.spec
-    (λ c. search needs)
-    (λ c. search needs)
-    (λ c κs. search needs)
-    (λ c κs. search needs)
-    returns
-    returns-2)
+say-written-spec = tie.close (tie.spec (λ c. search needs) (λ c. search needs) (λ c κs. search needs) (λ c κs. search needs)
+    (λ c. said-given lengthValue (ap (λ (w : Written). told w) (c .before .written .given .1))) returns-2)

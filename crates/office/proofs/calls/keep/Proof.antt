@@ -1,11 +1,7 @@
-use borrow.Author.Needs.{needs}
-use mathlib.Core.Path.{refl}
-use Rattle.office.proofs.Drafts.{kept-into, kept-refused}
-use Rattle.office.proofs.calls.keep.Statement.{statement}
+use Rattle.numbers.proofs.Prelude.{needs, refl}
+use Rattle.office.proofs.{Drafts.{kept-into, kept-refused}, calls.keep.Statement.{statement}}
 use Rattle.office.proofs.calls.keep.Tie as tie
-use Rattle.office.proofs.calls.keep.Reads as reads
-use Rattle.office.proofs.calls.keep.Lts as lts
-use Rattle.office.proofs.calls.words_of.Reads as words-of-reads
 
 pub keep-spec : {M : Type 1} → statement M
-keep-spec = tie.close (tie.spec (λ c. search needs) (λ c κs. search needs) (λ c. search needs) (λ c. kept-into _ _ _ (c .before .before .changed .given .1) (c .words-of .ensures)) (λ c. kept-refused _ _ _ (c .enum-told .given .1) refl))
+keep-spec = tie.close (tie.spec (λ c. search needs) (λ c κs. search needs) (λ c. search needs)
+    (λ c. kept-into _ _ _ (c .before .before .changed .given .1) (c .words-of .ensures)) (λ c. kept-refused _ _ _ (c .enum-told .given .1) refl))

@@ -1,4 +1,4 @@
-use borrow.Author.Needs.{needs}
+use Rattle.numbers.proofs.Prelude.{needs}
 use Rattle.office.specs.Draft.{notedIn}
 use Rattle.office.proofs.calls.noted_of.Statement.{statement}
 use Rattle.office.proofs.calls.noted_of.Tie as tie

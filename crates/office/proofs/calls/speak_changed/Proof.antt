@@ -1,13 +1,6 @@
-use borrow.Author.Needs.{needs}
-use mathlib.Core.Path.{ap, _∙_}
-use Rattle.uskelzar.specs.Spoken.{Spoken}
+use Rattle.numbers.{proofs.Prelude.{needs, ap, _∙_}, specs.Spoken.{Spoken}}
 use Rattle.office.proofs.calls.speak_changed.Statement.{statement}
 use Rattle.office.proofs.calls.speak_changed.Tie as tie
-use Rattle.office.proofs.calls.speak_changed.Reads as reads
-use Rattle.office.proofs.calls.speak_changed.Lts as lts
-use Rattle.office.proofs.calls.keep.Reads as keep-reads
-use Rattle.office.proofs.calls.say_changed.Reads as say-changed-reads
-use Rattle.uskelzar.proofs.speak.Reads as speak-reads
 
 returns : tie.Need-returns
 returns c = record { said = ap (λ (s : Spoken). s .said) (c .speak .ensures) ∙ c .before .before .say-changed .ensures; kept = c .before .before .before .keep .ensures }

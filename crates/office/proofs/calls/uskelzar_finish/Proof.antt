@@ -1,32 +1,18 @@
 -- `office::calls::uskelzar_finish` meets its contract. Assumes nothing.
-use borrow.Author.Needs.{needs}
-use mathlib.Core.Path.{ap, _∙_}
+use Rattle.numbers.{proofs.Prelude.{needs, ap, _∙_}, specs.Spoken.{Spoken}}
 use Rattle.office.proofs.{Drafts.{ends}, calls.uskelzar_finish.Statement.{statement}}
-use Rattle.uskelzar.specs.Spoken.{Spoken}
 use Rattle.office.proofs.calls.uskelzar_finish.Tie as tie
 
 returns : tie.Need-returns
 returns c =
     let finish = c .before .before .before .before .before .before .before .before .before .before .before .before .before .before .before .before .before .before .before .finish in
-    let state-of = c .before .before .before .before .before .before .before .before .before .before .before .before .before .before .before .before .before .before .before .before .before .before .before .before .before .before .before .before .state-of in (
-      ends (finish .result) (state-of .ensures) (record { answers = finish .ensures .0; broken = finish .ensures .1; emptied = finish .ensures .2 }) (ap (λ (s : Spoken). s .said) (c .speak .ensures) ∙ c .before .before .say-built .ensures),
+    let state-of = c .before .before .before .before .before .before .before .before .before .before .before .before .before .before .before .before .before .before .before .before .before
+    .before .before .before .before .before .before .before .state-of in (
+      ends (finish .result) (state-of .ensures) (record { answers = finish .ensures .0; broken = finish .ensures .1; emptied = finish .ensures .2 })
+          (ap (λ (s : Spoken). s .said) (c .speak .ensures) ∙ c .before .before .say-built .ensures),
       finish .ensures .3,
     )
 
 pub uskelzar-finish-spec : {M : Type 1} → statement M
-uskelzar-finish-spec =
-    tie.close
-    (tie.spec
-    (λ c κs. search needs)
-    (λ c κs. search needs)
-    (λ c κs. search needs)
-    (λ c κs. search needs)
-    (λ c. search needs)
-    (λ c. search needs)
-    (λ c. search needs)
-    (λ c. search needs)
-    (λ c. search needs)
-    (λ c. search needs)
-    (λ c. search needs)
-    (λ c. search needs)
-    returns)
+uskelzar-finish-spec = tie.close (tie.spec (λ c κs. search needs) (λ c κs. search needs) (λ c κs. search needs) (λ c κs. search needs) (λ c. search needs)
+    (λ c. search needs) (λ c. search needs) (λ c. search needs) (λ c. search needs) (λ c. search needs) (λ c. search needs) (λ c. search needs) returns)

@@ -1,9 +1,6 @@
 -- A salvaged file as it is read: its header, and the rows of its table.
-use Prim.Native.Nat.{ℕ, _+_}
-use mathlib.Core.{Bool.{Bool}, List.{List, [], _∷_, _++_, flatMap}}
-use lib.ListN.{length, take}
+use Rattle.numbers.specs.{Prelude.{ℕ, _+_, length, take, Bool, List, [], _∷_, _++_, flatMap}, Spelling.{varintOf}}
 use Rattle.header.specs.declared.header.Head.{Head}
-use Rattle.numbers.specs.Spelling.{varintOf}
 use Rattle.salvage.specs.File.{borderBytes, entryBytes, tableFrom, metadataOf}
 use Rattle.table.specs.declared.rows.Row.{Row}
 
@@ -11,7 +8,8 @@ module _ (file : List ℕ) (head : Head) where
   -- where the table begins: behind the header and the three sizes
   unfoldable pub tablePlace : List ℕ → List Row → ℕ
   tablePlace texts kept =
-      length (take 7 file ++ texts) + length (varintOf (length (tableFrom file head 0 0 kept))) + length (varintOf (length (metadataOf file head))) + length (varintOf (length (flatMap (borderBytes file head) kept)))
+      length (take 7 file ++ texts) + length (varintOf (length (tableFrom file head 0 0 kept)))
+      + length (varintOf (length (metadataOf file head))) + length (varintOf (length (flatMap (borderBytes file head) kept)))
 
   -- the header, read plainly or strictly: type, version, precision and the number of names stay
   unfoldable pub newHead : Bool → List ℕ → List Row → Head

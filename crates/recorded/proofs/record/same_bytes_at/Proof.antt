@@ -1,7 +1,5 @@
 -- `recorded::record::same_bytes_at` is safe and ends. Assumes nothing.
-use Prim.Native.Nat.{_-_, _≤_}
-use lib.ListN.{length}
-use native.Mathlib.Omega.{arith}
+use Rattle.numbers.proofs.Prelude.{_-_, _≤_, length, arith}
 use Rattle.recorded.proofs.record.same_bytes_at.Statement.{statement}
 use Rattle.recorded.proofs.record.same_bytes_at.Tie as tie
 
@@ -12,17 +10,5 @@ abbrev μ-loop : tie.MeasureT-loop
 μ-loop bytes «record» from i₀ i = length bytes - i
 
 pub same-bytes-at-spec : {M : Type 1} → statement M
-same-bytes-at-spec =
-    tie.close
-    (tie.spec
-    Inv-loop
-    μ-loop
-    (λ c. omega arith)
-    (λ c. omega arith)
-    (λ c κs. tt)
-    (λ c κs. tt)
-    (λ c. tt)
-    (λ c. omega arith)
-    (λ c. omega arith)
-    (λ c. omega arith)
-    (λ c. tt))
+same-bytes-at-spec = tie.close (tie.spec Inv-loop μ-loop (λ c. omega arith) (λ c. omega arith) (λ c κs. tt) (λ c κs. tt) (λ c. tt) (λ c. omega arith)
+    (λ c. omega arith) (λ c. omega arith) (λ c. tt))

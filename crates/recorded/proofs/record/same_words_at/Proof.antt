@@ -1,7 +1,5 @@
 -- `recorded::record::same_words_at` is safe and ends. Assumes nothing.
-use Prim.Native.Nat.{_-_, _≤_}
-use lib.ListN.{length}
-use native.Mathlib.Omega.{arith}
+use Rattle.numbers.proofs.Prelude.{_-_, _≤_, length, arith}
 use Rattle.recorded.proofs.record.same_words_at.Statement.{statement}
 use Rattle.recorded.proofs.record.same_words_at.Tie as tie
 
@@ -12,18 +10,5 @@ abbrev μ-loop : tie.MeasureT-loop
 μ-loop words «record» from i₀ at₀ i at = length words - i
 
 pub same-words-at-spec : {M : Type 1} → statement M
-same-words-at-spec =
-    tie.close
-    (tie.spec
-    Inv-loop
-    μ-loop
-    (λ c. omega arith)
-    (λ c. omega arith)
-    (λ c. omega arith)
-    (λ c κs. tt)
-    (λ c. tt)
-    (λ c. omega arith)
-    (λ c κs. tt)
-    (λ c. omega arith)
-    (λ c. omega arith)
-    (λ c. tt))
+same-words-at-spec = tie.close (tie.spec Inv-loop μ-loop (λ c. omega arith) (λ c. omega arith) (λ c. omega arith) (λ c κs. tt) (λ c. tt) (λ c. omega arith)
+    (λ c κs. tt) (λ c. omega arith) (λ c. omega arith) (λ c. tt))

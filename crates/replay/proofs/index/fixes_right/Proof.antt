@@ -1,6 +1,5 @@
 -- `replay::index::fixes_right` is safe and ends. Assumes nothing.
-use Prim.Native.Nat.{_-_, _≤_}
-use native.Mathlib.Omega.{arith}
+use Rattle.numbers.proofs.Prelude.{_-_, _≤_, arith}
 use Rattle.replay.proofs.index.fixes_right.Statement.{statement}
 use Rattle.replay.proofs.index.fixes_right.Tie as tie
 
@@ -11,17 +10,5 @@ abbrev μ-loop : tie.MeasureT-loop
 μ-loop «record» first from count file index compares i₀ fix₀ at₀ i fix at = count - i
 
 pub fixes-right-spec : {M : Type 1} → statement M
-fixes-right-spec =
-    tie.close
-    (tie.spec
-    Inv-loop
-    μ-loop
-    (λ c. omega arith)
-    (λ c κs. tt)
-    (λ c. tt)
-    (λ c κs. tt)
-    (λ c κs. tt)
-    (λ c. omega arith)
-    (λ c. omega arith)
-    (λ c. omega arith)
-    (λ c. tt))
+fixes-right-spec = tie.close (tie.spec Inv-loop μ-loop (λ c. omega arith) (λ c κs. tt) (λ c. tt) (λ c κs. tt) (λ c κs. tt) (λ c. omega arith) (λ c. omega arith)
+    (λ c. omega arith) (λ c. tt))

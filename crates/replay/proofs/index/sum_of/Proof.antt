@@ -1,8 +1,5 @@
 -- `replay::index::sum_of` is safe and ends. Assumes nothing.
-use Prim.Native.Nat.{_-_, _≤_}
-use borrow.Author.Needs.{needs}
-use lib.ListN.{length}
-use native.Mathlib.Omega.{arith}
+use Rattle.numbers.proofs.Prelude.{_-_, _≤_, needs, length, arith}
 use Rattle.replay.proofs.index.sum_of.Statement.{statement}
 use Rattle.replay.proofs.index.sum_of.Tie as tie
 
@@ -13,16 +10,5 @@ abbrev μ-loop : tie.MeasureT-loop
 μ-loop index used sum₀ i₀ sum i = length index - i
 
 pub sum-of-spec : {M : Type 1} → statement M
-sum-of-spec =
-    tie.close
-    (tie.spec
-    Inv-loop
-    μ-loop
-    (λ c. omega arith)
-    (λ c. search needs)
-    (λ c. search needs)
-    (λ c κs. tt)
-    (λ c. omega arith)
-    (λ c. omega arith)
-    (λ c. omega arith)
-    (λ c. tt))
+sum-of-spec = tie.close (tie.spec Inv-loop μ-loop (λ c. omega arith) (λ c. search needs) (λ c. search needs) (λ c κs. tt) (λ c. omega arith) (λ c. omega arith)
+    (λ c. omega arith) (λ c. tt))

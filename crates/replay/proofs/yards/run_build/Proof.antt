@@ -1,8 +1,5 @@
 -- `replay::yards::run_build` is safe and ends. Assumes nothing.
-use borrow.Author.Needs.{needs}
-use lib.Seq.{length-take-le}
-use mathlib.Core.Path.{sym}
-use native.Mathlib.Omega.{arith}
+use Rattle.numbers.proofs.Prelude.{needs, length-take-le, sym, arith}
 use Rattle.replay.proofs.yards.run_build.Statement.{statement}
 use Rattle.replay.proofs.yards.run_build.Tie as tie
 
@@ -42,32 +39,8 @@ slice-aggregate-build-into-5 c =
     sym (length-take-le (asked .texts) (listed .result) (omega (arith, listed .ensures, pre .4)))
 
 pub run-build-spec : {M : Type 1} → statement M
-run-build-spec =
-    tie.close
-    (tie.spec
-    (λ c. search needs)
-    (λ c. search needs)
-    (λ c. search needs)
-    (λ c. search needs)
-    (λ c. search needs)
-    (λ c. search needs)
-    (λ c κs. search needs)
-    (λ c κs. search needs)
-    (λ c κs. search needs)
-    (λ c κs. search needs)
-    (λ c. search needs)
-    (λ c. search needs)
-    (λ c κs. search needs)
-    (λ c. search needs)
-    slice-aggregate-build-into
-    (λ c. search needs)
-    slice-aggregate-build-into-2
-    (λ c. search needs)
-    slice-aggregate-build-into-3
-    (λ c. search needs)
-    slice-aggregate-build-into-4
-    (λ c. search needs)
-    slice-aggregate-build-into-5
-    (λ c κs. search needs)
-    (λ c. search needs)
+run-build-spec = tie.close (tie.spec (λ c. search needs) (λ c. search needs) (λ c. search needs) (λ c. search needs) (λ c. search needs) (λ c. search needs)
+    (λ c κs. search needs) (λ c κs. search needs) (λ c κs. search needs) (λ c κs. search needs) (λ c. search needs) (λ c. search needs) (λ c κs. search needs)
+    (λ c. search needs) slice-aggregate-build-into (λ c. search needs) slice-aggregate-build-into-2 (λ c. search needs) slice-aggregate-build-into-3
+    (λ c. search needs) slice-aggregate-build-into-4 (λ c. search needs) slice-aggregate-build-into-5 (λ c κs. search needs) (λ c. search needs)
     (λ c. search needs))

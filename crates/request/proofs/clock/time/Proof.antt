@@ -1,42 +1,29 @@
 -- `request::clock::time` meets its contract. Assumes nothing.
-use borrow.Author.Needs.{needs}
-use borrow.Author.Tests.{not-true, not-false}
-use mathlib.Core.Path.{ap, sym, _∙_}
-use native.Mathlib.Omega.{arith}
-use Rattle.numbers.specs.Reply.{refused}
-use Rattle.request.proofs.Numerals.{form-holds}
-use Rattle.request.proofs.Times.{time-formless, time-timely, same-time}
-use Rattle.request.proofs.clock.time.Statement.{statement}
-use Rattle.request.specs.Clock.{Time}
-use Rattle.request.specs.Request.{at}
-use Rattle.request.specs.Told.{timely, Below}
+use Rattle.numbers.{proofs.Prelude.{needs, not-false, not-true, sym, ap, _∙_, arith}, specs.Reply.{refused}}
+use Rattle.request.proofs.{Numerals.{form-holds}, Times.{time-formless, time-timely, same-time}, clock.time.Statement.{statement}}
+use Rattle.request.specs.{Clock.{Time}, Request.{at}, Told.{timely, Below}}
 use Rattle.request.proofs.clock.time.Tie as tie
 
 returns : tie.Need-returns
 unfolding Below
-returns c =
-    let args = c .before .before .before .before .args in let has-form = c .before .before .has-form in let if1 = c .before .if1 in
-    (ap refused (c .refuse .ensures) ∙ time-formless (args .text .now) (args .place) (sym (has-form .ensures) ∙ not-true _ (if1 .taken)), tt)
+returns c = let args = c .before .before .before .before .args in let has-form = c .before .before .has-form in
+    (ap refused (c .refuse .ensures) ∙ time-formless (args .text .now) (args .place) (sym (has-form .ensures) ∙ not-true _ (c .before .if1 .taken)), tt)
 
 part-requires : tie.Need-part-requires
-part-requires c κs =
-    let args = c .before .before .before .args in let has-form = c .before .has-form in
+part-requires c κs = let args = c .before .before .before .args in let has-form = c .before .has-form in
     let held = form-holds 6 255 (args .text .now) (sym (has-form .ensures) ∙ not-false _ (c .if1 .left)) in (omega arith, omega arith)
 
 part-requires-2 : tie.Need-part-requires-2
-part-requires-2 c κs =
-    let args = c .before .before .before .before .args in let has-form = c .before .before .has-form in let if1 = c .before .if1 in
+part-requires-2 c κs = let args = c .before .before .before .before .args in let has-form = c .before .before .has-form in let if1 = c .before .if1 in
     let held = form-holds 6 255 (args .text .now) (sym (has-form .ensures) ∙ not-false _ (if1 .left)) in (omega arith, omega arith)
 
 part-requires-3 : tie.Need-part-requires-3
-part-requires-3 c κs =
-    let args = c .before .before .before .before .before .args in let has-form = c .before .before .before .has-form in
-    let if1 = c .before .before .if1 in
-    let held = form-holds 6 255 (args .text .now) (sym (has-form .ensures) ∙ not-false _ (if1 .left)) in (omega arith, omega arith)
+part-requires-3 c κs = let args = c .before .before .before .before .before .args in let has-form = c .before .before .before .has-form in
+    let if1 = c .before .before .if1 in let held = form-holds 6 255 (args .text .now) (sym (has-form .ensures) ∙ not-false _ (if1 .left)) in
+    (omega arith, omega arith)
 
 returns-2 : tie.Need-returns-2
-returns-2 c =
-    let args = c .before .before .before .before .before .before .before .args in let part = c .before .before .before .part in
+returns-2 c = let args = c .before .before .before .before .before .before .before .args in let part = c .before .before .before .part in
     let part2 = c .before .before .part2 in let part3 = c .before .part3 in let has-form = c .before .before .before .before .before .has-form in
     let if1 = c .before .before .before .before .if1 in (
       c .second-of .ensures .0 ∙ ap (λ (t : Time). at (args .place) (timely t)) (same-time (part .ensures .0) (part2 .ensures .0) (part3 .ensures .0))
@@ -45,7 +32,5 @@ returns-2 c =
     )
 
 pub time-spec : {M : Type 1} → statement M
-time-spec =
-    tie.close
-    (tie.spec
-    (λ c κs. search needs) (λ c κs. search needs) returns part-requires part-requires-2 part-requires-3 (λ c κs. search needs) returns-2)
+time-spec = tie.close (tie.spec (λ c κs. search needs) (λ c κs. search needs) returns part-requires part-requires-2 part-requires-3 (λ c κs. search needs)
+    returns-2)

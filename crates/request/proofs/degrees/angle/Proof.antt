@@ -1,50 +1,34 @@
 -- `request::degrees::angle` meets its contract. Assumes nothing.
-use Prim.Native.Nat.{ℕ, _+_, _*_}
-use borrow.Author.Needs.{needs}
-use borrow.Author.Tests.{not-true, not-false}
-use lib.ListN.{drop}
-use mathlib.Core.Path.{ap, sym, _∙_}
-use native.Mathlib.Omega.{arith}
-use Rattle.numbers.specs.Reply.{refused}
-use Rattle.request.proofs.Numerals.{form-holds, angle-formless, angle-over, angle-limited, decimals-small, degrees-small}
-use Rattle.request.proofs.degrees.angle.Statement.{statement}
-use Rattle.request.specs.Number.{valueFrom, partOf}
-use Rattle.request.specs.Request.{at}
-use Rattle.request.specs.Told.{IsSize}
-use Rattle.request.specs.declared.number.Digits.{Digits}
+use Rattle.numbers.{proofs.Prelude.{ℕ, _+_, _*_, needs, not-false, not-true, drop, sym, ap, _∙_, arith}, specs.Reply.{refused}}
+use Rattle.request.proofs.{Numerals.{form-holds, angle-formless, angle-over, angle-limited, decimals-small, degrees-small}, degrees.angle.Statement.{statement}}
+use Rattle.request.specs.{Number.{valueFrom, partOf}, Request.{at}, Told.{IsSize}, declared.number.Digits.{Digits}}
 use Rattle.request.proofs.degrees.angle.Tie as tie
 
 returns : tie.Need-returns
 unfolding IsSize
-returns c =
-    let args = c .before .before .before .before .args in let has-form = c .before .before .has-form in let if1 = c .before .if1 in
+returns c = let args = c .before .before .before .before .args in let has-form = c .before .before .has-form in let if1 = c .before .if1 in
     (ap refused (c .refuse .ensures) ∙ ap (at (args .place)) (angle-formless (args .width) (args .limit) (args .text .now) (sym (has-form .ensures) ∙ not-true _ (if1 .taken))), tt)
 
 part-requires : tie.Need-part-requires
-part-requires c κs =
-    let args = c .before .before .before .args in let has-form = c .before .has-form in
+part-requires c κs = let args = c .before .before .before .args in let has-form = c .before .has-form in
     let held = form-holds (args .width + 2) 9 (args .text .now) (sym (has-form .ensures) ∙ not-false _ (c .if1 .left)) in (omega arith, held .0)
 
 returns-2 : tie.Need-returns-2
 unfolding IsSize
-returns-2 c =
-    let args = c .before .before .before .before .before .before .args in let has-form = c .before .before .before .before .has-form in
-    let if1 = c .before .before .before .if1 in let part = c .before .before .part in
-    let if2 = c .before .if2 in (
+returns-2 c = let args = c .before .before .before .before .before .before .args in let has-form = c .before .before .before .before .has-form in
+    let if1 = c .before .before .before .if1 in let part = c .before .before .part in let if2 = c .before .if2 in (
       ap refused (c .refuse2 .ensures) ∙ angle-over (args .width) (args .limit) (args .text .now) (sym (has-form .ensures)
           ∙ not-false _ (if1 .left)) (omega (arith, part .ensures .0, if2 .taken)) (args .place),
       tt,
     )
 
 part-requires-2 : tie.Need-part-requires-2
-part-requires-2 c κs =
-    let args = c .before .before .before .before .before .args in let has-form = c .before .before .before .has-form in
+part-requires-2 c κs = let args = c .before .before .before .before .before .args in let has-form = c .before .before .before .has-form in
     let if1 = c .before .before .if1 in let pre = c .before .before .before .before .before .pre in
     let held = form-holds (args .width + 2) 9 (args .text .now) (sym (has-form .ensures) ∙ not-false _ (if1 .left)) in (omega (arith, pre), omega arith)
 
 decimals-requires : tie.Need-decimals-requires
-decimals-requires c κs =
-    let args = c .before .before .before .before .before .before .args in let has-form = c .before .before .before .before .has-form in
+decimals-requires c κs = let args = c .before .before .before .before .before .before .args in let has-form = c .before .before .before .before .has-form in
     let if1 = c .before .before .before .if1 in let if2 = c .before .if2 in
     let held = form-holds (args .width + 2) 9 (args .text .now) (sym (has-form .ensures) ∙ not-false _ (if1 .left)) in (omega (arith, if2 .left), omega arith)
 
@@ -95,8 +79,7 @@ limited-requires c κs =
     (omega (arith, s), omega (arith, s), pre .1)
 
 returns-3 : tie.Need-returns-3
-returns-3 c =
-    let args = at-start (c .before .before) .args in let decimals = c .before .before .before .decimals in
+returns-3 c = let args = at-start (c .before .before) .args in let decimals = c .before .before .before .decimals in
     let part = c .before .before .before .before .before .before .part in let part2 = c .before .before .before .before .part2 in
     let has-form = at-else1 (c .before .before) .before .has-form in let if1 = at-else1 (c .before .before) .if1 in
     let if2 = c .before .before .before .before .before .if2 in let text = args .text .now in let width = args .width in
@@ -109,8 +92,5 @@ returns-3 c =
     )
 
 pub angle-spec : {M : Type 1} → statement M
-angle-spec =
-    tie.close
-    (tie.spec
-    (λ c. search needs) (λ c κs. search needs) (λ c κs. search needs) returns part-requires (λ c κs. search needs) returns-2 part-requires-2
-    (λ c. search needs) decimals-requires mul-den mul-num add-num limited-requires returns-3)
+angle-spec = tie.close (tie.spec (λ c. search needs) (λ c κs. search needs) (λ c κs. search needs) returns part-requires (λ c κs. search needs) returns-2
+    part-requires-2 (λ c. search needs) decimals-requires mul-den mul-num add-num limited-requires returns-3)

@@ -1,8 +1,6 @@
 -- `request::degrees::first` meets its contract. Assumes nothing.
-use borrow.Author.Needs.{needs}
-use native.Mathlib.Omega.{arith}
-use Rattle.request.proofs.Numerals.{first-none}
-use Rattle.request.proofs.degrees.first.Statement.{statement}
+use Rattle.numbers.proofs.Prelude.{needs, arith}
+use Rattle.request.proofs.{Numerals.{first-none}, degrees.first.Statement.{statement}}
 use Rattle.request.proofs.degrees.first.Tie as tie
 
 pub first-spec : {M : Type 1} → statement M

@@ -1,13 +1,7 @@
 -- `request::number::part` meets its contract. Assumes nothing.
-use Prim.Native.Nat.{ℕ, _+_, _-_, _≤_}
-use borrow.Author.Needs.{needs}
-use lib.ListN.{length, take, drop, length-take}
-use mathlib.Core.Path.{_≡_, ap, _∙_}
-use native.Mathlib.Omega.{arith}
-use Rattle.request.proofs.Numerals.{value-short}
-use Rattle.request.proofs.number.part.Statement.{statement}
-use Rattle.request.specs.Number.{valueFrom, partOf}
-use Rattle.request.specs.declared.number.Digits.{Digits}
+use Rattle.numbers.proofs.Prelude.{ℕ, _+_, _-_, _≤_, needs, length, take, drop, length-take, _≡_, ap, _∙_, arith}
+use Rattle.request.proofs.{Numerals.{value-short}, number.part.Statement.{statement}}
+use Rattle.request.specs.{Number.{valueFrom, partOf}, declared.number.Digits.{Digits}}
 use Rattle.request.proofs.number.part.Tie as tie
 
 value-requires : tie.Need-value-requires
@@ -23,8 +17,7 @@ value-requires c κs =
 
 returns : tie.Need-returns
 unfolding partOf
-returns c =
-    let text = c .before .before .before .args .text .now in
+returns c = let text = c .before .before .before .args .text .now in
     let same : c .before .before .before .args .from + c .before .before .before .args .n - c .before .before .before .args .from ≡ c .before .before .before .args .n = omega arith in
     let args = c .before .before .before .args in
     let value : c .value .result .value ≡ partOf (args .from) (args .n) text = ap (λ (d : Digits). d .value) (c .value .ensures)
@@ -39,6 +32,4 @@ returns c =
     )
 
 pub part-spec : {M : Type 1} → statement M
-part-spec =
-    tie.close (tie.spec
-    (λ c. search needs) (λ c. search needs) (λ c. search needs) (λ c. search needs) value-requires returns)
+part-spec = tie.close (tie.spec (λ c. search needs) (λ c. search needs) (λ c. search needs) (λ c. search needs) value-requires returns)

@@ -1,12 +1,6 @@
 -- `request::text::every` meets its contract. Assumes nothing.
-use Prim.Native.Nat.{_-_, _≤_}
-use borrow.Author.Needs.{needs}
-use borrow.Author.Tests.{not-true, not-false}
-use lib.ListN.{length, drop}
-use mathlib.Core.Path.{_≡_, refl, sym, _∙_}
-use native.Mathlib.Omega.{arith}
-use Rattle.request.proofs.Texts.{every-end, every-stop, every-on}
-use Rattle.request.proofs.text.every.Statement.{statement}
+use Rattle.numbers.proofs.Prelude.{_-_, _≤_, needs, not-false, not-true, length, drop, _≡_, refl, sym, _∙_, arith}
+use Rattle.request.proofs.{Texts.{every-end, every-stop, every-on}, text.every.Statement.{statement}}
 use Rattle.request.specs.Text.{every}
 use Rattle.request.proofs.text.every.Tie as tie
 
@@ -17,25 +11,19 @@ abbrev μ-loop : tie.MeasureT-loop
 μ-loop text letters at₀ at = length text - at
 
 returns : tie.Need-returns Inv-loop μ-loop
-returns c =
-    let args = c .before .before .before .before .before .before .args in let loop = c .before .before .before .before .loop in
-    let loop-test = c .before .before .before .loop-test in let is-taken = c .before .is-taken in
-    every-stop (args .letters) (args .text .now) (loop .at) (loop-test .taken) (sym (is-taken .ensures) ∙ not-true _ (c .if1 .taken)) ∙ loop .inv .0
+returns c = let args = c .before .before .before .before .before .before .args in let loop = c .before .before .before .before .loop in
+    let loop-test = c .before .before .before .loop-test in
+    every-stop (args .letters) (args .text .now) (loop .at) (loop-test .taken) (sym (c .before .is-taken .ensures) ∙ not-true _ (c .if1 .taken)) ∙ loop .inv .0
 
 loop-again : tie.Need-loop-again Inv-loop μ-loop
-loop-again c =
-    let args = c .before .before .before .before .before .before .args in let loop = c .before .before .before .before .loop in
+loop-again c = let args = c .before .before .before .before .before .before .args in let loop = c .before .before .before .before .loop in
     let loop-test = c .before .before .before .loop-test in let is-taken = c .before .is-taken in
     (every-on (args .letters) (args .text .now) (loop .at) (loop-test .taken) (sym (is-taken .ensures) ∙ not-false _ (c .if1 .left)) ∙ loop .inv .0, omega arith)
 
 returns-2 : tie.Need-returns-2 Inv-loop μ-loop
-returns-2 c =
-    let args = c .before .before .before .args in let loop = c .before .loop in
-    every-end (args .letters) (args .text .now) (loop .at) (c .loop-test .left) ∙ loop .inv .0
+returns-2 c = let args = c .before .before .before .args in
+    every-end (args .letters) (args .text .now) (c .before .loop .at) (c .loop-test .left) ∙ c .before .loop .inv .0
 
 pub every-spec : {M : Type 1} → statement M
-every-spec =
-    tie.close
-    (tie.spec
-    Inv-loop μ-loop (λ c. (refl, omega arith)) (λ c. omega arith) (λ c κs. search needs) returns (λ c. omega arith) (λ c. omega arith) loop-again
-    returns-2)
+every-spec = tie.close (tie.spec Inv-loop μ-loop (λ c. (refl, omega arith)) (λ c. omega arith) (λ c κs. search needs) returns (λ c. omega arith)
+    (λ c. omega arith) loop-again returns-2)

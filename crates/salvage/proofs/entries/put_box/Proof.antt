@@ -1,10 +1,7 @@
 -- `salvage::entries::put_box` meets its contract. Assumes nothing.
-use borrow.Author.Needs.{needs}
-use mathlib.Core.Path.{ap, _∙_}
-use mir.{Facts.{toZ-ofZ}, Syntax.{w32}, Val.{SFits}}
-use Rattle.salvage.proofs.moves.{Capping.{capped-form}, Forms.{from-zero}}
-use Rattle.numbers.specs.Spelling.{signedForm}
-use Rattle.salvage.proofs.entries.{Forming.{capped-four}, put_box.Statement.{statement}}
+use Rattle.numbers.{proofs.Prelude.{needs, ap, _∙_, w32, SFits}, specs.Spelling.{signedForm}}
+use mir.Facts.{toZ-ofZ}
+use Rattle.salvage.proofs.{entries.{Forming.{capped-four}, put_box.Statement.{statement}}, moves.{Capping.{capped-form}, Forms.{from-zero}}}
 use Rattle.salvage.specs.File.{boxBytes}
 use Rattle.salvage.proofs.entries.put_box.Tie as tie
 
@@ -17,8 +14,7 @@ at-put-number c = at-form-of3 c .before .before .before .before .before .before 
 
 returns : tie.Need-returns
 unfolding boxBytes
-returns c =
-    let told0 = c .before .before .before .before .struct-told4 .given in let told1 = at-form-of3 c .before .struct-told3 .given in
+returns c = let told0 = c .before .before .before .before .struct-told4 .given in let told1 = at-form-of3 c .before .struct-told3 .given in
     let told2 = at-form-of3 c .before .before .before .before .before .before .before .struct-told2 .given in
     let told3 = at-put-number c .before .before .struct-told .given in
     let fit : SFits w32 (at-put-number c .before .before .before .before .before .args .bounds .«min_lat» .0) = search needs in
@@ -32,6 +28,5 @@ returns c =
     (capped-form (c .before .before .before .form-of4 .ensures ∙ from-zero _ ∙ ap signedForm (toZ-ofZ fit4)) (c .before .before .put-number4 .ensures))
 
 pub put-box-spec : {M : Type 1} → statement M
-put-box-spec = tie.close (tie.spec
-    (λ c κs. search needs) (λ c κs. search needs) (λ c κs. search needs) (λ c κs. search needs) (λ c κs. search needs) (λ c κs. search needs)
-    (λ c κs. search needs) (λ c κs. search needs) (λ c. search needs) returns)
+put-box-spec = tie.close (tie.spec (λ c κs. search needs) (λ c κs. search needs) (λ c κs. search needs) (λ c κs. search needs) (λ c κs. search needs)
+    (λ c κs. search needs) (λ c κs. search needs) (λ c κs. search needs) (λ c. search needs) returns)

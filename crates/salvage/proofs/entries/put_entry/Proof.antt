@@ -1,8 +1,7 @@
 -- `salvage::entries::put_entry` meets its contract. Assumes nothing.
-use borrow.Author.Needs.{needs}
-use Rattle.salvage.proofs.moves.Capping.{capped-then, capped-form}
+use Rattle.numbers.proofs.Prelude.{needs}
+use Rattle.salvage.proofs.{entries.put_entry.Statement.{statement}, moves.Capping.{capped-then, capped-form}}
 use Rattle.salvage.specs.File.{entryBytes}
-use Rattle.salvage.proofs.entries.put_entry.Statement.{statement}
 use Rattle.salvage.proofs.entries.put_entry.Tie as tie
 
 returns : tie.Need-returns

@@ -1,7 +1,5 @@
 -- `salvage::entries::put_table` meets its contract. Assumes nothing.
-use Prim.Native.Nat.{_-_}
-use borrow.Author.Needs.{needs}
-use mathlib.Core.Path.{refl}
+use Rattle.numbers.proofs.Prelude.{_-_, needs, refl}
 use Rattle.salvage.proofs.entries.{Tabling.{Tabling, tables-start, tables-go, tables-end}, put_table.Statement.{statement}}
 use Rattle.salvage.proofs.entries.put_table.Tie as tie
 
@@ -10,9 +8,6 @@ Inv-loop file head out₀ at next₀ id₀ size₀ from₀ out next id size from
 
 abbrev μ-loop : tie.MeasureT-loop
 μ-loop file head out₀ at next₀ id₀ size₀ from₀ out next id size from = head .sections .metadata - from .place
-
-returns : tie.Need-returns Inv-loop μ-loop
-returns c = tables-end _ _ _ _ (c .before .before .before .loop .inv) (rw (c .enum-told .given .1) at (c .before .before .next-kept .ensures))
 
 loop-less : tie.Need-loop-less Inv-loop μ-loop
 loop-less c = rw (c .after .ensures)
@@ -25,7 +20,7 @@ loop-again c = tables-go _ _ _ _ _ (c .before .before .before .before .before .b
     (c .after .ensures) refl (c .before .border-size .ensures) (c .before .before .before .before .put-entry .ensures)
 
 pub put-table-spec : {M : Type 1} → statement M
-put-table-spec = tie.close (tie.spec
-    Inv-loop μ-loop (λ c. search needs) (λ c κs. search needs) (λ c. tables-start _ _ _ _ (c .start-at .ensures)) (λ c κs. search needs)
-    (λ c. search needs) (λ c. search needs) (λ c. c .before .before .before .loop .inv .laid .size) returns (λ c κs. search needs)
-    (λ c κs. search needs) (λ c κs. search needs) loop-less loop-again)
+put-table-spec = tie.close (tie.spec Inv-loop μ-loop (λ c. search needs) (λ c κs. search needs) (λ c. tables-start _ _ _ _ (c .start-at .ensures))
+    (λ c κs. search needs) (λ c. search needs) (λ c. search needs) (λ c. c .before .before .before .loop .inv .laid .size)
+    (λ c. tables-end _ _ _ _ (c .before .before .before .loop .inv) (rw (c .enum-told .given .1) at (c .before .before .next-kept .ensures)))
+    (λ c κs. search needs) (λ c κs. search needs) (λ c κs. search needs) loop-less loop-again)

@@ -1,5 +1,5 @@
 -- `salvage::entry::encoding_in` meets its contract. Assumes nothing.
-use borrow.Author.Tests.{eq-eqb, ne-eqb}
+use Rattle.numbers.proofs.Prelude.{eq-eqb, ne-eqb}
 use Rattle.salvage.proofs.entry.encoding_in.Statement.{statement}
 use Rattle.salvage.proofs.entry.encoding_in.Tie as tie
 

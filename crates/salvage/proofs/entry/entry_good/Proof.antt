@@ -1,5 +1,5 @@
 -- `salvage::entry::entry_good` meets its contract. Assumes nothing.
-use borrow.Author.Needs.{needs}
+use Rattle.numbers.proofs.Prelude.{needs}
 use Rattle.salvage.proofs.entry.{Judging.{entry-goes, entry-stops}, entry_good.Statement.{statement}}
 use Rattle.salvage.proofs.entry.entry_good.Tie as tie
 
@@ -7,8 +7,6 @@ returns : tie.Need-returns
 returns c = entry-goes _ _ _ (rw (c .before .before .before .enum-told .given .1) at (c .before .before .before .before .before .border-good .ensures))
     (c .before .before .section-place .ensures) (c .fields-good .ensures)
 
-returns-2 : tie.Need-returns-2
-returns-2 c = entry-stops _ _ _ (rw (c .before .why .given .1) at (c .before .before .before .border-good .ensures))
-
 pub entry-good-spec : {M : Type 1} → statement M
-entry-good-spec = tie.close (tie.spec (λ c κs. search needs) (λ c. search needs) (λ c κs. search needs) (λ c. search needs) (λ c κs. search needs) (λ c. search needs) returns returns-2)
+entry-good-spec = tie.close (tie.spec (λ c κs. search needs) (λ c. search needs) (λ c κs. search needs) (λ c. search needs) (λ c κs. search needs)
+    (λ c. search needs) returns (λ c. entry-stops _ _ _ (rw (c .before .why .given .1) at (c .before .before .before .border-good .ensures))))

@@ -1,16 +1,11 @@
 -- Pairs that are read and written one after the other. Assumes nothing.
-use Prim.Native.Nat.{ℕ, suc, _-_}
-use denote.Enum.Declared.{tagOf}
-use mathlib.Core.{List.{List, [], _∷_, _++_, flatMap, append-assoc, append-nil}, Path.{_≡_, refl, sym, ap, _∙_}}
-use native.Mathlib.Omega.{arith}
-use types.Run.{OneOf, miss}
+use Rattle.numbers.proofs.Prelude.{ℕ, suc, _-_, tagOf, List, [], _∷_, _++_, append-assoc, append-nil, flatMap, _≡_, refl, sym, ap, _∙_, arith, OneOf, miss}
+use Rattle.numbers.{proofs.Answers.{found-again}, specs.{Answer.{Answer, found, failed, refused, _>>=_}, Point.{signedOf}, Varint.{numeral}, declared.point.RawPoint.{RawPoint}}}
 use Rattle.writer.specs.Moves.{plainMoveBytes}
 use Rattle.border.specs.{Place.{moveBy}, Reader.{Reading}}
-use Rattle.numbers.proofs.Answers.{found-again}
-use Rattle.numbers.specs.{Answer.{Answer, found, failed, refused, _>>=_}, Point.{signedOf}, Varint.{numeral}, declared.point.RawPoint.{RawPoint}}
 use Rattle.salvage.proofs.moves.Capping.{capped-none, capped-then, capped-as}
+use Rattle.salvage.specs.{Moves.Moves.{pairAt, pairsFrom}, declared.moves.pairs.{Pair.{Pair}, Paired.{Paired}}, inner.Moves.Laid.{Capped, Copied, toldPair}}
 use Rattle.salvage.proofs.moves.pairs.Paired as Paired'
-use Rattle.salvage.specs.{inner.Moves.Laid.{Capped, Copied, toldPair}, Moves.Moves.{pairAt, pairsFrom}, declared.moves.pairs.{Pair.{Pair}, Paired.{Paired}}}
 use Rattle.salvage.specs.declared.moves.pairs.Paired.the-variants as P
 
 -- the two numbers of a pair
@@ -58,26 +53,22 @@ module _ (read : Reading) (count place : ℕ) (before : List ℕ) (at : ℕ) whe
         → whole ≡ (pairsFrom read left (pair .place) >>= λ rest. found ((p .done ++ (pair .by ∷ [])) ++ rest))
     unfolding pairsFrom
     more left p {pair} e =
-        p .rest
-        ∙ ap (λ (answer : Answer Pair). (answer >>= λ pair. pairsFrom read left (pair .place) >>= λ rest. found (pair .by ∷ rest)) >>= λ rest. found (p .done ++ rest)) (sym e)
-        ∙ regroup (p .done) (pair .by) (pairsFrom read left (pair .place))
+        p .rest ∙ ap (λ (answer : Answer Pair). (answer >>= λ pair. pairsFrom read left (pair .place) >>= λ rest. found (pair .by ∷ rest)) >>= λ rest. found
+        (p .done ++ rest)) (sym e) ∙ regroup (p .done) (pair .by) (pairsFrom read left (pair .place))
 
     pub pair-goes : {after : List ℕ} {next′ : ℕ} (left : ℕ) → (left ≡ 0 → ⊥) → (p : Pairing now next here left) {pair : Pair} → found pair ≡ pairAt read here
         → Capped now next (plainMoveBytes (pair .by)) after next′ → Pairing after next′ (pair .place) (left - 1)
-    pair-goes left some p {pair} e c =
-        let fewer : suc (left - 1) ≡ left = omega arith in
-        record {
-          done = p .done ++ (pair .by ∷ []);
-          rest = rw fewer (more left p e);
-          laid = capped-as (bytes-next plainMoveBytes (p .done) (pair .by)) (capped-then (flatMap plainMoveBytes (p .done)) (plainMoveBytes (pair .by)) (p .laid) c);
-        }
+    pair-goes left some p {pair} e c = let fewer : suc (left - 1) ≡ left = omega arith in record {
+      done = p .done ++ (pair .by ∷ []);
+      rest = rw fewer (more left p e);
+      laid = capped-as (bytes-next plainMoveBytes (p .done) (pair .by)) (capped-then (flatMap plainMoveBytes (p .done)) (plainMoveBytes (pair .by)) (p .laid) c);
+    }
 
     -- the last one
     pub pair-ends : {after : List ℕ} {next′ : ℕ} (p : Pairing now next here 0) {pair : Pair} → found pair ≡ pairAt read here
         → Capped now next (plainMoveBytes (pair .by)) after next′ → Copied (flatMap plainMoveBytes) whole before at after next′
     unfolding pairsFrom
-    pair-ends {after} {next′} p {pair} e c =
-        let all : whole ≡ found ((p .done ++ (pair .by ∷ [])) ++ []) = more 0 p e in
+    pair-ends {after} {next′} p {pair} e c = let all : whole ≡ found ((p .done ++ (pair .by ∷ [])) ++ []) = more 0 p e in
         rw (all, append-nil (p .done ++ (pair .by ∷ [])))
         (capped-as (bytes-next plainMoveBytes (p .done) (pair .by)) (capped-then (flatMap plainMoveBytes (p .done)) (plainMoveBytes (pair .by)) (p .laid) c))
 
@@ -87,10 +78,8 @@ module _ (read : Reading) (count place : ℕ) (before : List ℕ) (at : ℕ) whe
     unfolding pairsFrom
     pair-stops after next′ left p (found pair) e other = absurd (other pair refl)
     pair-stops after next′ left p failed e other =
-        let all : whole ≡ failed =
-        p .rest ∙ ap (λ (answer : Answer Pair). (answer >>= λ pair. pairsFrom read left (pair .place) >>= λ rest. found (pair .by ∷ rest)) >>= λ rest. found (p .done ++ rest)) (sym e) in
-        rw all tt
+        let all : whole ≡ failed = p .rest ∙ ap (λ (answer : Answer Pair). (answer >>= λ pair. pairsFrom read left (pair .place) >>= λ rest. found (pair .by ∷ rest))
+        >>= λ rest. found (p .done ++ rest)) (sym e) in rw all tt
     pair-stops after next′ left p (refused n) e other =
-        let all : whole ≡ refused n =
-        p .rest ∙ ap (λ (answer : Answer Pair). (answer >>= λ pair. pairsFrom read left (pair .place) >>= λ rest. found (pair .by ∷ rest)) >>= λ rest. found (p .done ++ rest)) (sym e) in
-        rw all tt
+        let all : whole ≡ refused n = p .rest ∙ ap (λ (answer : Answer Pair). (answer >>= λ pair. pairsFrom read left (pair .place) >>= λ rest. found
+        (pair .by ∷ rest)) >>= λ rest. found (p .done ++ rest)) (sym e) in rw all tt

@@ -1,8 +1,7 @@
 -- Bytes of the file, one by one into the output. Assumes nothing.
-use Prim.Native.Nat.{ℕ, suc, _+_, _-_, _≤_, _<_}
-use lib.{ListN.{length, getD, take, drop, set, length-set, drop-of-length-le}, Seq.{set-out, take-nil, drop-cons}}
-use mathlib.Core.{List.{List, [], _∷_, _++_, append-assoc, append-nil}, Path.{_≡_, refl, sym, ap, _∙_}}
-use native.Mathlib.{Numerals.{add-one}, Omega.{arith}}
+use Rattle.numbers.proofs.Prelude.{ℕ, suc, _+_, _-_, _≤_, _<_, length, take, drop, getD, set, length-set, drop-of-length-le, drop-cons, set-out, List, [], _∷_, _++_, append-assoc, append-nil, _≡_}
+use Rattle.numbers.proofs.Prelude.{refl, sym, ap, _∙_, add-one, arith}
+use lib.Seq.{take-nil}
 use Rattle.writer.proofs.Stores.{stored-one}
 use Rattle.salvage.proofs.moves.Capping.{capped-none, capped-then, capped-as}
 use Rattle.salvage.specs.inner.Moves.Laid.{cap, Capped}
@@ -31,14 +30,11 @@ module _ (file before : List ℕ) (from size at : ℕ) where
           done = c .done ++ (getD file here 0 ∷ []);
           rest = c .rest ∙ ap (λ (xs : List ℕ). c .done ++ xs) first ∙ sym (append-assoc (c .done) (getD file here 0 ∷ []) _);
           laid = capped-then (c .done) (getD file here 0 ∷ []) (c .laid) b;
-        }
-      where
-        first : take left (drop here file) ≡ (getD file here 0 ∷ []) ++ take (left - 1) (drop (here + 1) file)
-        first =
-            let one : left ≡ suc (left - 1) = omega arith in
-            ap (λ (n : ℕ). take n (drop here file)) one
-            ∙ ap (take (suc (left - 1))) (drop-cons file here 0 inside)
-            ∙ ap (λ (n : ℕ). getD file here 0 ∷ take (left - 1) (drop n file)) (sym (add-one here))
+        } where
+          first : take left (drop here file) ≡ (getD file here 0 ∷ []) ++ take (left - 1) (drop (here + 1) file)
+          first = let one : left ≡ suc (left - 1) = omega arith in
+              ap (λ (n : ℕ). take n (drop here file)) one ∙ ap (take (suc (left - 1))) (drop-cons file here 0 inside) ∙ ap (λ (n : ℕ). getD file here 0 ∷ take
+              (left - 1) (drop n file)) (sym (add-one here))
 
     copies-so : take left (drop here file) ≡ [] → Capped before at (take size (drop from file)) now next
     copies-so none = capped-as (sym (c .rest ∙ ap (λ (xs : List ℕ). c .done ++ xs) none ∙ append-nil (c .done))) (c .laid)

@@ -1,16 +1,11 @@
 -- The list, entry by entry: what an entry adds to it, and what is left to store. Assumes nothing.
-use Prim.Native.Nat.{ℕ, suc, _+_, _*_, _≤_, _<_}
-use lib.ListN.{length, set}
-use mathlib.Core.{List.{List, [], _∷_}, Path.{_≡_, refl, sym, ap, _∙_, subst}}
-use native.Mathlib.{Numerals.{add-one}, Omega.{arith}}
+use Rattle.numbers.proofs.Prelude.{ℕ, suc, _+_, _*_, _≤_, _<_, length, set, List, [], _∷_, _≡_, refl, sym, ap, subst, _∙_, add-one, arith}
+use Rattle.numbers.{proofs.Readings.{reading-grows}, specs.{Answer.{Answer, found, failed}, Reply.{Reply, given, refused}, Varint.{Numeral, readingOf}, declared.refusal.Refusal.{Refusal}}}
 use Rattle.writer.{proofs.Stores.{Left, left-all, left-step, left-none, left-last, stored-then}, specs.inner.Stored.{Stored}}
 use Rattle.header.specs.declared.header.Head.{Head}
-use Rattle.numbers.specs.{Answer.{Answer, found, failed}, Reply.{Reply, given, refused}, Varint.{Numeral, readingOf}, declared.refusal.Refusal.{Refusal}}
+use Rattle.salvage.specs.{Kept.{entryGood, keptIf, keptOf, lineIf, linesFrom}, declared.rescue.lines.{Dropped.{Dropped}, Turn.{Turn}}, inner.Rescue.Turns.{judgedTurn, turnBy, Listed}}
+use Rattle.table.{proofs.TableRows.{at-end, at-row, at-unreadable, at-refused, row-less}, specs.{Rows.{Rows, startAt, after, rowBy, rowsFrom, rowsIn}, declared.rows.{Cursor.{Cursor}, Row.{Row}}}}
 use Rattle.numbers.specs.Answer as A
-use Rattle.salvage.specs.Kept.{entryGood, keptIf, keptOf, lineIf, linesFrom}
-use Rattle.table.proofs.TableRows.{reading-grows, at-end, at-row, at-unreadable, at-refused, row-less}
-use Rattle.table.specs.{Rows.{Rows, startAt, after, rowBy, rowsFrom, rowsIn}, declared.rows.{Cursor.{Cursor}, Row.{Row}}}
-use Rattle.salvage.specs.{inner.Rescue.Turns.{judgedTurn, turnBy, Listed}, declared.rescue.lines.{Dropped.{Dropped}, Turn.{Turn}}}
 use Rattle.salvage.specs.declared.rescue.lines.Turn.the-variants as T
 
 -- a line's two words
@@ -52,30 +47,25 @@ module _ (file : List ℕ) (head : Head) where
 
   pub turned : (number : ℕ) (at : Cursor) → at .place < end → {t : Turn} → t ≡ turnBy file head (rowBy read at) → Turned number at t
   unfolding linesFrom keptOf
-  turned number at more {t} is = subst (Turned number at) (sym is) (go (rowBy read at) refl)
-    where
-      judged : (r : Row) → found r ≡ rowBy read at → (g : Reply (Unit {0})) → entryGood file head r ≡ g → Turned number at (judgedTurn g (after r))
-      judged r e (given tt) good =
-          let here = at-row read (reading-grows (head .strict) file) at more e refl in (
-            ap (linesFrom file head number) here ∙ ap (λ (g : Reply (Unit {0})). lineIf g number (linesAt (number + 1) (after r))) good,
-            ap (λ (rows : Rows). length (keptOf file head rows)) here ∙ ap (λ (g : Reply (Unit {0})). length (keptIf g r (keptOf file head (rowsAt (after r))))) good,
-            omega (arith, row-less read (reading-grows (head .strict) file) at more e refl),
-          )
-      judged r e (refused why) bad =
-          let here = at-row read (reading-grows (head .strict) file) at more e refl in (
-            ap (linesFrom file head number) here ∙ ap (λ (g : Reply (Unit {0})). lineIf g number (linesAt (number + 1) (after r))) bad,
-            ap (λ (rows : Rows). length (keptOf file head rows)) here ∙ ap (λ (g : Reply (Unit {0})). length (keptIf g r (keptOf file head (rowsAt (after r))))) bad,
-            omega (arith, row-less read (reading-grows (head .strict) file) at more e refl),
-          )
+  turned number at more {t} is = subst (Turned number at) (sym is) (go (rowBy read at) refl) where
+    judged : (r : Row) → found r ≡ rowBy read at → (g : Reply (Unit {0})) → entryGood file head r ≡ g → Turned number at (judgedTurn g (after r))
+    judged r e (given tt) good = let here = at-row read (reading-grows (head .strict) file) at more e refl in (
+      ap (linesFrom file head number) here ∙ ap (λ (g : Reply (Unit {0})). lineIf g number (linesAt (number + 1) (after r))) good,
+      ap (λ (rows : Rows). length (keptOf file head rows)) here ∙ ap (λ (g : Reply (Unit {0})). length (keptIf g r (keptOf file head (rowsAt (after r))))) good,
+      omega (arith, row-less read (reading-grows (head .strict) file) at more e refl),
+    )
+    judged r e (refused why) bad = let here = at-row read (reading-grows (head .strict) file) at more e refl in (
+      ap (linesFrom file head number) here ∙ ap (λ (g : Reply (Unit {0})). lineIf g number (linesAt (number + 1) (after r))) bad,
+      ap (λ (rows : Rows). length (keptOf file head rows)) here ∙ ap (λ (g : Reply (Unit {0})). length (keptIf g r (keptOf file head (rowsAt (after r))))) bad,
+      omega (arith, row-less read (reading-grows (head .strict) file) at more e refl),
+    )
 
-      go : (answer : Answer Row) → answer ≡ rowBy read at → Turned number at (turnBy file head answer)
-      go (found r) e = judged r e (entryGood file head r) refl
-      go failed e =
-          let here = at-unreadable read (reading-grows (head .strict) file) at more e in
-          (ap (linesFrom file head number) here, ap (λ (rows : Rows). length (keptOf file head rows)) here)
-      go (A.refused n) e =
-          let here = at-refused read (reading-grows (head .strict) file) at more e in
-          (ap (linesFrom file head number) here, ap (λ (rows : Rows). length (keptOf file head rows)) here)
+    go : (answer : Answer Row) → answer ≡ rowBy read at → Turned number at (turnBy file head answer)
+    go (found r) e = judged r e (entryGood file head r) refl
+    go failed e = let here = at-unreadable read (reading-grows (head .strict) file) at more e in
+        (ap (linesFrom file head number) here, ap (λ (rows : Rows). length (keptOf file head rows)) here)
+    go (A.refused n) e = let here = at-refused read (reading-grows (head .strict) file) at more e in
+        (ap (linesFrom file head number) here, ap (λ (rows : Rows). length (keptOf file head rows)) here)
 
   -- ---- what is stored, counted, and left
   module _ (before : List ℕ) where
@@ -124,9 +114,8 @@ module _ (file : List ℕ) (head : Head) where
             below = omega (arith, l .below);
           }
 
-      pub lists-stop : {middle after′ : List ℕ} {n words′ last : ℕ} → Turned number at (T.Unreadable n) → Stored now words (number ∷ n ∷ []) middle words′ →
-          Stored middle words′ ((number + 1) ∷ 73 ∷ []) after′ last
-          → Listed file head before after′ (record { words = last; kept = kept })
+      pub lists-stop : {middle after′ : List ℕ} {n words′ last : ℕ} → Turned number at (T.Unreadable n) → Stored now words (number ∷ n ∷ []) middle words′
+          → Stored middle words′ ((number + 1) ∷ 73 ∷ []) after′ last → Listed file head before after′ (record { words = last; kept = kept })
       lists-stop {n = n} t s s′ =
           record {
             words = left-last (number ∷ n ∷ (number + 1) ∷ 73 ∷ []) (subst (Left before 0 all now words) (t .0) (l .left)) (stored-then (number ∷ n ∷ []) ((number + 1) ∷ 73 ∷ []) s s′);
@@ -135,10 +124,8 @@ module _ (file : List ℕ) (head : Head) where
 
       pub lists-end : end ≤ at .place → Listed file head before now (record { words = words; kept = kept })
       unfolding linesFrom keptOf
-      lists-end h =
-          let done = at-end read (reading-grows (head .strict) file) at h in
-          let none : keptAt at ≡ 0 = ap (λ (rows : Rows). length (keptOf file head rows)) done in
-          record {
+      lists-end h = let done = at-end read (reading-grows (head .strict) file) at h in
+          let none : keptAt at ≡ 0 = ap (λ (rows : Rows). length (keptOf file head rows)) done in record {
             words = left-none (subst (Left before 0 all now words) (ap (linesFrom file head number) done) (l .left));
             kept = omega (arith, l .count, none);
           }

@@ -1,17 +1,10 @@
 -- Names and notice, text by text. Assumes nothing.
-use Prim.Native.Nat.{ℕ, suc, _+_, _-_, _≤_, _<_}
-use borrow.Author.Tests.{lt-leb, le-leb}
-use lib.{Dec.{leb}, ListN.{take, drop}}
-use mathlib.Core.{Bool.{Bool, true, false}, List.{List, [], _++_, append-assoc, append-nil}, Path.{_≡_, refl, sym, ap, _∙_, subst}}
-use native.Mathlib.Omega.{arith}
+use Rattle.numbers.proofs.Prelude.{ℕ, suc, _+_, _-_, _≤_, _<_, le-leb, lt-leb, leb, take, drop, Bool, true, false, List, [], _++_, append-assoc, append-nil, _≡_, refl, sym, ap, subst, _∙_, arith}
+use Rattle.numbers.specs.{Answer.{Answer, found, failed}, Reply.{Reply, given, refused, plain, demand, _orElse_, _>>=_, _>>_}, Spelling.{varintOf}, declared.refusal.Refusal.{Refusal}}
 use Rattle.header.specs.{Text.{stringAt}, declared.{header.Head.{Head}, text.Text.{Text}}}
 use Rattle.salvage.proofs.moves.Capping.{capped-none, capped-then, capped-as}
-use Rattle.salvage.specs.inner.Moves.Laid.{Capped}
-use Rattle.numbers.specs.{Answer.{Answer, found, failed}, Reply.{Reply, given, refused, plain, demand, _orElse_, _>>=_, _>>_}, Spelling.{varintOf}}
-use Rattle.numbers.specs.declared.refusal.Refusal.{Refusal}
+use Rattle.salvage.specs.{File.{textsInline, headTexts}, declared.rescue.texts.Put.{Put}, inner.{Moves.Laid.{Capped}, Rescue.Texts.{shortText, textBytes, behind, Inlined}}}
 use Rattle.numbers.specs.Answer as A
-use Rattle.salvage.specs.File.{textsInline, headTexts}
-use Rattle.salvage.specs.{inner.Rescue.Texts.{shortText, textBytes, behind, Inlined}, declared.rescue.texts.Put.{Put}}
 use Rattle.salvage.specs.declared.rescue.texts.Put.the-variants as P
 
 -- ---- one text
@@ -57,40 +50,37 @@ module _ (file : List ℕ) (head : Head) where
   texts-next : (more place : ℕ) {text : Text} → given text ≡ shortText (head .strict) file place →
       textsInline file head (suc more) place ≡ behind (textBytes file text) (textsInline file head more (text .next))
   unfolding shortText textsInline textBytes
-  texts-next more place {text} e = go (stringAt (head .strict) file 0 place) e
-    where
-      joined : (t : Text) (rest : Reply (List ℕ)) →
-          (rest >>= λ bytes. given (varintOf (t .size) ++ (take (t .size) (drop (t .start) file) ++ bytes))) ≡ behind (varintOf (t .size) ++ take (t .size) (drop (t .start) file)) rest
-      joined t (given bytes) = ap given (sym (append-assoc (varintOf (t .size)) (take (t .size) (drop (t .start) file)) bytes))
-      joined t (refused why) = refl
+  texts-next more place {text} e = go (stringAt (head .strict) file 0 place) e where
+    joined : (t : Text) (rest : Reply (List ℕ)) →
+        (rest >>= λ bytes. given (varintOf (t .size) ++ (take (t .size) (drop (t .start) file) ++ bytes))) ≡ behind (varintOf (t .size) ++ take (t .size) (drop (t .start) file)) rest
+    joined t (given bytes) = ap given (sym (append-assoc (varintOf (t .size)) (take (t .size) (drop (t .start) file)) bytes))
+    joined t (refused why) = refl
 
-      tested : (t : Text) (test : Bool) → given text ≡ (demand test (plain 26) >> given t)
-          → (demand test (plain 26) >> from more t)
-          ≡ behind (varintOf (text .size) ++ take (text .size) (drop (text .start) file)) (textsInline file head more (text .next))
-      tested t true is = let same : t ≡ text = cc in rw (← same) (joined t (textsInline file head more (t .next)))
-      tested t false is = let z : _≡_ {A = ℕ} 0 1 = cc in absurd (omega arith)
+    tested : (t : Text) (test : Bool) → given text ≡ (demand test (plain 26) >> given t)
+        → (demand test (plain 26) >> from more t) ≡ behind (varintOf (text .size) ++ take (text .size) (drop (text .start) file)) (textsInline file head more (text .next))
+    tested t true is = let same : t ≡ text = cc in rw (← same) (joined t (textsInline file head more (t .next)))
+    tested t false is = let z : _≡_ {A = ℕ} 0 1 = cc in absurd (omega arith)
 
-      go : (answer : Answer Text) → given text ≡ ((answer orElse plain 26) >>= λ t. demand (leb (t .size) 255) (plain 26) >> given t)
-          → ((answer orElse plain 26) >>= λ t. demand (leb (t .size) 255) (plain 26) >> from more t)
-          ≡ behind (varintOf (text .size) ++ take (text .size) (drop (text .start) file)) (textsInline file head more (text .next))
-      go (found t) is = tested t (leb (t .size) 255) is
-      go failed is = let z : _≡_ {A = ℕ} 0 1 = cc in absurd (omega arith)
-      go (A.refused n) is = let z : _≡_ {A = ℕ} 0 1 = cc in absurd (omega arith)
+    go : (answer : Answer Text) → given text ≡ ((answer orElse plain 26) >>= λ t. demand (leb (t .size) 255) (plain 26) >> given t)
+        → ((answer orElse plain 26) >>= λ t. demand (leb (t .size) 255) (plain 26) >> from more t)
+        ≡ behind (varintOf (text .size) ++ take (text .size) (drop (text .start) file)) (textsInline file head more (text .next))
+    go (found t) is = tested t (leb (t .size) 255) is
+    go failed is = let z : _≡_ {A = ℕ} 0 1 = cc in absurd (omega arith)
+    go (A.refused n) is = let z : _≡_ {A = ℕ} 0 1 = cc in absurd (omega arith)
 
   -- one that is refused ends them
   texts-refused : (more place : ℕ) {why : Refusal} → refused why ≡ shortText (head .strict) file place → refused why ≡ textsInline file head (suc more) place
   unfolding shortText textsInline
-  texts-refused more place {why} e = go (stringAt (head .strict) file 0 place) e
-    where
-      tested : (t : Text) (test : Bool) → refused why ≡ (demand test (plain 26) >> given t) → refused why ≡ (demand test (plain 26) >> from more t)
-      tested t true is = let z : _≡_ {A = ℕ} 0 1 = cc in absurd (omega arith)
-      tested t false is = let same : why ≡ plain 26 = cc in ap refused same
+  texts-refused more place {why} e = go (stringAt (head .strict) file 0 place) e where
+    tested : (t : Text) (test : Bool) → refused why ≡ (demand test (plain 26) >> given t) → refused why ≡ (demand test (plain 26) >> from more t)
+    tested t true is = let z : _≡_ {A = ℕ} 0 1 = cc in absurd (omega arith)
+    tested t false is = let same : why ≡ plain 26 = cc in ap refused same
 
-      go : (answer : Answer Text) → refused why ≡ ((answer orElse plain 26) >>= λ t. demand (leb (t .size) 255) (plain 26) >> given t)
-          → refused why ≡ ((answer orElse plain 26) >>= λ t. demand (leb (t .size) 255) (plain 26) >> from more t)
-      go (found t) is = tested t (leb (t .size) 255) is
-      go failed is = let same : why ≡ plain 26 = cc in ap refused same
-      go (A.refused n) is = let same : why ≡ plain n = cc in ap refused same
+    go : (answer : Answer Text) → refused why ≡ ((answer orElse plain 26) >>= λ t. demand (leb (t .size) 255) (plain 26) >> given t)
+        → refused why ≡ ((answer orElse plain 26) >>= λ t. demand (leb (t .size) 255) (plain 26) >> from more t)
+    go (found t) is = tested t (leb (t .size) 255) is
+    go failed is = let same : why ≡ plain 26 = cc in ap refused same
+    go (A.refused n) is = let same : why ≡ plain n = cc in ap refused same
 
   -- ---- the loop
   module _ (before : List ℕ) (at : ℕ) where
@@ -121,7 +111,6 @@ module _ (file : List ℕ) (head : Head) where
 
       pub texts-end : left ≤ 0 → Inlined (headTexts file head) before at now (P.Place next)
       unfolding textsInline
-      texts-end h =
-          let none : left ≡ 0 = omega arith in
+      texts-end h = let none : left ≡ 0 = omega arith in
           let all : behind (t .done) (textsInline file head 0 place) ≡ headTexts file head = ap (λ (n : ℕ). behind (t .done) (textsInline file head n place)) (sym none) ∙ t .rest in
           subst (λ (r : Reply (List ℕ)). Inlined r before at now (P.Place next)) all (capped-as (sym (append-nil (t .done))) (t .laid))

@@ -1,6 +1,5 @@
 -- `salvage::strings::fields_good` meets its contract. The loop's invariant: what is left of the fields says what all say. Assumes nothing.
-use borrow.Author.Needs.{needs}
-use mathlib.Core.Path.{_≡_, refl, _∙_}
+use Rattle.numbers.proofs.Prelude.{needs, _≡_, refl, _∙_}
 use Rattle.salvage.proofs.strings.{Placing.{fields-none, fields-stop, fields-go}, fields_good.Statement.{statement}}
 use Rattle.salvage.specs.Kept.{fieldsGood}
 use Rattle.salvage.proofs.strings.fields_good.Tie as tie
@@ -20,6 +19,5 @@ loop-again c = fields-go _ _ _ _ (c .before .before .before .before .loop-test .
     c .before .before .before .before .before .loop .inv
 
 pub fields-good-spec : {M : Type 1} → statement M
-fields-good-spec = tie.close (tie.spec
-    Inv-loop μ-loop (λ c. refl) (λ c κs. search needs) (λ c. search needs) (λ c. search needs) returns (λ c. search needs) (λ c. search needs)
-    loop-again (λ c. fields-none _ _ _ _ (c .loop-test .left) ∙ c .before .loop .inv))
+fields-good-spec = tie.close (tie.spec Inv-loop μ-loop (λ c. refl) (λ c κs. search needs) (λ c. search needs) (λ c. search needs) returns (λ c. search needs)
+    (λ c. search needs) loop-again (λ c. fields-none _ _ _ _ (c .loop-test .left) ∙ c .before .loop .inv))

@@ -1,13 +1,8 @@
 -- `salvage::strings::string_inside` meets its contract. Assumes nothing.
-use borrow.Author.Needs.{needs}
-use mathlib.Core.Path.{_∙_}
-use native.Mathlib.Omega.{arith}
+use Rattle.numbers.proofs.Prelude.{needs, _∙_, arith}
 use Rattle.header.proofs.Strings.{read-within}
 use Rattle.salvage.proofs.strings.{Placing.{string-stops, string-inline, string-away, string-cut}, string_inside.Statement.{statement}}
 use Rattle.salvage.proofs.strings.string_inside.Tie as tie
-
-returns : tie.Need-returns
-returns c = string-stops _ _ _ (c .before .read-number .result) (c .match .keys2) (c .before .read-number .ensures)
 
 add-in-section : tie.Need-add-in-section
 add-in-section c = omega (arith, read-within _ _ _ (rw (c .before .before .before .before .n .given .1) at (c .before .before .before .before .before .before .read-number .ensures)))
@@ -28,6 +23,6 @@ returns-4 c = string-cut _ _ _ (rw (c .before .before .before .before .before .n
     (c .before .before .if1 .left) (c .before .in-section2 .ensures) (c .if2 .left)
 
 pub string-inside-spec : {M : Type 1} → statement M
-string-inside-spec = tie.close (tie.spec
-    (λ c κs. search needs) (λ c. search needs) returns add-in-section (λ c κs. search needs) returns-2 (λ c κs. search needs) (λ c. omega arith)
-    (λ c. omega arith) (λ c κs. search needs) returns-3 returns-4)
+string-inside-spec = tie.close (tie.spec (λ c κs. search needs) (λ c. search needs)
+    (λ c. string-stops _ _ _ (c .before .read-number .result) (c .match .keys2) (c .before .read-number .ensures)) add-in-section (λ c κs. search needs)
+    returns-2 (λ c κs. search needs) (λ c. omega arith) (λ c. omega arith) (λ c κs. search needs) returns-3 returns-4)

@@ -1,12 +1,10 @@
 -- Bytes that go into a lent output, counted with a cap: repeated runs can make a border longer than any number.
-use Prim.Native.Nat.{ℕ, _+_, _^_, _<_, _≤_}
-use mathlib.Core.{Path.{_≡_}, List.{List}}
-use lib.ListN.{length}
+use Rattle.numbers.specs.Prelude.{ℕ, _+_, _^_, _≤_, _<_, length, List, _≡_}
+use Rattle.numbers.specs.{Answer.{Answer, found, failed, refused, _>>=_}, Varint.{told}, declared.{point.RawPoint.{RawPoint}, varint.Varint.{Varint}}}
 use Rattle.writer.specs.inner.Stored.{Stored}
 use Rattle.border.specs.declared.reader.Next.{Next}
-use Rattle.border.specs.declared.reader.Next.the-variants as N
-use Rattle.numbers.specs.{Answer.{Answer, found, failed, refused, _>>=_}, Varint.{told}, declared.{point.RawPoint.{RawPoint}, varint.Varint.{Varint}}}
 use Rattle.salvage.specs.declared.moves.{ending.End.{End}, pairs.{Pair.{Pair}, Paired.{Paired}}}
+use Rattle.border.specs.declared.reader.Next.the-variants as N
 use Rattle.salvage.specs.declared.moves.ending.End.the-variants as E
 use Rattle.salvage.specs.declared.moves.pairs.Paired.the-variants as P
 

@@ -1,11 +1,7 @@
 -- Names and notice, one by one, and what is written of them.
-use Prim.Native.Nat.{ℕ}
-use mathlib.Core.{Bool.{Bool}, List.{List, _++_}, Path.{_≡_}}
-use lib.{Dec.{leb}, ListN.{take, drop}}
+use Rattle.numbers.specs.{Limits.{longestText}, Prelude.{ℕ, leb, take, drop, Bool, List, _++_, _≡_}, Reply.{Reply, given, refused, plain, demand, _orElse_, _>>=_, _>>_}, Spelling.{varintOf}}
 use Rattle.header.specs.{Text.{stringAt}, declared.text.Text.{Text}}
-use Rattle.salvage.specs.inner.Moves.Laid.{Capped}
-use Rattle.numbers.specs.{Limits.{longestText}, Reply.{Reply, given, refused, plain, demand, _orElse_, _>>=_, _>>_}, Spelling.{varintOf}}
-use Rattle.salvage.specs.declared.rescue.texts.Put.{Put}
+use Rattle.salvage.specs.{declared.rescue.texts.Put.{Put}, inner.Moves.Laid.{Capped}}
 use Rattle.salvage.specs.declared.rescue.texts.Put.the-variants as P
 
 -- the text at a place of the header; 26 for one that can't stand inline

@@ -1,9 +1,6 @@
 -- The code's answer, as the reply of document 02, Q-7.
-use Prim.Native.Nat.{ℕ}
-use mathlib.Core.{List.{List}, Path.{_≡_}}
-use Rattle.numbers.specs.Reply.{Reply, given, refused}
-use Rattle.salvage.specs.Salvage.{Salvaged, Counts, Replied, repliedOf}
-use Rattle.salvage.specs.declared.rescue.reply.Rescued.{Rescued}
+use Rattle.numbers.specs.{Prelude.{ℕ, List, _≡_}, Reply.{Reply, given, refused}}
+use Rattle.salvage.specs.{Salvage.{Salvaged, Counts, Replied, repliedOf}, declared.rescue.reply.Rescued.{Rescued}}
 use Rattle.salvage.specs.declared.rescue.reply.Rescued.the-variants as R
 
 abbrev pub toldRescued : Rescued → Reply Counts

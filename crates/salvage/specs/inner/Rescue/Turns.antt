@@ -1,14 +1,10 @@
 -- What becomes of an entry, and the list of dropped ones as it is stored.
-use Prim.Native.Nat.{ℕ}
-use mathlib.Core.{List.{List}, Path.{_≡_}}
-use lib.ListN.{length}
+use Rattle.numbers.specs.{Answer.{Answer, found, failed}, Prelude.{ℕ, length, List, _≡_}, Reply.{Reply, given, refused}}
 use Rattle.writer.specs.inner.Stored.{Stored}
 use Rattle.header.specs.declared.header.Head.{Head}
-use Rattle.numbers.specs.{Answer.{Answer, found, failed}, Reply.{Reply, given, refused}}
-use Rattle.numbers.specs.Answer as A
-use Rattle.salvage.specs.Kept.{entryGood, keptOf, linesFrom}
+use Rattle.salvage.specs.{Kept.{entryGood, keptOf, linesFrom}, declared.rescue.lines.{Lines.{Lines}, Turn.{Turn}}}
 use Rattle.table.specs.{Rows.{after, rowsIn}, declared.rows.{Cursor.{Cursor}, Row.{Row}}}
-use Rattle.salvage.specs.declared.rescue.lines.{Lines.{Lines}, Turn.{Turn}}
+use Rattle.numbers.specs.Answer as A
 use Rattle.salvage.specs.declared.rescue.lines.Turn.the-variants as T
 
 -- an entry whose six numbers were read is kept, or dropped for its first reason

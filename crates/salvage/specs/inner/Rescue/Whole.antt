@@ -1,11 +1,7 @@
 -- The new file, section by section.
-use Prim.Native.Nat.{ℕ, _<_}
-use mathlib.Core.{List.{List, _++_, flatMap}, Path.{_≡_}}
-use lib.ListN.{length}
+use Rattle.numbers.specs.{Prelude.{ℕ, _<_, length, List, _++_, flatMap, _≡_}, Reply.{Reply, given, _>>=_}, Spelling.{varintOf}}
 use Rattle.header.specs.declared.header.Head.{Head}
-use Rattle.salvage.specs.inner.Moves.Laid.{cap, Capped}
-use Rattle.numbers.specs.{Reply.{Reply, given, _>>=_}, Spelling.{varintOf}}
-use Rattle.salvage.specs.{File.{headTexts, borderBytes, tableFrom, newFile, Sized}, Kept.{keptOf}}
+use Rattle.salvage.specs.{File.{headTexts, borderBytes, tableFrom, newFile, Sized}, Kept.{keptOf}, inner.Moves.Laid.{cap, Capped}}
 use Rattle.table.specs.Rows.{rowsIn}
 
 abbrev pub newTable : List ℕ → Head → List ℕ

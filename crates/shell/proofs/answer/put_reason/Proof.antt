@@ -1,6 +1,5 @@
 -- `shell::answer::put_reason` meets its contract. Assumes nothing.
-use borrow.Author.Needs.{needs}
-use mathlib.Core.List.{[], _∷_}
+use Rattle.numbers.proofs.Prelude.{needs, [], _∷_}
 use Rattle.line.proofs.Puts.{put-then}
 use Rattle.shell.proofs.answer.put_reason.Statement.{statement}
 use Rattle.shell.specs.{Answer.{reasonLine}, Text.{bytes}}
@@ -8,33 +7,17 @@ use Rattle.shell.proofs.answer.put_reason.Tie as tie
 
 returns : tie.Need-returns
 unfolding reasonLine bytes
-returns c =
-    let far = c .before .before .before .before .before .before .before .before .before .before .before .before .before .before in
+returns c = let far = c .before .before .before .before .before .before .before .before .before .before .before .before .before .before in
     let put-all = far .before .before .before .before .before .before .before .before .before .before .before .before .before .before .put-all in
     let far = c .before .before .before .before .before .before .before .before .before .before .before in
     let put-number = far .before .before .before .before .before .before .before .before .before .before .before .before .put-number in
     let put-number2 = c .before .before .before .before .before .before .before .before .before .before .before .before .before .before .before .before .before .before .put-number2 in
     let put-number3 = c .before .before .before .before .before .before .before .before .before .before .before .before .before .before .put-number3 in
     let put = c .before .before .before .before .before .before .before .before .before .before .put in
-    let put-words = c .before .before .before .before .before .before .put-words in
-    let put2 = c .before .before .put2 in
-    let words = put-then (32 ∷ []) _ (put .ensures) (put-words .ensures) in
-    let behind = put-then _ _ (put-number3 .ensures) (put-then _ _ words (put2 .ensures)) in
+    let put-words = c .before .before .before .before .before .before .put-words in let put2 = c .before .before .put2 in
+    let behind = put-then _ _ (put-number3 .ensures) (put-then _ _ (put-then (32 ∷ []) _ (put .ensures) (put-words .ensures)) (put2 .ensures)) in
     put-then _ _ (put-all .ensures) (put-then _ _ (put-number .ensures) (put-then _ _ (put-number2 .ensures) behind))
 
 pub put-reason-spec : {M : Type 1} → statement M
-put-reason-spec =
-    tie.close
-    (tie.spec
-    (λ c. search needs)
-    (λ c κs. search needs)
-    (λ c. search needs)
-    (λ c κs. search needs)
-    (λ c. search needs)
-    (λ c κs. search needs)
-    (λ c κs. search needs)
-    (λ c κs. search needs)
-    (λ c κs. search needs)
-    (λ c κs. search needs)
-    (λ c. search needs)
-    returns)
+put-reason-spec = tie.close (tie.spec (λ c. search needs) (λ c κs. search needs) (λ c. search needs) (λ c κs. search needs) (λ c. search needs)
+    (λ c κs. search needs) (λ c κs. search needs) (λ c κs. search needs) (λ c κs. search needs) (λ c κs. search needs) (λ c. search needs) returns)

@@ -1,11 +1,7 @@
 -- `shell::words::put_line_of` meets its contract. Assumes nothing.
-use Prim.Native.Nat.{_-_}
-use borrow.Author.Needs.{needs}
-use lib.ListN.{length}
-use native.Mathlib.Omega.{arith}
+use Rattle.numbers.proofs.Prelude.{_-_, needs, length, arith}
 use Rattle.line.proofs.Puts.{put-as}
-use Rattle.shell.proofs.Saying.{Still, still-begin, still-length, still-end, still-byte, still-next, still-on, still-past}
-use Rattle.shell.proofs.words.put_line_of.Statement.{statement}
+use Rattle.shell.proofs.{Saying.{Still, still-begin, still-length, still-end, still-byte, still-next, still-on, still-past}, words.put_line_of.Statement.{statement}}
 use Rattle.shell.specs.Words.{lineAt}
 use Rattle.shell.proofs.words.put_line_of.Tie as tie
 
@@ -15,76 +11,29 @@ Inv-loop out₀ at text number next₀ left₀ i₀ out next left i = Still out�
 abbrev μ-loop : tie.MeasureT-loop
 μ-loop out₀ at text number next₀ left₀ i₀ out next left i = length text - i
 
-loop-holds : tie.Need-loop-holds Inv-loop μ-loop
-loop-holds c = still-begin _ _ _ _
-
-same-length : tie.Need-same-length Inv-loop μ-loop
-same-length c =
-    let loop = c .before .before .before .before .loop in
-    still-length (loop .inv)
-
 returns : tie.Need-returns Inv-loop μ-loop
-returns c =
-    let pre = c .before .before .before .before .before .before .before .pre in
-    let args = c .before .before .before .before .before .before .before .args in
-    let fits = c .before .before .before .before .before .before .before .fits in
-    let loop = c .before .before .before .before .loop in
-    let loop-test = c .before .before .before .loop-test in
-    let if1 = c .before .if1 in
+returns c = let pre = c .before .before .before .before .before .before .before .pre in
+    let args = c .before .before .before .before .before .before .before .args in let fits = c .before .before .before .before .before .before .before .fits in
+    let loop = c .before .before .before .before .loop in let loop-test = c .before .before .before .loop-test in let if1 = c .before .if1 in
     put-as (pre .line (args .number) (omega (arith, fits .number))) (still-end (loop .inv) (loop-test .taken) (if1 .taken) (c .if2 .taken))
 
 loop-again : tie.Need-loop-again Inv-loop μ-loop
-loop-again c =
-    let loop = c .before .before .before .before .loop in
-    let loop-test = c .before .before .before .loop-test in
-    let if1 = c .before .if1 in
+loop-again c = let loop = c .before .before .before .before .loop in let loop-test = c .before .before .before .loop-test in let if1 = c .before .if1 in
     still-next (loop .inv) _ (loop-test .taken) (if1 .taken) (omega (arith, c .if2 .left))
 
 loop-again-2 : tie.Need-loop-again-2 Inv-loop μ-loop
-loop-again-2 c =
-    let loop = c .before .before .before .before .before .before .before .before .loop in
-    let loop-test = c .before .before .before .before .before .before .before .loop-test in
-    let if1 = c .before .before .before .before .before .if1 in
-    let if3 = c .before .before .before .before .if3 in
-    let put = c .before .before .put in
-    still-byte (loop .inv) (loop-test .taken) (if1 .left) (if3 .taken) (put .ensures)
-
-loop-again-3 : tie.Need-loop-again-3 Inv-loop μ-loop
-loop-again-3 c =
-    let loop = c .before .before .before .before .loop in
-    let loop-test = c .before .before .before .loop-test in
-    let if1 = c .before .if1 in
-    still-on (loop .inv) (loop-test .taken) (if1 .left) (c .if3 .left)
-
-same-length-2 : tie.Need-same-length-2 Inv-loop μ-loop
-same-length-2 c = still-length (c .before .loop .inv)
+loop-again-2 c = let loop = c .before .before .before .before .before .before .before .before .loop in
+    let loop-test = c .before .before .before .before .before .before .before .loop-test in let if1 = c .before .before .before .before .before .if1 in
+    still-byte (loop .inv) (loop-test .taken) (if1 .left) (c .before .before .before .before .if3 .taken) (c .before .before .put .ensures)
 
 returns-2 : tie.Need-returns-2 Inv-loop μ-loop
-returns-2 c =
-    let pre = c .before .before .before .before .pre in
-    let args = c .before .before .before .before .args in
-    let fits = c .before .before .before .before .fits in
-    let loop = c .before .loop in
+returns-2 c = let pre = c .before .before .before .before .pre in let args = c .before .before .before .before .args in
+    let fits = c .before .before .before .before .fits in let loop = c .before .loop in
     put-as (pre .line (args .number) (omega (arith, fits .number))) (still-past (loop .inv) (omega (arith, c .loop-test .left)))
 
 pub put-line-of-spec : {M : Type 1} → statement M
-put-line-of-spec =
-    tie.close
-    (tie.spec
-    Inv-loop
-    μ-loop
-    loop-holds
-    (λ c. search needs)
-    (λ c. search needs)
-    same-length
-    returns
-    (λ c. search needs)
-    (λ c. search needs)
-    loop-again
-    (λ c κs. search needs)
-    (λ c. search needs)
-    loop-again-2
-    (λ c. search needs)
-    loop-again-3
-    same-length-2
-    returns-2)
+put-line-of-spec = tie.close (tie.spec Inv-loop μ-loop (λ c. still-begin _ _ _ _) (λ c. search needs) (λ c. search needs)
+    (λ c. let loop = c .before .before .before .before .loop in still-length (loop .inv)) returns (λ c. search needs) (λ c. search needs) loop-again
+    (λ c κs. search needs) (λ c. search needs) loop-again-2 (λ c. search needs)
+    (λ c. still-on (c .before .before .before .before .loop .inv) (c .before .before .before .loop-test .taken) (c .before .if1 .left) (c .if3 .left))
+    (λ c. still-length (c .before .loop .inv)) returns-2)

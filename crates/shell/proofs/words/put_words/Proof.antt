@@ -1,7 +1,6 @@
 -- `shell::words::put_words` meets its contract: the text that it has is checked against the table, line by line. Assumes nothing.
-use borrow.Author.Needs.{needs}
-use Rattle.shell.proofs.Saying.{says-all}
-use Rattle.shell.proofs.words.put_words.Statement.{statement}
+use Rattle.numbers.proofs.Prelude.{needs}
+use Rattle.shell.proofs.{Saying.{says-all}, words.put_words.Statement.{statement}}
 use Rattle.shell.specs.{Text.{bytes}, Words.{table, wordsIn, wordsOf, lineAt}}
 use Rattle.shell.proofs.words.put_words.Tie as tie
 

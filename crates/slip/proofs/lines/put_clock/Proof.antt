@@ -1,5 +1,5 @@
 -- `slip::lines::put_clock` meets its contract. Assumes nothing.
-use borrow.Author.Needs.{needs}
+use Rattle.numbers.proofs.Prelude.{needs}
 use Rattle.line.proofs.Puts.{put-then}
 use Rattle.slip.specs.Line.{clockText}
 use Rattle.slip.proofs.lines.put_clock.Statement.{statement}
@@ -8,28 +8,17 @@ use Rattle.slip.proofs.lines.put_clock.Tie as tie
 returns : tie.Need-returns
 unfolding clockText
 returns c =
-    let put-weekday = c .before .before .before .before .before .before .before .before .before .before .before .before .before .before .before .before .before .before .before .before
-    .before .before .before .before .before .before .put-weekday in
-    let put = c .before .before .before .before .before .before .before .before .before .before .before .before .before .before .before .before .before .before .before .before .before
-    .before .put in
+    let put-weekday =
+    c .before .before .before .before .before .before .before .before .before .before .before .before .before .before .before .before .before .before .before
+    .before .before .before .before .before .before .before .put-weekday in
+    let put = c .before .before .before .before .before .before .before .before .before .before .before .before .before .before .before .before .before .before .before .before .before .before .put in
     let put-date = c .before .before .before .before .before .before .before .before .before .before .before .before .before .before .before .before .before .before .put-date in
     let put2 = c .before .before .before .before .before .before .before .before .before .before .before .before .before .before .put2 in
     let put-time = c .before .before .before .before .before .before .before .before .before .before .put-time in
-    let put3 = c .before .before .before .before .before .before .put3 in
-    let put-offset = c .before .before .put-offset in
+    let put3 = c .before .before .before .before .before .before .put3 in let put-offset = c .before .before .put-offset in
     put-then _ _ (put-weekday .ensures) (put-then _ _ (put .ensures) (put-then _ _ (put-date .ensures) (put-then _ _ (put2 .ensures) (put-then _ _ (put-time .ensures) (put-then _ _
     (put3 .ensures) (put-offset .ensures))))))
 
 pub put-clock-spec : {M : Type 1} → statement M
-put-clock-spec =
-    tie.close
-    (tie.spec
-    (λ c κs. search needs)
-    (λ c κs. search needs)
-    (λ c κs. search needs)
-    (λ c κs. search needs)
-    (λ c κs. search needs)
-    (λ c κs. search needs)
-    (λ c κs. search needs)
-    (λ c. search needs)
-    returns)
+put-clock-spec = tie.close (tie.spec (λ c κs. search needs) (λ c κs. search needs) (λ c κs. search needs) (λ c κs. search needs) (λ c κs. search needs)
+    (λ c κs. search needs) (λ c κs. search needs) (λ c. search needs) returns)

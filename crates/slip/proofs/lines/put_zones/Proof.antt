@@ -1,16 +1,9 @@
 -- `slip::lines::put_zones` meets its contract. Assumes nothing.
-use borrow.Author.Needs.{needs}
-use Prim.Native.Nat.{_-_, _≤_}
-use lib.ListN.{length, take}
-use mathlib.Core.{List.{List}, Path.{_≡_, refl, sym, ap, subst, _∙_}}
-use native.Mathlib.Omega.{arith}
+use Rattle.numbers.proofs.Prelude.{_-_, _≤_, needs, length, take, List, refl, sym, ap, subst, _∙_, arith}
 use Rattle.line.proofs.Puts.{put-as}
-use Rattle.slip.proofs.Zones.{Lining, lining-none, lining-kept, lining-one, lining-stop, lining-all, first-of}
-use Rattle.slip.specs.Told.{toldHour, StandsHour, nameIn, hourAt, isNamedIn, addedBy}
-use Rattle.slip.specs.declared.hour.Hourly.{Hourly}
-use Rattle.table.proofs.Words.{count-slots, slot-is}
-use Rattle.table.specs.{Hits.{slots}, declared.hits.Hit.{Hit}}
-use Rattle.slip.proofs.lines.put_zones.Statement.{statement}
+use Rattle.slip.proofs.{Zones.{Lining, lining-none, lining-kept, lining-one, lining-stop, lining-all, first-of}, lines.put_zones.Statement.{statement}}
+use Rattle.slip.specs.{Told.{toldHour, StandsHour, nameIn, hourAt, isNamedIn, addedBy}, declared.hour.Hourly.{Hourly}}
+use Rattle.table.{proofs.Words.{count-slots, slot-is}, specs.{Hits.{slots}, declared.hits.Hit.{Hit}}}
 use Rattle.slip.proofs.lines.put_zones.Tie as tie
 
 abbrev Inv-loop : tie.InvT-loop
@@ -19,39 +12,35 @@ Inv-loop out₀ at map head zones fix hits count first next₀ i₀ out next i =
 abbrev μ-loop : tie.MeasureT-loop
 μ-loop out₀ at map head zones fix hits count first next₀ i₀ out next i = count - i
 
-loop-holds : tie.Need-loop-holds Inv-loop μ-loop
-loop-holds c = (lining-none _ _ _ _ _ _ _, omega arith)
-
 hour-again-requires : tie.Need-hour-again-requires Inv-loop μ-loop
 hour-again-requires c κs = (omega (arith, c .before .before .before .before .before .before .pre .0, c .loop-test .taken), c .before .before .before .before .before .before .pre .1)
 
-same-length : tie.Need-same-length Inv-loop μ-loop
-same-length c = lining-kept _ _ _ _ _ _ _ _ _ _ (c .before .before .before .before .loop .inv .0)
-
 returns : tie.Need-returns Inv-loop μ-loop
-returns c =
-    let args = c .before .before .before .before .before .before .before .before .before .args in
-    let loop = c .before .before .before .before .loop in
+returns c = let args = c .before .before .before .before .before .before .before .before .before .args in let loop = c .before .before .before .before .loop in
     let pre = c .before .before .before .before .before .before .before .before .before .pre .0 in
-    lining-stop _ _ _ _ (take (args .count) (slots (args .hits .now))) _ _ _ _ (loop .i) (loop .inv .0) (omega (arith, c .before .before .before .loop-test .taken, count-slots (args .hits .now) (args .count) pre))
-    (slot-is (args .hits .now) (args .count) pre _ _ (c .before .before .before .loop-test .taken) refl)
-    (sym (c .before .before .hour-again .ensures .0) ∙ ap (toldHour (args .map .now) (args .zones .now)) (c .enum-told .given .1))
+    lining-stop _ _ _ _ (take (args .count) (slots (args .hits .now))) _ _ _ _ (loop .i) (loop .inv .0)
+    (omega (arith, c .before .before .before .loop-test .taken, count-slots (args .hits .now) (args .count) pre)) (slot-is (args .hits .now) (args .count) pre
+    _ _ (c .before .before .before .loop-test .taken) refl) (sym (c .before .before .hour-again .ensures .0) ∙ ap (toldHour (args .map .now) (args .zones .now)) (c .enum-told .given .1))
 
 put-added-requires : tie.Need-put-added-requires Inv-loop μ-loop
 unfolding StandsHour
-put-added-requires c κs =
-    let args = c .before .before .before .before .before .before .before .before .before .before .before .args in
-    (subst (λ (h : Hourly). StandsHour (length (args .map .now)) (length (args .zones .now)) h) (c .before .before .spot .given .1) (c .before .before .before .before .hour-again .ensures .1), omega (arith, c .before .before .before .before .before .before .before .before .before .before .before .pre .0, c .before .before .before .before .before .loop-test .taken))
+put-added-requires c κs = let args = c .before .before .before .before .before .before .before .before .before .before .before .args in (
+  subst (λ (h : Hourly). StandsHour (length (args .map .now)) (length (args .zones .now)) h) (c .before .before .spot .given .1)
+      (c .before .before .before .before .hour-again .ensures .1),
+  omega
+      (arith, c .before .before .before .before .before .before .before .before .before .before .before .pre .0, c .before .before .before .before .before .loop-test .taken),
+)
 
 add-i : tie.Need-add-i Inv-loop μ-loop
-add-i c = omega (arith, c .before .before .before .before .before .before .before .before .loop-test .taken, c .before .before .before .before .before .before .before .before .before .before .before .before .before .before .fits .count)
-
-loop-less : tie.Need-loop-less Inv-loop μ-loop
-loop-less c = omega (arith, c .before .before .before .before .before .before .before .before .loop-test .taken)
+add-i c =
+    omega (
+      arith,
+      c .before .before .before .before .before .before .before .before .loop-test .taken,
+      c .before .before .before .before .before .before .before .before .before .before .before .before .before .before .fits .count,
+    )
 
 loop-again : tie.Need-loop-again Inv-loop μ-loop
-loop-again c =
-    let args = c .before .before .before .before .before .before .before .before .before .before .before .before .before .before .args in
+loop-again c = let args = c .before .before .before .before .before .before .before .before .before .before .before .before .before .before .args in
     let loop = c .before .before .before .before .before .before .before .before .before .loop in
     let taken = c .before .before .before .before .before .before .before .before .loop-test .taken in
     let pre = c .before .before .before .before .before .before .before .before .before .before .before .before .before .before .pre .0 in
@@ -59,36 +48,21 @@ loop-again c =
     let same = first-of (loop .i) (args .count) (slots (args .hits .now)) (omega (arith, taken)) in (
       lining-one _ _ _ _ (take (args .count) (slots (args .hits .now))) _ _ _ _ (loop .i) (loop .inv .0) (omega (arith, taken, count-slots (args .hits .now) (args .count) pre))
           (slot-is (args .hits .now) (args .count) pre _ _ taken refl)
-          (sym (c .before .before .before .before .before .before .before .hour-again .ensures .0) ∙ ap (toldHour (args .map .now) (args .zones .now)) (c .before .before .before .before .before .spot .given .1))
-          (put-as (ap (λ (ms : List Hit). addedBy (isNamedIn (args .map .now) (args .head) (nameIn (args .map .now) (said .name)) ms) (loop .i) (hourAt (args .map .now) (args .zones .now) said)) same)
+          (sym (c .before .before .before .before .before .before .before .hour-again .ensures .0) ∙ ap (toldHour (args .map .now) (args .zones .now))
+          (c .before .before .before .before .before .spot .given .1))
+          (put-as (ap (λ (ms : List Hit). addedBy (isNamedIn (args .map .now) (args .head) (nameIn (args .map .now) (said .name)) ms) (loop .i)
+          (hourAt (args .map .now) (args .zones .now) said)) same)
           (c .before .before .put-added .ensures)),
       omega (arith, taken),
     )
 
-same-length-2 : tie.Need-same-length-2 Inv-loop μ-loop
-same-length-2 c = lining-kept _ _ _ _ _ _ _ _ _ _ (c .before .loop .inv .0)
-
 returns-2 : tie.Need-returns-2 Inv-loop μ-loop
-returns-2 c =
-    let args = c .before .before .before .before .before .before .args in
-    let loop = c .before .loop in
-    lining-all _ _ _ _ (take (args .count) (slots (args .hits .now))) _ _ _ _ (loop .i) (loop .inv .0) (omega (arith, c .loop-test .left, count-slots (args .hits .now) (args .count) (c .before .before .before .before .before .before .pre .0)))
+returns-2 c = let args = c .before .before .before .before .before .before .args in let loop = c .before .loop in
+    lining-all _ _ _ _ (take (args .count) (slots (args .hits .now))) _ _ _ _ (loop .i) (loop .inv .0)
+    (omega (arith, c .loop-test .left, count-slots (args .hits .now) (args .count) (c .before .before .before .before .before .before .pre .0)))
 
 pub put-zones-spec : {M : Type 1} → statement M
-put-zones-spec =
-    tie.close
-    (tie.spec
-    Inv-loop
-    μ-loop
-    loop-holds
-    hour-again-requires
-    (λ c. search needs)
-    (λ c. search needs)
-    same-length
-    returns
-    put-added-requires
-    add-i
-    loop-less
-    loop-again
-    same-length-2
-    returns-2)
+put-zones-spec = tie.close (tie.spec Inv-loop μ-loop (λ c. (lining-none _ _ _ _ _ _ _, omega arith)) hour-again-requires (λ c. search needs) (λ c. search needs)
+    (λ c. lining-kept _ _ _ _ _ _ _ _ _ _ (c .before .before .before .before .loop .inv .0)) returns put-added-requires add-i
+    (λ c. omega (arith, c .before .before .before .before .before .before .before .before .loop-test .taken)) loop-again
+    (λ c. lining-kept _ _ _ _ _ _ _ _ _ _ (c .before .loop .inv .0)) returns-2)

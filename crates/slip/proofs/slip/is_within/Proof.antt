@@ -1,5 +1,5 @@
 -- `slip::slip::is_within` meets its contract. Assumes nothing.
-use mathlib.Core.Path.{_≡_, refl}
+use Rattle.numbers.proofs.Prelude.{refl}
 use Rattle.slip.specs.Slip.{within}
 use Rattle.slip.proofs.slip.is_within.Statement.{statement}
 use Rattle.slip.proofs.slip.is_within.Tie as tie
@@ -13,6 +13,4 @@ unfolding within
 returns-2 c = rw (c .if1 .left) refl
 
 pub is-within-spec : {M : Type 1} → statement M
-is-within-spec =
-    tie.close
-    (tie.spec returns returns-2)
+is-within-spec = tie.close (tie.spec returns returns-2)

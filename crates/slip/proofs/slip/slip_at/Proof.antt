@@ -1,20 +1,13 @@
 -- `slip::slip::slip_at` meets its contract. Assumes nothing.
-use borrow.Author.Needs.{needs}
-use lib.ListN.{length}
-use mathlib.Core.Path.{_≡_, refl, sym, ap, _∙_}
+use Rattle.numbers.{proofs.Prelude.{needs, length, refl, ap, _∙_}, specs.Lists.{zeros}}
 use Rattle.header.proofs.Buffers.{of-length, all-zero}
-use Rattle.numbers.specs.Lists.{zeros}
-use Rattle.slip.proofs.Stamps.{given-reply, refused-reply}
-use Rattle.slip.specs.Slip.{slipAt, slippedAt}
-use Rattle.slip.specs.Told.{told}
-use Rattle.slip.proofs.slip.slip_at.Statement.{statement}
+use Rattle.slip.proofs.{Stamps.{given-reply, refused-reply}, slip.slip_at.Statement.{statement}}
+use Rattle.slip.specs.{Slip.{slipAt, slippedAt}, Told.{told}}
 use Rattle.slip.proofs.slip.slip_at.Tie as tie
 
 fill-requires : tie.Need-fill-requires
-fill-requires c κs =
-    let args = c .before .before .before .before .before .before .before .before .before .before .before .before .before .args in
-    let zero = c .before .before .before .before .before .zero in
-    all-zero _ (length (args .out .now)) (zero .ensures)
+fill-requires c κs = let args = c .before .before .before .before .before .before .before .before .before .before .before .before .before .args in
+    all-zero _ (length (args .out .now)) (c .before .before .before .before .before .zero .ensures)
 
 same-length : tie.Need-same-length
 same-length c = search needs
@@ -28,42 +21,31 @@ same-length-3 c = search needs
 returns : tie.Need-returns
 unfolding slippedAt
 returns c =
-    let args = c .before .before .before .before .before .before .before .before .before .before .before .before .before .before .before .before .before .before .before .before .before .before .before .before .before .before .before .before .before .before .before .before .before .before .args in
+    let args =
+    c .before .before .before .before .before .before .before .before .before .before .before .before .before .before .before .before .before .before .before
+    .before .before .before .before .before .before .before .before .before .before .before .before .before .before .before .args in
     let fill = c .before .before .before .before .before .before .before .before .before .before .before .before .before .before .before .before .before .before .before .before .fill in
-    let zero = c .before .before .before .before .before .before .before .before .before .before .before .before .before .before .before .before .before .before .before .before .before .before .before .before .before .before .zero in
+    let zero =
+    c .before .before .before .before .before .before .before .before .before .before .before .before .before .before .before .before .before .before .before
+    .before .before .before .before .before .before .before .zero in
     let why = c .before .before .before .before .before .before .before .before .before .before .before .before .why in
-    let zero-both = c .before .before .before .before .before .before .before .before .zero-both in
-    let zero2 = c .before .before .zero2 in
-    refused-reply (slipAt (args .fix) (args .map .now) (args .atlas .now) (args .zones .now)) (told (fill .result)) _ _ _ refl refl (of-length _ (length (args .out .now)) (zero .ensures)) (fill .ensures)
-    (ap told (why .given .1))
-    (all-zero _ (length (fill .last .1 .1 .1 .1 .0)) (zero-both .ensures .0) ∙ ap zeros (same-length c)) (all-zero _ (length (fill .last .1 .1 .1 .1 .1 .0)) (zero-both .ensures .1) ∙ ap zeros
-    (same-length-2 c)) (all-zero _ (length (fill .last .1 .1 .1 .1 .1 .1 .0)) (zero2 .ensures) ∙ ap zeros (same-length-3 c))
+    let zero-both = c .before .before .before .before .before .before .before .before .zero-both in let zero2 = c .before .before .zero2 in
+    refused-reply (slipAt (args .fix) (args .map .now) (args .atlas .now) (args .zones .now)) (told (fill .result)) _ _ _ refl refl
+    (of-length _ (length (args .out .now)) (zero .ensures)) (fill .ensures) (ap told (why .given .1)) (all-zero _ (length (fill .last .1 .1 .1 .1 .0))
+    (zero-both .ensures .0) ∙ ap zeros (same-length c)) (all-zero _ (length (fill .last .1 .1 .1 .1 .1 .0)) (zero-both .ensures .1) ∙ ap zeros (same-length-2 c))
+    (all-zero _ (length (fill .last .1 .1 .1 .1 .1 .1 .0)) (zero2 .ensures) ∙ ap zeros (same-length-3 c))
 
 returns-2 : tie.Need-returns-2
 unfolding slippedAt
 returns-2 c =
-    let args = c .before .before .before .before .before .before .before .before .before .before .before .before .before .before .before .before .before .before .before .before .before .before .before .args in
+    let args =
+    c .before .before .before .before .before .before .before .before .before .before .before .before .before .before .before .before .before .before .before .before .before .before .before .args in
     let fill = c .before .before .before .before .before .before .before .before .before .fill in
     let zero = c .before .before .before .before .before .before .before .before .before .before .before .before .before .before .before .zero in
     let stamped = c .before .stamped in
-    given-reply (slipAt (args .fix) (args .map .now) (args .atlas .now) (args .zones .now)) (told (fill .result)) _ _ _ refl refl (of-length _ (length (args .out .now)) (zero .ensures)) (fill .ensures)
-    (ap told (stamped .given .1))
+    given-reply (slipAt (args .fix) (args .map .now) (args .atlas .now) (args .zones .now)) (told (fill .result)) _ _ _ refl refl
+    (of-length _ (length (args .out .now)) (zero .ensures)) (fill .ensures) (ap told (stamped .given .1))
 
 pub slip-at-spec : {M : Type 1} → statement M
-slip-at-spec =
-    tie.close
-    (tie.spec
-    (λ c κs. search needs)
-    fill-requires
-    (λ c. search needs)
-    (λ c. search needs)
-    (λ c κs. search needs)
-    (λ c κs. search needs)
-    same-length
-    same-length-2
-    same-length-3
-    returns
-    (λ c. search needs)
-    (λ c. search needs)
-    (λ c. search needs)
-    returns-2)
+slip-at-spec = tie.close (tie.spec (λ c κs. search needs) fill-requires (λ c. search needs) (λ c. search needs) (λ c κs. search needs) (λ c κs. search needs)
+    same-length same-length-2 same-length-3 returns (λ c. search needs) (λ c. search needs) (λ c. search needs) returns-2)

@@ -1,8 +1,5 @@
 -- `table::find::fix_of` meets its contract: each number read back from its bits. Assumes nothing.
-use borrow.Author.Needs.{sfits-of}
-use lib.Ieee.{ofBits}
-use mathlib.Core.Path.{_∙_}
-use mir.{Syntax.{w32}, ValLaws.{toZ-ofZ}}
+use Rattle.numbers.proofs.Prelude.{sfits-of, ofBits, _∙_, w32, toZ-ofZ}
 use Rattle.table.proofs.find.fix_of.Statement.{statement}
 use Rattle.table.specs.Find.{fixOf}
 use Rattle.table.proofs.find.fix_of.Tie as tie

@@ -1,5 +1,5 @@
 -- `table::find::is_precision` meets its contract. Assumes nothing.
-use borrow.Author.Tests.{le-leb, lt-leb}
+use Rattle.numbers.proofs.Prelude.{le-leb, lt-leb}
 use Rattle.table.proofs.find.is_precision.Statement.{statement}
 use Rattle.table.proofs.find.is_precision.Tie as tie
 

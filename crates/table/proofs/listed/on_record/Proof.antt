@@ -1,40 +1,28 @@
 -- `table::listed::on_record` meets its contract, by the test that led to each answer. Assumes nothing.
-use Prim.Native.Nat.{ℕ}
-use borrow.Author.Needs.{needs}
-use lib.Dec.{ltb}
-use mathlib.Core.Path.{sym, ap, _∙_}
-use Rattle.verdict.specs.Verdict.{Judgement}
+use Rattle.numbers.proofs.Prelude.{needs, sym, ap, _∙_}
 use Rattle.table.proofs.{listed.on_record.Statement.{statement}, search.Turns.{not-held, held}}
 use Rattle.table.specs.{GivenRows.{rowAt}, Search.{judgedTurn, judgeIn}, Table.{holds}, declared.{rows.Row.{Row}, table.Bounds.{Bounds}}}
 use Rattle.table.proofs.listed.on_record.Tie as tie
 
-row-at-requires : tie.Need-row-at-requires
-row-at-requires c κs = (c .before .before .before .before .before .pre .0, c .before .before .before .before .before .pre .1, c .before .before .box-at .ensures)
-
 returns : tie.Need-returns
-returns c =
-    let records = c .before .before .before .before .before .before .before .before .args .records .now in
+returns c = let records = c .before .before .before .before .before .before .before .before .args .records .now in
     let k = c .before .before .before .before .before .before .before .before .args .k in
-    let held-by = ap (λ (b : Bounds). holds b (c .before .before .before .before .before .before .before .before .args .fix)) (sym (c .before .before .before .before .before .box-at .ensures)) ∙ sym (c .before .before .before .before .holds .ensures) ∙ c .before .before .before .if1 .taken in
-    let judging = judgeIn (c .before .before .before .before .before .before .before .before .args .file .now) (c .before .before .before .before .before .before .before .before .args .head) (c .before .before .before .before .before .before .before .before .args .fix) (c .before .before .before .before .before .before .before .before .args .asked) in
-    c .judged .ensures
-    ∙ ap (judgedTurn _) (c .before .judge .ensures)
-    ∙ ap (λ (r : Row). judgedTurn r (judging (r .polygon) (c .before .before .before .before .before .before .before .before .args .least))) (c .before .before .row-at .ensures)
-    ∙ held judging (c .before .before .before .before .before .before .before .before .args .fix) (rowAt records k) (c .before .before .before .before .before .before .before .before .args .least) held-by
+    let held-by = ap (λ (b : Bounds). holds b (c .before .before .before .before .before .before .before .before .args .fix)) (sym (c .before .before .before .before .before .box-at .ensures))
+    ∙ sym (c .before .before .before .before .holds .ensures) ∙ c .before .before .before .if1 .taken in
+    let judging = judgeIn (c .before .before .before .before .before .before .before .before .args .file .now) (c .before .before .before .before .before .before .before .before .args .head)
+    (c .before .before .before .before .before .before .before .before .args .fix) (c .before .before .before .before .before .before .before .before .args .asked) in
+    c .judged .ensures ∙ ap (judgedTurn _) (c .before .judge .ensures) ∙ ap (λ (r : Row). judgedTurn r (judging (r .polygon)
+    (c .before .before .before .before .before .before .before .before .args .least))) (c .before .before .row-at .ensures) ∙ held judging
+    (c .before .before .before .before .before .before .before .before .args .fix) (rowAt records k) (c .before .before .before .before .before .before .before .before .args .least) held-by
 
 returns-2 : tie.Need-returns-2
 returns-2 c =
     let out = ap (λ (b : Bounds). holds b (c .before .before .before .before .before .args .fix)) (sym (c .before .before .box-at .ensures)) ∙ sym (c .before .holds .ensures) ∙ c .if1 .left in
-    not-held (judgeIn (c .before .before .before .before .before .args .file .now) (c .before .before .before .before .before .args .head) (c .before .before .before .before .before .args .fix) (c .before .before .before .before .before .args .asked)) (c .before .before .before .before .before .args .fix) (rowAt (c .before .before .before .before .before .args .records .now) (c .before .before .before .before .before .args .k)) (c .before .before .before .before .before .args .least) out
+    not-held (judgeIn (c .before .before .before .before .before .args .file .now) (c .before .before .before .before .before .args .head)
+    (c .before .before .before .before .before .args .fix) (c .before .before .before .before .before .args .asked)) (c .before .before .before .before .before .args .fix)
+    (rowAt (c .before .before .before .before .before .args .records .now) (c .before .before .before .before .before .args .k)) (c .before .before .before .before .before .args .least) out
 
 pub on-record-spec : {M : Type 1} → statement M
-on-record-spec =
-    tie.close
-    (tie.spec
-    (λ c κs. search needs)
-    (λ c κs. tt)
-    row-at-requires
-    (λ c κs. tt)
-    (λ c κs. tt)
-    returns
-    returns-2)
+on-record-spec = tie.close (tie.spec (λ c κs. search needs) (λ c κs. tt)
+    (λ c κs. (c .before .before .before .before .before .pre .0, c .before .before .before .before .before .pre .1, c .before .before .box-at .ensures))
+    (λ c κs. tt) (λ c κs. tt) returns returns-2)

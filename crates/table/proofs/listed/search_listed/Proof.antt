@@ -1,9 +1,5 @@
 -- `table::listed::search_listed` meets its contract. The loop's invariant is `SoFar`, over the rows of the numbers that are left. Assumes nothing.
-use Prim.Native.Nat.{_+_, _-_, _/_}
-use borrow.Author.Needs.{needs}
-use lib.ListN.{length}
-use mathlib.Core.Path.{refl, sym, ap, _∙_}
-use native.Mathlib.Omega.{arith}
+use Rattle.numbers.proofs.Prelude.{_-_, _/_, needs, length, refl, sym, _∙_, arith}
 use Rattle.table.proofs.listed.{Given.{onwardFrom, all-done, no-record, turned, halts, denies, no-slot}, search_listed.Statement.{statement}}
 use Rattle.table.proofs.search.{SoFar.{SoFar, starts, kept-length, on, met}, Turns.{met-kind}}
 use Rattle.table.specs.{GivenRows.{rowAt, searchedListed}, Hits.{width}, Search.{judgeIn}}
@@ -11,7 +7,8 @@ use Rattle.table.proofs.listed.search_listed.Tie as tie
 
 abbrev Inv-loop : tie.InvT-loop
 Inv-loop file head fix asked records numbers hits₀ room rows count₀ least₀ i₀ hits count least i =
-    SoFar (length hits₀) (searchedListed file head fix asked records numbers (length hits₀ / width)) (onwardFrom rowAt (judgeIn file head fix asked) fix records numbers (length hits₀) i) hits count least
+    SoFar (length hits₀) (searchedListed file head fix asked records numbers (length hits₀ / width)) (onwardFrom rowAt (judgeIn file head fix asked) fix
+    records numbers (length hits₀) i) hits count least
 
 abbrev μ-loop : tie.MeasureT-loop
 μ-loop file head fix asked records numbers hits₀ room rows count₀ least₀ i₀ hits count least i = length numbers - i
@@ -22,91 +19,118 @@ loop-holds c = starts _ _ _ _ (c .before .before .before .before .before .before
 
 returns : tie.Need-returns Inv-loop μ-loop
 returns c =
-    rw (c .plain .ensures) (no-record rowAt (judgeIn (c .before .before .before .before .before .before .before .before .before .before .before .before .args .file .now) (c .before .before .before .before .before .before .before .before .before .before .before .before .args .head) (c .before .before .before .before .before .before .before .before .before .before .before .before .args .fix) (c .before .before .before .before .before .before .before .before .before .before .before .before .args .asked)) (c .before .before .before .before .before .before .before .before .before .before .before .before .args .fix) (c .before .before .before .before .before .before .before .before .before .before .before .before .args .records .now) (c .before .before .before .before .before .before .before .before .before .before .before .before .args .numbers .now) _ _ (c .before .before .before .before .before .loop .inv) (c .before .before .before .before .loop-test .taken) (c .before .before .wide .ensures .0) _ (c .before .if1 .taken))
-
-loop-less : tie.Need-loop-less Inv-loop μ-loop
-loop-less c = omega (arith, c .before .before .before .before .before .before .before .loop-test .taken)
+    rw (c .plain .ensures) (no-record rowAt (judgeIn (c .before .before .before .before .before .before .before .before .before .before .before .before .args .file .now)
+    (c .before .before .before .before .before .before .before .before .before .before .before .before .args .head)
+    (c .before .before .before .before .before .before .before .before .before .before .before .before .args .fix)
+    (c .before .before .before .before .before .before .before .before .before .before .before .before .args .asked))
+    (c .before .before .before .before .before .before .before .before .before .before .before .before .args .fix)
+    (c .before .before .before .before .before .before .before .before .before .before .before .before .args .records .now)
+    (c .before .before .before .before .before .before .before .before .before .before .before .before .args .numbers .now) _ _
+    (c .before .before .before .before .before .loop .inv) (c .before .before .before .before .loop-test .taken) (c .before .before .wide .ensures .0) _ (c .before .if1 .taken))
 
 loop-again : tie.Need-loop-again Inv-loop μ-loop
 loop-again c =
-    let t = turned rowAt (judgeIn (c .before .before .before .before .before .before .before .before .before .before .before .before .before .before .before .args .file .now) (c .before .before .before .before .before .before .before .before .before .before .before .before .before .before .before .args .head) (c .before .before .before .before .before .before .before .before .before .before .before .before .before .before .before .args .fix) (c .before .before .before .before .before .before .before .before .before .before .before .before .before .before .before .args .asked)) (c .before .before .before .before .before .before .before .before .before .before .before .before .before .before .before .args .fix) (c .before .before .before .before .before .before .before .before .before .before .before .before .before .before .before .args .records .now) (c .before .before .before .before .before .before .before .before .before .before .before .before .before .before .before .args .numbers .now) _ _ (c .before .before .before .before .before .before .before .before .loop .inv) (c .before .before .before .before .before .before .before .loop-test .taken) (c .before .before .before .before .before .wide .ensures .0) (c .before .before .before .before .if1 .left) (sym (c .before .turn .given .1) ∙ c .before .before .before .on-record .ensures) in
+    let t = turned rowAt (judgeIn (c .before .before .before .before .before .before .before .before .before .before .before .before .before .before .before .args .file .now)
+    (c .before .before .before .before .before .before .before .before .before .before .before .before .before .before .before .args .head)
+    (c .before .before .before .before .before .before .before .before .before .before .before .before .before .before .before .args .fix)
+    (c .before .before .before .before .before .before .before .before .before .before .before .before .before .before .before .args .asked))
+    (c .before .before .before .before .before .before .before .before .before .before .before .before .before .before .before .args .fix)
+    (c .before .before .before .before .before .before .before .before .before .before .before .before .before .before .before .args .records .now)
+    (c .before .before .before .before .before .before .before .before .before .before .before .before .before .before .before .args .numbers .now) _ _
+    (c .before .before .before .before .before .before .before .before .loop .inv) (c .before .before .before .before .before .before .before .loop-test .taken)
+    (c .before .before .before .before .before .wide .ensures .0) (c .before .before .before .before .if1 .left) (sym (c .before .turn .given .1) ∙ c .before .before .before .on-record .ensures) in
     on (c .before .before .before .before .before .before .before .before .loop .inv) _ t
-
-same-length-2 : tie.Need-same-length-2 Inv-loop μ-loop
-same-length-2 c = kept-length (c .before .before .before .before .before .before .before .before .before .before .loop .inv)
 
 returns-2 : tie.Need-returns-2 Inv-loop μ-loop
 returns-2 c =
-    rw (c .plain2 .ensures) (no-slot rowAt (judgeIn (c .before .before .before .before .before .before .before .before .before .before .before .before .before .before .before .before .before .args .file .now) (c .before .before .before .before .before .before .before .before .before .before .before .before .before .before .before .before .before .args .head) (c .before .before .before .before .before .before .before .before .before .before .before .before .before .before .before .before .before .args .fix) (c .before .before .before .before .before .before .before .before .before .before .before .before .before .before .before .before .before .args .asked)) (c .before .before .before .before .before .before .before .before .before .before .before .before .before .before .before .before .before .args .fix) (c .before .before .before .before .before .before .before .before .before .before .before .before .before .before .before .before .before .args .records .now) (c .before .before .before .before .before .before .before .before .before .before .before .before .before .before .before .before .before .args .numbers .now) _ _ (c .before .before .before .before .before .before .before .before .before .before .loop .inv) (c .before .before .before .before .before .before .before .before .before .loop-test .taken) (c .before .before .before .before .before .before .before .wide .ensures .0) (c .before .before .before .before .before .before .if1 .left) _ (sym (c .before .before .before .turn2 .given .1) ∙ c .before .before .before .before .before .on-record .ensures) (omega (arith, c .before .if2 .taken, c .before .before .before .before .before .before .before .before .before .before .before .room .ensures)))
+    rw (c .plain2 .ensures) (no-slot rowAt
+    (judgeIn (c .before .before .before .before .before .before .before .before .before .before .before .before .before .before .before .before .before .args .file .now)
+    (c .before .before .before .before .before .before .before .before .before .before .before .before .before .before .before .before .before .args .head)
+    (c .before .before .before .before .before .before .before .before .before .before .before .before .before .before .before .before .before .args .fix)
+    (c .before .before .before .before .before .before .before .before .before .before .before .before .before .before .before .before .before .args .asked))
+    (c .before .before .before .before .before .before .before .before .before .before .before .before .before .before .before .before .before .args .fix)
+    (c .before .before .before .before .before .before .before .before .before .before .before .before .before .before .before .before .before .args .records .now)
+    (c .before .before .before .before .before .before .before .before .before .before .before .before .before .before .before .before .before .args .numbers .now) _ _
+    (c .before .before .before .before .before .before .before .before .before .before .loop .inv) (c .before .before .before .before .before .before .before .before .before .loop-test .taken)
+    (c .before .before .before .before .before .before .before .wide .ensures .0) (c .before .before .before .before .before .before .if1 .left) _
+    (sym (c .before .before .before .turn2 .given .1) ∙ c .before .before .before .before .before .on-record .ensures)
+    (omega (arith, c .before .if2 .taken, c .before .before .before .before .before .before .before .before .before .before .before .room .ensures)))
 
 put-hit-requires : tie.Need-put-hit-requires Inv-loop μ-loop
-put-hit-requires c κs = omega (arith, kept-length (c .before .before .before .before .before .before .before .before .before .before .loop .inv), c .before .if2 .left, c .before .before .before .before .before .before .before .before .before .before .before .room .ensures)
+put-hit-requires c κs =
+    omega (
+      arith,
+      kept-length (c .before .before .before .before .before .before .before .before .before .before .loop .inv),
+      c .before .if2 .left,
+      c .before .before .before .before .before .before .before .before .before .before .before .room .ensures,
+    )
 
 add-count : tie.Need-add-count Inv-loop μ-loop
 add-count c = omega (arith, c .before .before .before .before .if2 .left, c .before .before .before .before .before .before .before .before .before .before .before .before .before .before .room .ok)
 
-loop-less-2 : tie.Need-loop-less-2 Inv-loop μ-loop
-loop-less-2 c = omega (arith, c .before .before .before .before .before .before .before .before .before .before .before .before .loop-test .taken)
-
 loop-again-2 : tie.Need-loop-again-2 Inv-loop μ-loop
 loop-again-2 c =
-    let judging = judgeIn (c .before .before .before .before .before .before .before .before .before .before .before .before .before .before .before .before .before .before .before .before .args .file .now) (c .before .before .before .before .before .before .before .before .before .before .before .before .before .before .before .before .before .before .before .before .args .head) (c .before .before .before .before .before .before .before .before .before .before .before .before .before .before .before .before .before .before .before .before .args .fix) (c .before .before .before .before .before .before .before .before .before .before .before .before .before .before .before .before .before .before .before .before .args .asked) in
+    let judging = judgeIn
+    (c .before .before .before .before .before .before .before .before .before .before .before .before .before .before .before .before .before .before .before .before .args .file .now)
+    (c .before .before .before .before .before .before .before .before .before .before .before .before .before .before .before .before .before .before .before .before .args .head)
+    (c .before .before .before .before .before .before .before .before .before .before .before .before .before .before .before .before .before .before .before .before .args .fix)
+    (c .before .before .before .before .before .before .before .before .before .before .before .before .before .before .before .before .before .before .before .before .args .asked) in
     let e = sym (c .before .before .before .before .before .before .turn2 .given .1) ∙ c .before .before .before .before .before .before .before .before .on-record .ensures in
-    let t = turned rowAt judging (c .before .before .before .before .before .before .before .before .before .before .before .before .before .before .before .before .before .before .before .before .args .fix) (c .before .before .before .before .before .before .before .before .before .before .before .before .before .before .before .before .before .before .before .before .args .records .now) (c .before .before .before .before .before .before .before .before .before .before .before .before .before .before .before .before .before .before .before .before .args .numbers .now) _ _ (c .before .before .before .before .before .before .before .before .before .before .before .before .before .loop .inv) (c .before .before .before .before .before .before .before .before .before .before .before .before .loop-test .taken) (c .before .before .before .before .before .before .before .before .before .before .wide .ensures .0) (c .before .before .before .before .before .before .before .before .before .if1 .left) e in
-    rw (c .before .before .put-hit .ensures) (met (c .before .before .before .before .before .before .before .before .before .before .before .before .before .loop .inv) _ _ _ t (omega (arith, c .before .before .before .before .if2 .left, c .before .before .before .before .before .before .before .before .before .before .before .before .before .before .room .ensures)) (met-kind judging (c .before .before .before .before .before .before .before .before .before .before .before .before .before .before .before .before .before .before .before .before .args .fix) _ _ e))
-
-same-length-3 : tie.Need-same-length-3 Inv-loop μ-loop
-same-length-3 c = kept-length (c .before .before .before .before .before .before .before .before .before .loop .inv)
+    let t = turned rowAt judging
+    (c .before .before .before .before .before .before .before .before .before .before .before .before .before .before .before .before .before .before .before .before .args .fix)
+    (c .before .before .before .before .before .before .before .before .before .before .before .before .before .before .before .before .before .before .before .before .args .records .now)
+    (c .before .before .before .before .before .before .before .before .before .before .before .before .before .before .before .before .before .before .before .before .args .numbers .now) _ _
+    (c .before .before .before .before .before .before .before .before .before .before .before .before .before .loop .inv)
+    (c .before .before .before .before .before .before .before .before .before .before .before .before .loop-test .taken)
+    (c .before .before .before .before .before .before .before .before .before .before .wide .ensures .0) (c .before .before .before .before .before .before .before .before .before .if1 .left) e in
+    rw (c .before .before .put-hit .ensures) (met (c .before .before .before .before .before .before .before .before .before .before .before .before .before .loop .inv)
+    _ _ _ t
+    (omega (arith, c .before .before .before .before .if2 .left, c .before .before .before .before .before .before .before .before .before .before .before .before .before .before .room .ensures))
+    (met-kind judging (c .before .before .before .before .before .before .before .before .before .before .before .before .before .before .before .before .before .before .before .before .args .fix)
+    _ _ e))
 
 returns-3 : tie.Need-returns-3 Inv-loop μ-loop
 returns-3 c =
-    rw (c .end-with .ensures) (halts rowAt (judgeIn (c .before .before .before .before .before .before .before .before .before .before .before .before .before .before .before .before .args .file .now) (c .before .before .before .before .before .before .before .before .before .before .before .before .before .before .before .before .args .head) (c .before .before .before .before .before .before .before .before .before .before .before .before .before .before .before .before .args .fix) (c .before .before .before .before .before .before .before .before .before .before .before .before .before .before .before .before .args .asked)) (c .before .before .before .before .before .before .before .before .before .before .before .before .before .before .before .before .args .fix) (c .before .before .before .before .before .before .before .before .before .before .before .before .before .before .before .before .args .records .now) (c .before .before .before .before .before .before .before .before .before .before .before .before .before .before .before .before .args .numbers .now) _ _ (c .before .before .before .before .before .before .before .before .before .loop .inv) (c .before .before .before .before .before .before .before .before .loop-test .taken) (c .before .before .before .before .before .before .wide .ensures .0) (c .before .before .before .before .before .if1 .left) (sym (c .before .before .turn3 .given .1) ∙ c .before .before .before .before .on-record .ensures))
-
-same-length-4 : tie.Need-same-length-4 Inv-loop μ-loop
-same-length-4 c = kept-length (c .before .before .before .before .before .before .before .before .before .loop .inv)
+    rw (c .end-with .ensures)
+    (halts rowAt (judgeIn (c .before .before .before .before .before .before .before .before .before .before .before .before .before .before .before .before .args .file .now)
+    (c .before .before .before .before .before .before .before .before .before .before .before .before .before .before .before .before .args .head)
+    (c .before .before .before .before .before .before .before .before .before .before .before .before .before .before .before .before .args .fix)
+    (c .before .before .before .before .before .before .before .before .before .before .before .before .before .before .before .before .args .asked))
+    (c .before .before .before .before .before .before .before .before .before .before .before .before .before .before .before .before .args .fix)
+    (c .before .before .before .before .before .before .before .before .before .before .before .before .before .before .before .before .args .records .now)
+    (c .before .before .before .before .before .before .before .before .before .before .before .before .before .before .before .before .args .numbers .now) _ _
+    (c .before .before .before .before .before .before .before .before .before .loop .inv) (c .before .before .before .before .before .before .before .before .loop-test .taken)
+    (c .before .before .before .before .before .before .wide .ensures .0) (c .before .before .before .before .before .if1 .left) (sym (c .before .before .turn3 .given .1)
+    ∙ c .before .before .before .before .on-record .ensures))
 
 returns-4 : tie.Need-returns-4 Inv-loop μ-loop
 returns-4 c =
-    rw (c .plain3 .ensures) (denies rowAt (judgeIn (c .before .before .before .before .before .before .before .before .before .before .before .before .before .before .before .before .args .file .now) (c .before .before .before .before .before .before .before .before .before .before .before .before .before .before .before .before .args .head) (c .before .before .before .before .before .before .before .before .before .before .before .before .before .before .before .before .args .fix) (c .before .before .before .before .before .before .before .before .before .before .before .before .before .before .before .before .args .asked)) (c .before .before .before .before .before .before .before .before .before .before .before .before .before .before .before .before .args .fix) (c .before .before .before .before .before .before .before .before .before .before .before .before .before .before .before .before .args .records .now) (c .before .before .before .before .before .before .before .before .before .before .before .before .before .before .before .before .args .numbers .now) _ _ (c .before .before .before .before .before .before .before .before .before .loop .inv) (c .before .before .before .before .before .before .before .before .loop-test .taken) (c .before .before .before .before .before .before .wide .ensures .0) (c .before .before .before .before .before .if1 .left) _ (sym (c .before .before .turn4 .given .1) ∙ c .before .before .before .before .on-record .ensures))
+    rw (c .plain3 .ensures)
+    (denies rowAt (judgeIn (c .before .before .before .before .before .before .before .before .before .before .before .before .before .before .before .before .args .file .now)
+    (c .before .before .before .before .before .before .before .before .before .before .before .before .before .before .before .before .args .head)
+    (c .before .before .before .before .before .before .before .before .before .before .before .before .before .before .before .before .args .fix)
+    (c .before .before .before .before .before .before .before .before .before .before .before .before .before .before .before .before .args .asked))
+    (c .before .before .before .before .before .before .before .before .before .before .before .before .before .before .before .before .args .fix)
+    (c .before .before .before .before .before .before .before .before .before .before .before .before .before .before .before .before .args .records .now)
+    (c .before .before .before .before .before .before .before .before .before .before .before .before .before .before .before .before .args .numbers .now) _ _
+    (c .before .before .before .before .before .before .before .before .before .loop .inv) (c .before .before .before .before .before .before .before .before .loop-test .taken)
+    (c .before .before .before .before .before .before .wide .ensures .0) (c .before .before .before .before .before .if1 .left) _ (sym (c .before .before .turn4 .given .1)
+    ∙ c .before .before .before .before .on-record .ensures))
 
 returns-5 : tie.Need-returns-5 Inv-loop μ-loop
-returns-5 c = rw (c .end-with2 .ensures) (all-done rowAt (judgeIn (c .before .before .before .before .before .before .before .before .before .args .file .now) (c .before .before .before .before .before .before .before .before .before .args .head) (c .before .before .before .before .before .before .before .before .before .args .fix) (c .before .before .before .before .before .before .before .before .before .args .asked)) (c .before .before .before .before .before .before .before .before .before .args .fix) (c .before .before .before .before .before .before .before .before .before .args .records .now) (c .before .before .before .before .before .before .before .before .before .args .numbers .now) _ _ (c .before .before .loop .inv) (c .before .loop-test .left))
+returns-5 c =
+    rw (c .end-with2 .ensures) (all-done rowAt (judgeIn (c .before .before .before .before .before .before .before .before .before .args .file .now)
+    (c .before .before .before .before .before .before .before .before .before .args .head) (c .before .before .before .before .before .before .before .before .before .args .fix)
+    (c .before .before .before .before .before .before .before .before .before .args .asked)) (c .before .before .before .before .before .before .before .before .before .args .fix)
+    (c .before .before .before .before .before .before .before .before .before .args .records .now) (c .before .before .before .before .before .before .before .before .before .args .numbers .now)
+    _ _ (c .before .before .loop .inv) (c .before .loop-test .left))
 
 pub search-listed-spec : {M : Type 1} → statement M
-search-listed-spec =
-    tie.close
-    (tie.spec
-    Inv-loop
-    μ-loop
-    (λ c κs. tt)
-    loop-holds
-    (λ c. search needs)
-    (λ c. search needs)
-    (λ c κs. tt)
-    (λ c. search needs)
-    (λ c κs. tt)
-    (λ c. kept-length (c .before .before .before .before .before .loop .inv))
-    returns
-    (λ c κs. (c .if1 .left, c .before .wide .ensures .1))
-    (λ c. omega arith)
-    loop-less
-    loop-again
-    (λ c. omega arith)
-    (λ c κs. tt)
-    same-length-2
-    returns-2
-    put-hit-requires
-    add-count
-    loop-less-2
-    loop-again-2
-    (λ c. omega arith)
-    (λ c κs. tt)
-    same-length-3
-    returns-3
-    (λ c. omega arith)
-    (λ c κs. tt)
-    same-length-4
-    returns-4
-    (λ c κs. tt)
-    (λ c. kept-length (c .before .before .loop .inv))
-    returns-5)
+search-listed-spec = tie.close (tie.spec Inv-loop μ-loop (λ c κs. tt) loop-holds (λ c. search needs) (λ c. search needs) (λ c κs. tt) (λ c. search needs)
+    (λ c κs. tt) (λ c. kept-length (c .before .before .before .before .before .loop .inv)) returns (λ c κs. (c .if1 .left, c .before .wide .ensures .1))
+    (λ c. omega arith) (λ c. omega (arith, c .before .before .before .before .before .before .before .loop-test .taken)) loop-again (λ c. omega arith)
+    (λ c κs. tt) (λ c. kept-length (c .before .before .before .before .before .before .before .before .before .before .loop .inv)) returns-2 put-hit-requires
+    add-count (λ c. omega (arith, c .before .before .before .before .before .before .before .before .before .before .before .before .loop-test .taken))
+    loop-again-2 (λ c. omega arith) (λ c κs. tt) (λ c. kept-length (c .before .before .before .before .before .before .before .before .before .loop .inv))
+    returns-3 (λ c. omega arith) (λ c κs. tt) (λ c. kept-length (c .before .before .before .before .before .before .before .before .before .loop .inv))
+    returns-4 (λ c κs. tt) (λ c. kept-length (c .before .before .loop .inv)) returns-5)

@@ -1,7 +1,5 @@
 -- `table::marked::judge_marked` meets its contract, by whether there are marks. Assumes nothing.
-use borrow.Author.{Needs.{needs}, Tests.{eq-eqb, ne-eqb}}
-use mathlib.Core.Path.{_≡_, sym, ap, _∙_}
-use Rattle.border.specs.declared.reader.Encoding.{Encoding}
+use Rattle.numbers.proofs.Prelude.{needs, eq-eqb, ne-eqb, sym, _∙_}
 use Rattle.marks.specs.Judging.{judgedBy}
 use Rattle.table.proofs.marked.judge_marked.Statement.{statement}
 use Rattle.table.specs.MarkedRows.{markFor, judgeMarked}
@@ -10,17 +8,18 @@ use Rattle.table.proofs.marked.judge_marked.Tie as tie
 returns : tie.Need-returns
 unfolding judgeMarked
 returns c =
-    let none = eq-eqb (markFor (c .before .before .before .before .before .args .marks .now) (c .before .before .before .before .before .args .k)) 0 (sym (c .before .before .mark-for .ensures) ∙ c .before .if1 .taken) in
-    c .judge .ensures ∙ rw none
+    let none = eq-eqb (markFor (c .before .before .before .before .before .args .marks .now) (c .before .before .before .before .before .args .k)) 0
+    (sym (c .before .before .mark-for .ensures) ∙ c .before .if1 .taken) in c .judge .ensures ∙ rw none
 
 returns-2 : tie.Need-returns-2
 unfolding judgeMarked
 returns-2 c =
-    let some = ne-eqb (markFor (c .before .before .before .before .before .before .args .marks .now) (c .before .before .before .before .before .before .args .k)) 0 (λ e. c .before .before .if1 .left (c .before .before .before .mark-for .ensures ∙ e)) in
-    c .judge-by .ensures
-    ∙ (λ i. judgedBy (c .before .before .before .before .before .before .args .file .now) (c .before .encoding-of .ensures i) (c .before .before .before .before .before .before .args .marks .now) (c .before .before .before .mark-for .ensures i) (c .before .before .before .before .before .before .args .fix .lat) (c .before .before .before .before .before .before .args .fix .lon) (c .before .before .before .before .before .before .args .asked) (c .before .before .before .before .before .before .args .least))
-    ∙ rw some
+    let some = ne-eqb (markFor (c .before .before .before .before .before .before .args .marks .now) (c .before .before .before .before .before .before .args .k)) 0
+    (λ e. c .before .before .if1 .left (c .before .before .before .mark-for .ensures ∙ e)) in
+    c .judge-by .ensures ∙ (λ i. judgedBy (c .before .before .before .before .before .before .args .file .now) (c .before .encoding-of .ensures i)
+    (c .before .before .before .before .before .before .args .marks .now) (c .before .before .before .mark-for .ensures i)
+    (c .before .before .before .before .before .before .args .fix .lat) (c .before .before .before .before .before .before .args .fix .lon)
+    (c .before .before .before .before .before .before .args .asked) (c .before .before .before .before .before .before .args .least)) ∙ rw some
 
 pub judge-marked-spec : {M : Type 1} → statement M
-judge-marked-spec =
-    tie.close (tie.spec (λ c κs. search needs) (λ c κs. search needs) returns (λ c κs. search needs) (λ c κs. search needs) returns-2)
+judge-marked-spec = tie.close (tie.spec (λ c κs. search needs) (λ c κs. search needs) returns (λ c κs. search needs) (λ c κs. search needs) returns-2)

@@ -1,6 +1,5 @@
 -- `table::marked::on_marked` meets its contract, by the test that led to each answer. Assumes nothing.
-use borrow.Author.Needs.{needs}
-use mathlib.Core.Path.{sym, ap, _∙_}
+use Rattle.numbers.proofs.Prelude.{needs, sym, ap, _∙_}
 use Rattle.table.proofs.{marked.{Numbered.{numbered-turn}, on_marked.Statement.{statement}}, search.Turns.{not-held}}
 use Rattle.table.specs.{MarkedRows.{judgeNumbered, rowNumbered}, Table.{holds}, declared.table.Bounds.{Bounds}}
 use Rattle.table.proofs.marked.on_marked.Tie as tie
@@ -10,23 +9,23 @@ row-at-requires c κs = (c .before .before .before .before .before .before .pre 
 
 returns : tie.Need-returns
 returns c =
-    let held-by = ap (λ (b : Bounds). holds b (c .before .before .before .before .before .before .before .before .before .args .fix)) (sym (c .before .before .before .before .before .box-at .ensures)) ∙ sym (c .before .before .before .before .holds .ensures) ∙ c .before .before .before .if1 .taken in
-    c .judged .ensures
-    ∙ numbered-turn (c .before .before .before .before .before .before .before .before .before .args .file .now) (c .before .before .before .before .before .before .before .before .before .args .head) (c .before .before .before .before .before .before .before .before .before .args .fix) (c .before .before .before .before .before .before .before .before .before .args .asked) (c .before .before .before .before .before .before .before .before .before .args .records .now) (c .before .before .before .before .before .before .before .before .before .args .marks .now) (c .before .before .before .before .before .before .before .before .before .args .k) (c .before .before .before .before .before .before .before .before .before .args .least) held-by (c .before .before .row-at .ensures) (c .before .judge-marked .ensures)
+    let held-by = ap (λ (b : Bounds). holds b (c .before .before .before .before .before .before .before .before .before .args .fix))
+    (sym (c .before .before .before .before .before .box-at .ensures)) ∙ sym (c .before .before .before .before .holds .ensures) ∙ c .before .before .before .if1 .taken in
+    c .judged .ensures ∙ numbered-turn (c .before .before .before .before .before .before .before .before .before .args .file .now)
+    (c .before .before .before .before .before .before .before .before .before .args .head) (c .before .before .before .before .before .before .before .before .before .args .fix)
+    (c .before .before .before .before .before .before .before .before .before .args .asked) (c .before .before .before .before .before .before .before .before .before .args .records .now)
+    (c .before .before .before .before .before .before .before .before .before .args .marks .now) (c .before .before .before .before .before .before .before .before .before .args .k)
+    (c .before .before .before .before .before .before .before .before .before .args .least) held-by (c .before .before .row-at .ensures) (c .before .judge-marked .ensures)
 
 returns-2 : tie.Need-returns-2
 returns-2 c =
-    let out = ap (λ (b : Bounds). holds b (c .before .before .before .before .before .before .args .fix)) (sym (c .before .before .box-at .ensures)) ∙ sym (c .before .holds .ensures) ∙ c .if1 .left in
-    not-held (judgeNumbered (c .before .before .before .before .before .before .args .file .now) (c .before .before .before .before .before .before .args .head) (c .before .before .before .before .before .before .args .fix) (c .before .before .before .before .before .before .args .asked) (c .before .before .before .before .before .before .args .records .now) (c .before .before .before .before .before .before .args .marks .now)) (c .before .before .before .before .before .before .args .fix) (rowNumbered (c .before .before .before .before .before .before .args .records .now) (c .before .before .before .before .before .before .args .k)) (c .before .before .before .before .before .before .args .least) out
+    let out = ap (λ (b : Bounds). holds b (c .before .before .before .before .before .before .args .fix)) (sym (c .before .before .box-at .ensures))
+    ∙ sym (c .before .holds .ensures) ∙ c .if1 .left in
+    not-held (judgeNumbered (c .before .before .before .before .before .before .args .file .now) (c .before .before .before .before .before .before .args .head)
+    (c .before .before .before .before .before .before .args .fix) (c .before .before .before .before .before .before .args .asked)
+    (c .before .before .before .before .before .before .args .records .now) (c .before .before .before .before .before .before .args .marks .now))
+    (c .before .before .before .before .before .before .args .fix) (rowNumbered (c .before .before .before .before .before .before .args .records .now)
+    (c .before .before .before .before .before .before .args .k)) (c .before .before .before .before .before .before .args .least) out
 
 pub on-marked-spec : {M : Type 1} → statement M
-on-marked-spec =
-    tie.close
-    (tie.spec
-    (λ c κs. search needs)
-    (λ c κs. tt)
-    row-at-requires
-    (λ c κs. tt)
-    (λ c κs. tt)
-    returns
-    returns-2)
+on-marked-spec = tie.close (tie.spec (λ c κs. search needs) (λ c κs. tt) row-at-requires (λ c κs. tt) (λ c κs. tt) returns returns-2)

@@ -1,5 +1,5 @@
 -- `table::merge::later` meets its contract. Assumes nothing.
-use borrow.Author.Tests.{eq-eqb, ne-eqb}
+use Rattle.numbers.proofs.Prelude.{eq-eqb, ne-eqb}
 use Rattle.table.proofs.merge.later.Statement.{statement}
 use Rattle.table.proofs.merge.later.Tie as tie
 

@@ -1,12 +1,7 @@
 -- `table::merge::merge` meets its contract. The loop's invariant is `Merging`: matches, empty slots, and the hits whose group is still to come.
 -- Assumes nothing.
-use Prim.Native.Nat.{_-_, _*_}
-use lib.ListN.{length}
-use mathlib.Core.Path.{_≡_, ap, _∙_}
-use native.Mathlib.Omega.{arith}
-use Rattle.table.proofs.Words.{words-length}
-use Rattle.table.proofs.merge.Merging.{Merging, starts, ends, merging-length, taken-length, shaped, slots-length, skips, drops, keeps}
-use Rattle.table.proofs.merge.merge.Statement.{statement}
+use Rattle.numbers.proofs.Prelude.{_-_, _*_, length, _≡_, ap, _∙_, arith}
+use Rattle.table.proofs.{Words.{words-length}, merge.{Merging.{Merging, starts, ends, merging-length, taken-length, shaped, slots-length, skips, drops, keeps}, merge.Statement.{statement}}}
 use Rattle.table.specs.{Hits.{width, slots}, Merge.{tallied}}
 use Rattle.table.proofs.merge.merge.Tie as tie
 
@@ -17,26 +12,16 @@ abbrev μ-loop : tie.MeasureT-loop
 μ-loop hits₀ room out₀ i₀ hits out i = room - i
 
 loop-holds : tie.Need-loop-holds Inv-loop μ-loop
-loop-holds c =
-    let pre = c .before .before .before .pre in
-    let args = c .before .before .before .args in
-    (starts _ _ (pre .0) (pre .1), ap length (pre .0) ∙ words-length (slots (args .hits .now)))
+loop-holds c = let pre = c .before .before .before .pre in
+    (starts _ _ (pre .0) (pre .1), ap length (pre .0) ∙ words-length (slots (c .before .before .before .args .hits .now)))
 
 hit-at-requires : tie.Need-hit-at-requires Inv-loop μ-loop
-hit-at-requires c κs =
-    let loop = c .before .before .loop in
-    let loop-test = c .before .loop-test in
-    let room = c .before .before .before .room in
+hit-at-requires c κs = let loop = c .before .before .loop in let loop-test = c .before .loop-test in let room = c .before .before .before .room in
     omega (arith, merging-length (loop .inv .0), loop .inv .1, loop-test .taken, room .ensures)
 
-add-i : tie.Need-add-i Inv-loop μ-loop
-add-i c = omega (arith, c .before .before .loop-test .taken, c .before .before .before .before .room .ok)
-
 gather-requires : tie.Need-gather-requires Inv-loop μ-loop
-gather-requires c κs =
-    let loop = c .before .before .before .before .before .before .loop in
-    let loop-test = c .before .before .before .before .before .loop-test in
-    let room = c .before .before .before .before .before .before .before .room in
+gather-requires c κs = let loop = c .before .before .before .before .before .before .loop in
+    let loop-test = c .before .before .before .before .before .loop-test in let room = c .before .before .before .before .before .before .before .room in
     (shaped (loop .inv .0), omega (arith, slots-length (loop .inv .0), loop .inv .1, loop-test .taken, room .ensures))
 
 put-hit-requires : tie.Need-put-hit-requires Inv-loop μ-loop
@@ -48,71 +33,65 @@ put-hit-requires c κs =
     let if1 = c .before .before .before .before .before .before .before .if1 in
     let gather = c .before .before .before .before .before .gather in
     let inv = loop .inv in
-    let taken = taken-length (inv .0) (omega (arith, loop .inv .1, loop-test .taken, room .ensures)) (hit-at .result) (hit-at .ensures) (if1 .taken) _ (tallied (gather .result)) 0 (gather .ensures .1) in
+    let taken = taken-length (inv .0) (omega (arith, loop .inv .1, loop-test .taken, room .ensures)) (hit-at .result) (hit-at .ensures) (if1 .taken) _
+    (tallied (gather .result)) 0 (gather .ensures .1) in
     omega (arith, taken, inv .0 .place, inv .1, loop-test .taken, room .ensures)
 
 add-out : tie.Need-add-out Inv-loop μ-loop
-add-out c =
-    let loop = c .before .before .before .before .before .before .before .before .before .before .before .before .before .before .before .loop in
+add-out c = let loop = c .before .before .before .before .before .before .before .before .before .before .before .before .before .before .before .loop in
     let loop-test = c .before .before .before .before .before .before .before .before .before .before .before .before .before .before .loop-test in
     let room = c .before .before .before .before .before .before .before .before .before .before .before .before .before .before .before .before .room in
     omega (arith, loop .inv .0 .place, loop-test .taken, room .ok)
 
 loop-less : tie.Need-loop-less Inv-loop μ-loop
-loop-less c =
-    let loop-test = c .before .before .before .before .before .before .before .before .before .before .before .before .before .before .loop-test in
+loop-less c = let loop-test = c .before .before .before .before .before .before .before .before .before .before .before .before .before .before .loop-test in
     omega (arith, loop-test .taken)
 
 loop-again : tie.Need-loop-again Inv-loop μ-loop
 loop-again c = (
-  keeps (c .before .before .before .before .before .before .before .before .before .before .before .before .before .before .before .loop .inv .0) (omega (arith, c .before .before .before .before .before .before .before .before .before .before .before .before .before .before .before .loop .inv .1, c .before .before .before .before .before .before .before .before .before .before .before .before .before .before .loop-test .taken, c .before .before .before .before .before .before .before .before .before .before .before .before .before .before .before .before .room .ensures)) (c .before .before .before .before .before .before .before .before .before .before .before .before .hit-at .result) (c .before .before .before .before .before .before .before .before .before .before .before .before .hit-at .ensures) (c .before .before .before .before .before .before .before .before .before .before .if1 .taken) _ (tallied (c .before .before .before .before .before .before .before .before .gather .result)) _ (c .before .before .before .before .before .before .before .before .gather .ensures .1) (c .before .before .before .before .before .before .before .before .gather .ensures .0) (c .before .before .before .before .before .kind-of .ensures) _ (c .before .before .before .before .if2 .taken) (c .before .before .put-hit .ensures),
+  keeps (c .before .before .before .before .before .before .before .before .before .before .before .before .before .before .before .loop .inv .0)
+      (omega (
+        arith,
+        c .before .before .before .before .before .before .before .before .before .before .before .before .before .before .before .loop .inv .1,
+        c .before .before .before .before .before .before .before .before .before .before .before .before .before .before .loop-test .taken,
+        c .before .before .before .before .before .before .before .before .before .before .before .before .before .before .before .before .room .ensures,
+      ))
+      (c .before .before .before .before .before .before .before .before .before .before .before .before .hit-at .result)
+      (c .before .before .before .before .before .before .before .before .before .before .before .before .hit-at .ensures)
+      (c .before .before .before .before .before .before .before .before .before .before .if1 .taken) _ (tallied (c .before .before .before .before .before .before .before .before .gather .result)) _
+      (c .before .before .before .before .before .before .before .before .gather .ensures .1) (c .before .before .before .before .before .before .before .before .gather .ensures .0)
+      (c .before .before .before .before .before .kind-of .ensures) _ (c .before .before .before .before .if2 .taken) (c .before .before .put-hit .ensures),
   c .before .before .before .before .before .before .before .before .before .before .before .before .before .before .before .loop .inv .1,
 )
 
-loop-less-2 : tie.Need-loop-less-2 Inv-loop μ-loop
-loop-less-2 c =
-    let loop-test = c .before .before .before .before .before .before .before .before .before .before .loop-test in
-    omega (arith, loop-test .taken)
-
 loop-again-2 : tie.Need-loop-again-2 Inv-loop μ-loop
 loop-again-2 c = (
-  drops (c .before .before .before .before .before .before .before .before .before .before .before .loop .inv .0) (omega (arith, c .before .before .before .before .before .before .before .before .before .before .before .loop .inv .1, c .before .before .before .before .before .before .before .before .before .before .loop-test .taken, c .before .before .before .before .before .before .before .before .before .before .before .before .room .ensures)) (c .before .before .before .before .before .before .before .before .hit-at .result) (c .before .before .before .before .before .before .before .before .hit-at .ensures) (c .before .before .before .before .before .before .if1 .taken) _ (tallied (c .before .before .before .before .gather .result)) _ (c .before .before .before .before .gather .ensures .1) (c .before .before .before .before .gather .ensures .0) (c .before .kind-of .ensures) (c .if2 .left),
+  drops (c .before .before .before .before .before .before .before .before .before .before .before .loop .inv .0)
+      (omega (
+        arith,
+        c .before .before .before .before .before .before .before .before .before .before .before .loop .inv .1,
+        c .before .before .before .before .before .before .before .before .before .before .loop-test .taken,
+        c .before .before .before .before .before .before .before .before .before .before .before .before .room .ensures,
+      ))
+      (c .before .before .before .before .before .before .before .before .hit-at .result) (c .before .before .before .before .before .before .before .before .hit-at .ensures)
+      (c .before .before .before .before .before .before .if1 .taken) _ (tallied (c .before .before .before .before .gather .result)) _
+      (c .before .before .before .before .gather .ensures .1) (c .before .before .before .before .gather .ensures .0) (c .before .kind-of .ensures) (c .if2 .left),
   c .before .before .before .before .before .before .before .before .before .before .before .loop .inv .1,
 )
 
 loop-again-3 : tie.Need-loop-again-3 Inv-loop μ-loop
-loop-again-3 c =
-    let loop = c .before .before .before .before .before .loop in
-    let loop-test = c .before .before .before .before .loop-test in
-    let room = c .before .before .before .before .before .before .room in
-    let hit-at = c .before .before .hit-at in
+loop-again-3 c = let loop = c .before .before .before .before .before .loop in let loop-test = c .before .before .before .before .loop-test in
+    let room = c .before .before .before .before .before .before .room in let hit-at = c .before .before .hit-at in
     (skips (loop .inv .0) (omega (arith, loop .inv .1, loop-test .taken, room .ensures)) (hit-at .result) (hit-at .ensures) (c .if1 .left), loop .inv .1)
 
 returns : tie.Need-returns Inv-loop μ-loop
-returns c =
-    let loop = c .before .loop in
-    let room = c .before .before .room in
+returns c = let loop = c .before .loop in let room = c .before .before .room in
     ends (loop .inv .0) _ (loop .inv .1) (omega (arith, loop .inv .1, c .loop-test .left, room .ensures))
 
 pub merge-spec : {M : Type 1} → statement M
-merge-spec =
-    tie.close
-    (tie.spec
-    Inv-loop
-    μ-loop
-    (λ c κs. tt)
-    loop-holds
-    hit-at-requires
-    add-i
-    gather-requires
-    (λ c κs. tt)
-    put-hit-requires
-    add-out
-    loop-less
-    loop-again
-    loop-less-2
-    loop-again-2
-    (λ c. omega (arith, c .before .before .before .before .loop-test .taken))
-    loop-again-3
-    (λ c. omega (arith, merging-length (c .before .loop .inv .0), c .before .loop .inv .1))
-    returns)
+merge-spec = tie.close (tie.spec Inv-loop μ-loop (λ c κs. tt) loop-holds hit-at-requires
+    (λ c. omega (arith, c .before .before .loop-test .taken, c .before .before .before .before .room .ok)) gather-requires (λ c κs. tt) put-hit-requires add-out
+    loop-less loop-again
+    (λ c. let loop-test = c .before .before .before .before .before .before .before .before .before .before .loop-test in omega (arith, loop-test .taken))
+    loop-again-2 (λ c. omega (arith, c .before .before .before .before .loop-test .taken)) loop-again-3
+    (λ c. omega (arith, merging-length (c .before .loop .inv .0), c .before .loop .inv .1)) returns)

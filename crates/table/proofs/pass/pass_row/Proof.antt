@@ -1,12 +1,10 @@
 -- `table::pass::pass_row` meets its contract, by the box and the two steps behind it. Assumes nothing.
-use borrow.Author.Needs.{needs}
-use native.Mathlib.Omega.{arith}
+use Rattle.numbers.proofs.Prelude.{needs, arith}
 use Rattle.table.proofs.pass.{Passing.{four-close, passed}, pass_row.Statement.{statement}}
 use Rattle.table.proofs.pass.pass_row.Tie as tie
 
 pair-at-requires : tie.Need-pair-at-requires
-pair-at-requires c κs =
-    let box = rw (c .before .missed .given .1) at (c .before .before .before .missed-at .ensures) in
+pair-at-requires c κs = let box = rw (c .before .missed .given .1) at (c .before .before .before .missed-at .ensures) in
     omega (arith, c .before .before .before .before .before .pre, four-close (box .0))
 
 returns-3 : tie.Need-returns-3
@@ -16,17 +14,5 @@ returns-3 c =
     passed _ (box .0) (steps .0) (steps .1) _ (box .1) (box .2) (c .before .row-of .ensures) (c .after .ensures)
 
 pub pass-row-spec : {M : Type 1} → statement M
-pass-row-spec =
-    tie.close
-    (tie.spec
-    (λ c κs. search needs)
-    (λ c. search needs)
-    (λ c. search needs)
-    (λ c. search needs)
-    pair-at-requires
-    (λ c. search needs)
-    (λ c. search needs)
-    (λ c. search needs)
-    (λ c κs. search needs)
-    (λ c κs. search needs)
-    returns-3)
+pass-row-spec = tie.close (tie.spec (λ c κs. search needs) (λ c. search needs) (λ c. search needs) (λ c. search needs) pair-at-requires (λ c. search needs)
+    (λ c. search needs) (λ c. search needs) (λ c κs. search needs) (λ c κs. search needs) returns-3)

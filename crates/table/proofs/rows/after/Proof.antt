@@ -3,8 +3,7 @@ use Rattle.table.proofs.rows.after.Statement.{statement}
 use Rattle.table.proofs.rows.after.Tie as tie
 
 returns : tie.Need-returns
-returns c =
-    let row = c .before .args .row in
+returns c = let row = c .before .args .row in
     λ i. record { place = row .next; id = c .wrapping-add-u32 .ensures i; metadata = row .metadata; polygon = row .polygon }
 
 pub after-spec : {M : Type 1} → statement M

@@ -1,17 +1,11 @@
 -- `table::rows::row_of` meets its contract: each sum by its own promise. Assumes nothing.
-use Prim.Native.Nat.{_^_}
-use mathlib.Core.Path.{_∙_}
-use native.Mathlib.{Nat.{add-mod-mod}, Omega.{arith}}
+use Rattle.numbers.proofs.Prelude.{_^_, _∙_, arith}
+use native.Mathlib.Nat.{add-mod-mod}
 use Rattle.table.proofs.rows.row_of.Statement.{statement}
 use Rattle.table.proofs.rows.row_of.Tie as tie
 
 returns : tie.Need-returns
-returns c =
-    let moved-id = c .before .moved-id in
-    let args = c .before .before .before .before .args in
-    let moved-id = moved-id in
-    let wrapping-add-u32 = c .wrapping-add-u32 in
-    let args = args in
+returns c = let moved-id = c .before .moved-id in let args = c .before .before .before .before .args in let wrapping-add-u32 = c .wrapping-add-u32 in
     λ i. record {
       place = args .at .place;
       id = args .at .id;

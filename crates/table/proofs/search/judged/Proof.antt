@@ -1,19 +1,8 @@
 -- `table::search::judged` meets its contract, by the judgement's cases. Assumes nothing.
-use native.Mathlib.Omega.{arith}
+use Rattle.numbers.proofs.Prelude.{arith}
 use Rattle.table.proofs.search.{Turns.{outside, met}, judged.Statement.{statement}}
 use Rattle.table.specs.Search.{judgedTurn}
 use Rattle.table.proofs.search.judged.Tie as tie
-
-returns : tie.Need-returns
-returns c =
-    let judgement = c .before .before .before .judgement in
-    let kind-of = c .before .kind-of in
-    let judgement = judgement in
-    let kind-of = kind-of in
-    outside _ (judgement .given .1) (kind-of .ensures) (c .if1 .taken)
-
-returns-2 : tie.Need-returns-2
-returns-2 c = met _ (c .before .before .before .before .judgement .given .1) (c .before .before .kind-of .ensures) (c .before .if1 .left)
 
 returns-3 : tie.Need-returns-3
 unfolding judgedTurn
@@ -24,15 +13,7 @@ unfolding judgedTurn
 returns-4 c = rw (c .before .judgement3 .given .1)
 
 pub judged-spec : {M : Type 1} → statement M
-judged-spec =
-    tie.close
-    (tie.spec
-    (λ c. omega arith)
-    (λ c κs. tt)
-    returns
-    (λ c. omega arith)
-    (λ c. omega arith)
-    (λ c. omega arith)
-    returns-2
-    returns-3
-    returns-4)
+judged-spec = tie.close (tie.spec (λ c. omega arith) (λ c κs. tt)
+    (λ c. outside _ (c .before .before .before .judgement .given .1) (c .before .kind-of .ensures) (c .if1 .taken)) (λ c. omega arith) (λ c. omega arith)
+    (λ c. omega arith) (λ c. met _ (c .before .before .before .before .judgement .given .1) (c .before .before .kind-of .ensures) (c .before .if1 .left))
+    returns-3 returns-4)

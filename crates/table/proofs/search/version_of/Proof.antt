@@ -1,5 +1,5 @@
 -- `table::search::version_of` meets its contract. Assumes nothing.
-use borrow.Author.Tests.{eq-eqb, ne-eqb}
+use Rattle.numbers.proofs.Prelude.{eq-eqb, ne-eqb}
 use Rattle.table.proofs.search.version_of.Statement.{statement}
 use Rattle.table.proofs.search.version_of.Tie as tie
 

@@ -1,8 +1,5 @@
 -- `table::usual::are_long` meets its contract: each answer is that of one number, or of three. Assumes nothing.
-use borrow.Author.Needs.{needs}
-use borrow.Author.Tests.{not-false}
-use mathlib.Core.Path.{sym, _∙_}
-use Rattle.numbers.proofs.Tests.{differ}
+use Rattle.numbers.proofs.{Prelude.{needs, not-false, sym, _∙_}, Tests.{differ}}
 use Rattle.table.proofs.usual.are_long.Statement.{statement}
 use Rattle.table.proofs.usual.are_long.Tie as tie
 
@@ -14,14 +11,5 @@ returns-2 c =
     λ t. record { south-on = first; south-ends = end; on = more; end = c .before .before .others-end .ensures t }
 
 pub are-long-spec : {M : Type 1} → statement M
-are-long-spec =
-    tie.close
-    (tie.spec
-    (λ c κs. search needs)
-    (λ c. λ t. differ t)
-    (λ c κs. search needs)
-    (λ c κs. search needs)
-    (λ c κs. search needs)
-    returns-2
-    (λ c. λ t. differ (sym (c .if3 .left) ∙ t))
-    (λ c. λ t. differ (sym (c .if2 .left) ∙ t)))
+are-long-spec = tie.close (tie.spec (λ c κs. search needs) (λ c. λ t. differ t) (λ c κs. search needs) (λ c κs. search needs) (λ c κs. search needs) returns-2
+    (λ c. λ t. differ (sym (c .if3 .left) ∙ t)) (λ c. λ t. differ (sym (c .if2 .left) ∙ t)))

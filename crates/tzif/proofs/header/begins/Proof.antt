@@ -1,6 +1,5 @@
 -- `tzif::header::begins` meets its contract. Assumes nothing.
-use borrow.Author.{Needs.{needs}, Tests.{leb-true, not-true, not-false}}
-use mathlib.Core.Path.{refl, sym, _∙_}
+use Rattle.numbers.proofs.Prelude.{needs, leb-true, not-false, not-true, refl, sym, _∙_}
 use Rattle.tzif.proofs.header.begins.Statement.{statement}
 use Rattle.tzif.specs.Header.{begins}
 use Rattle.tzif.proofs.header.begins.Tie as tie
@@ -11,12 +10,8 @@ returns c = rw (← c .before .holds .ensures, not-true (c .before .holds .resul
 
 returns-2 : tie.Need-returns-2
 unfolding begins
-returns-2 c =
-    let holds = c .before .before .holds in
-    let if1 = c .before .if1 in
-    let holds = holds in
-    let if1 = if1 in
-    rw (← holds .ensures, not-false (holds .result) (if1 .left)) (cc)
+returns-2 c = let holds = c .before .before .holds in let if1 = c .before .if1 in rw (← holds .ensures, not-false (holds .result) (if1 .left)) (cc)
 
 pub begins-spec : {M : Type 1} → statement M
-begins-spec = tie.close (tie.spec (λ c κs. search needs) returns (λ c κs. leb-true _ _ (sym (c .before .holds .ensures) ∙ not-false _ (c .if1 .left))) returns-2)
+begins-spec = tie.close (tie.spec (λ c κs. search needs) returns (λ c κs. leb-true _ _ (sym (c .before .holds .ensures) ∙ not-false _ (c .if1 .left)))
+    returns-2)

@@ -1,5 +1,5 @@
 -- `tzif::header::is_fourth` meets its contract. Assumes nothing.
-use borrow.Author.Needs.{needs}
+use Rattle.numbers.proofs.Prelude.{needs}
 use Rattle.tzif.specs.Header.{isFourth}
 use Rattle.tzif.proofs.header.is_fourth.Statement.{statement}
 use Rattle.tzif.proofs.header.is_fourth.Tie as tie

@@ -1,7 +1,5 @@
 -- `tzif::leap::check_leaps` meets its contract. The loop stands where all checks below its index are passed. Assumes nothing.
-use Prim.Native.Nat.{_-_}
-use borrow.Author.Needs.{needs}
-use native.Mathlib.Omega.{arith}
+use Rattle.numbers.proofs.Prelude.{_-_, needs, arith}
 use Rattle.tzif.proofs.{Laws.{next-index, fault-found, no-fault, Passed, starts}, leap.check_leaps.Statement.{statement}}
 use Rattle.tzif.specs.Check.{checkLeap, checkLeaps}
 use Rattle.tzif.proofs.leap.check_leaps.Tie as tie
@@ -24,17 +22,5 @@ unfolding checkLeaps
 returns-2 c = no-fault (c .before .before .loop .inv) (c .if1 .left)
 
 pub check-leaps-spec : {M : Type 1} → statement M
-check-leaps-spec =
-    tie.close
-    (tie.spec
-    Inv-loop
-    μ-loop
-    (λ c. starts _ _)
-    (λ c κs. search needs)
-    (λ c. search needs)
-    (λ c. search needs)
-    returns
-    (λ c. omega (arith, c .before .before .before .if1 .taken))
-    (λ c. omega (arith, c .before .before .before .if1 .taken))
-    loop-again
-    returns-2)
+check-leaps-spec = tie.close (tie.spec Inv-loop μ-loop (λ c. starts _ _) (λ c κs. search needs) (λ c. search needs) (λ c. search needs) returns
+    (λ c. omega (arith, c .before .before .before .if1 .taken)) (λ c. omega (arith, c .before .before .before .if1 .taken)) loop-again returns-2)

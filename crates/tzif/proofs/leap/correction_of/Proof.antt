@@ -1,33 +1,19 @@
 -- `tzif::leap::correction_of` meets its contract. Assumes nothing.
-use Prim.Native.Nat.{_+_}
-use borrow.Author.Needs.{needs}
-use native.Mathlib.Omega.{arith}
+use Rattle.numbers.proofs.Prelude.{_+_, needs, arith}
 use Rattle.tzif.proofs.{Widths.{row}, leap.correction_of.Statement.{statement}}
 use Rattle.tzif.specs.Check.{correctionOf}
 use Rattle.tzif.proofs.leap.correction_of.Tie as tie
 
 leap-place-requires : tie.Need-leap-place-requires
-leap-place-requires c κs =
-    let args = c .before .args in
-    let pre = c .before .pre in
-    let args = args in
-    let pre = pre in
+leap-place-requires c κs = let args = c .before .args in let pre = c .before .pre in
     omega (arith, row (args .i) (args .block .leapcnt) (args .block .width + 4) (pre .1))
 
 add-be32 : tie.Need-add-be32
-add-be32 c =
-    let args = c .before .before .before .args in
-    let pre = c .before .before .before .pre in
-    let args = args in
-    let pre = pre in
+add-be32 c = let args = c .before .before .before .args in let pre = c .before .before .before .pre in
     omega (arith, row (args .i) (args .block .leapcnt) (args .block .width + 4) (pre .1))
 
 be32-requires : tie.Need-be32-requires
-be32-requires c κs =
-    let args = c .before .before .before .args in
-    let pre = c .before .before .before .pre in
-    let args = args in
-    let pre = pre in
+be32-requires c κs = let args = c .before .before .before .args in let pre = c .before .before .before .pre in
     omega (arith, row (args .i) (args .block .leapcnt) (args .block .width + 4) (pre .1))
 
 returns : tie.Need-returns
@@ -35,5 +21,4 @@ unfolding correctionOf
 returns c = record { same = cc; fits = c .raised .ensures .fits }
 
 pub correction-of-spec : {M : Type 1} → statement M
-correction-of-spec =
-    tie.close (tie.spec leap-place-requires add-be32 be32-requires (λ c κs. search needs) returns)
+correction-of-spec = tie.close (tie.spec leap-place-requires add-be32 be32-requires (λ c κs. search needs) returns)

@@ -1,6 +1,5 @@
 -- `tzif::leap::expires` meets its contract. Assumes nothing.
-use borrow.Author.Needs.{needs}
-use mathlib.Core.Path.{refl}
+use Rattle.numbers.proofs.Prelude.{needs, refl}
 use Rattle.tzif.proofs.leap.expires.Statement.{statement}
 use Rattle.tzif.proofs.leap.expires.Tie as tie
 

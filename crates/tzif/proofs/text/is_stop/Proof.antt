@@ -1,6 +1,5 @@
 -- `tzif::text::is_stop` meets its contract. Assumes nothing.
-use borrow.Author.Tests.{eq-eqb, ne-eqb}
-use mathlib.Core.Path.{refl}
+use Rattle.numbers.proofs.Prelude.{eq-eqb, ne-eqb, refl}
 use Rattle.tzif.proofs.text.is_stop.Statement.{statement}
 use Rattle.tzif.specs.Text.{isStop}
 use Rattle.tzif.proofs.text.is_stop.Tie as tie

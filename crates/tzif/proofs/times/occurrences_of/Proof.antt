@@ -1,5 +1,5 @@
 -- `tzif::times::occurrences_of` meets its contract. Assumes nothing.
-use borrow.Author.Needs.{needs}
+use Rattle.numbers.proofs.Prelude.{needs}
 use Rattle.tzif.proofs.times.occurrences_of.Statement.{statement}
 use Rattle.tzif.proofs.times.occurrences_of.Tie as tie
 

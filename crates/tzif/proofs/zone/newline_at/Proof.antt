@@ -1,6 +1,5 @@
 -- `tzif::zone::newline_at` meets its contract. Assumes nothing.
-use borrow.Author.{Needs.{needs}, Tests.{lt-ltb, le-ltb}}
-use mathlib.Core.Path.{refl}
+use Rattle.numbers.proofs.Prelude.{needs, lt-ltb, le-ltb, refl}
 use Rattle.tzif.proofs.zone.newline_at.Statement.{statement}
 use Rattle.tzif.specs.Zone.{newlineAt}
 use Rattle.tzif.proofs.zone.newline_at.Tie as tie

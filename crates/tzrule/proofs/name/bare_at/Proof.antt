@@ -1,6 +1,5 @@
 -- `tzrule::name::bare_at` meets its contract. Assumes nothing.
-use borrow.Author.Needs.{needs}
-use native.Mathlib.Omega.{arith}
+use Rattle.numbers.proofs.Prelude.{needs, arith}
 use Rattle.tzrule.proofs.{Letters.{bare-short, bare-read}, name.bare_at.Statement.{statement}}
 use Rattle.tzrule.specs.Names.{Inside}
 use Rattle.tzrule.proofs.name.bare_at.Tie as tie

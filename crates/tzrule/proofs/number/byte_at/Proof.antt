@@ -1,6 +1,5 @@
 -- `tzrule::number::byte_at` meets its contract. Assumes nothing.
-use borrow.Author.Needs.{needs}
-use mathlib.Core.Path.{refl, sym}
+use Rattle.numbers.proofs.Prelude.{needs, refl, sym}
 use Rattle.tzrule.proofs.{Numbers.{past-end}, number.byte_at.Statement.{statement}}
 use Rattle.tzrule.specs.Text.{byteAt}
 use Rattle.tzrule.proofs.number.byte_at.Tie as tie

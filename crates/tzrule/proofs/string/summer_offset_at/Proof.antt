@@ -1,7 +1,5 @@
 -- `tzrule::string::summer_offset_at` meets its contract. Assumes nothing.
-use borrow.Author.Needs.{needs}
-use mathlib.Core.Path.{_∙_}
-use native.Mathlib.Omega.{arith}
+use Rattle.numbers.proofs.Prelude.{needs, _∙_, arith}
 use Rattle.tzrule.proofs.string.{Ways.{around-within, summer-default, summer-written}, summer_offset_at.Statement.{statement}}
 use Rattle.tzrule.specs.Answer.{Within}
 use Rattle.tzrule.proofs.string.summer_offset_at.Tie as tie
@@ -14,11 +12,4 @@ returns-2 : tie.Need-returns-2
 returns-2 c = (c .offset-at .ensures .0 ∙ summer-written _ _ (c .before .before .byte-at .ensures) _ (c .before .if1 .left), around-within _ _ _ (omega arith) (c .offset-at .ensures .1))
 
 pub summer-offset-at-spec : {M : Type 1} → statement M
-summer-offset-at-spec =
-    tie.close
-    (tie.spec
-    (λ c κs. search needs)
-    (λ c. search needs)
-    returns
-    (λ c κs. search needs)
-    returns-2)
+summer-offset-at-spec = tie.close (tie.spec (λ c κs. search needs) (λ c. search needs) returns (λ c κs. search needs) returns-2)

@@ -1,5 +1,5 @@
 -- `tzrule::summer::end_of` meets its contract. Assumes nothing.
-use borrow.Author.Needs.{needs}
+use Rattle.numbers.proofs.Prelude.{needs}
 use Rattle.tzrule.proofs.summer.end_of.Statement.{statement}
 use Rattle.tzrule.specs.Summer.{endOf}
 use Rattle.tzrule.proofs.summer.end_of.Tie as tie

@@ -1,5 +1,5 @@
 -- `tzrule::summer::start_of` meets its contract. Assumes nothing.
-use borrow.Author.Needs.{needs}
+use Rattle.numbers.proofs.Prelude.{needs}
 use Rattle.tzrule.proofs.summer.start_of.Statement.{statement}
 use Rattle.tzrule.specs.Summer.{startOf}
 use Rattle.tzrule.proofs.summer.start_of.Tie as tie

@@ -1,6 +1,5 @@
 -- `uskelzar::many::say_many` meets its contract. Assumes nothing.
-use borrow.Author.Needs.{needs}
-use mathlib.Core.Path.{sym, ap}
+use Rattle.numbers.proofs.Prelude.{needs, sym, ap}
 use Rattle.batch.specs.{Many.{toldMany}, declared.many.Many.{Many}}
 use Rattle.uskelzar.proofs.many.say_many.Statement.{statement}
 use Rattle.uskelzar.specs.Many.{manySaid}

@@ -1,11 +1,7 @@
 -- `uskelzar::slips::say_slipped` meets its contract. Assumes nothing.
-use borrow.Author.Needs.{needs}
-use mathlib.Core.{List.{List, [], _∷_}, Path.{ap, _∙_}}
-use mir.{Syntax.{w32}, Val.{SFits, ofZ}, ValLaws.{toZ-ofZ}}
-use Prim.Native.Nat.{ℕ}
+use Rattle.numbers.{proofs.{Prelude.{ℕ, needs, [], _∷_, ap, _∙_, w32, SFits, ofZ, toZ-ofZ}, Saying.{said-given, said-refused}}, specs.declared.said.Said.{Said}}
 use Rattle.slip.specs.Told.{told}
-use Rattle.uskelzar.proofs.Saying.{said-given, said-refused}
-use Rattle.uskelzar.specs.{Slips.{stampedValues}, declared.Said.{Said}}
+use Rattle.uskelzar.specs.Slips.{stampedValues}
 use Rattle.uskelzar.proofs.slips.say_slipped.Statement.{statement}
 use Rattle.uskelzar.proofs.slips.say_slipped.Tie as tie
 
@@ -14,15 +10,11 @@ abbrev stampedWords : ℕ → ℕ → ℕ → Said
 stampedWords length matches offset = record { number = 0; words = length ∷ matches ∷ offset ∷ 0 ∷ 0 ∷ [] }
 
 returns : tie.Need-returns
-returns c =
-    let stamped = c .before .before .before .slipped .given .0 .0 in
-    let whole = c .before .struct-told .given in
+returns c = let stamped = c .before .before .before .slipped .given .0 .0 in let whole = c .before .struct-told .given in
     let fits : SFits w32 (stamped .offset) = search needs in
     ap (stampedWords (stamped .length) (stamped .matches)) (c .bits-of .ensures ∙ ap (ofZ w32) (toZ-ofZ w32 (stamped .offset) fits))
     ∙ said-given stampedValues (ap told (c .before .before .before .slipped .given .1))
 
-returns-2 : tie.Need-returns-2
-returns-2 c = said-refused stampedValues (c .say-refused .ensures) (ap told (c .before .before .slipped2 .given .1))
-
 pub say-slipped-spec : {M : Type 1} → statement M
-say-slipped-spec = tie.close (tie.spec (λ c. search needs) (λ c κs. search needs) (λ c. search needs) (λ c. search needs) (λ c κs. search needs) returns returns-2)
+say-slipped-spec = tie.close (tie.spec (λ c. search needs) (λ c κs. search needs) (λ c. search needs) (λ c. search needs) (λ c κs. search needs) returns
+    (λ c. said-refused stampedValues (c .say-refused .ensures) (ap told (c .before .before .slipped2 .given .1))))

@@ -1,7 +1,5 @@
 -- `uskelzar::slips::uskelzar_request` meets its contract. Assumes nothing.
-use borrow.Author.Needs.{needs}
-use mathlib.Core.Path.{ap, _∙_}
-use Rattle.uskelzar.proofs.Saying.{beside}
+use Rattle.numbers.proofs.{Prelude.{needs, ap, _∙_}, Saying.{beside}}
 use Rattle.uskelzar.specs.Slips.{fixValues, replySpoken}
 use Rattle.uskelzar.proofs.slips.uskelzar_request.Statement.{statement}
 use Rattle.uskelzar.proofs.slips.uskelzar_request.Tie as tie

@@ -1,7 +1,5 @@
 -- `uskelzar::slips::uskelzar_slip` meets its contract. Assumes nothing.
-use borrow.Author.Needs.{needs}
-use mathlib.Core.Path.{ap, _∙_}
-use Rattle.uskelzar.proofs.Saying.{beside}
+use Rattle.numbers.proofs.{Prelude.{needs, ap, _∙_}, Saying.{beside}}
 use Rattle.uskelzar.specs.Slips.{slipSpoken}
 use Rattle.uskelzar.proofs.slips.uskelzar_slip.Statement.{statement}
 use Rattle.uskelzar.proofs.slips.uskelzar_slip.Tie as tie
@@ -10,4 +8,5 @@ returns : tie.Need-returns
 returns c = beside _ (c .speak .ensures) (c .before .before .say-slipped .ensures) ∙ ap slipSpoken (c .before .before .before .before .before .before .before .before .before .slip .ensures)
 
 pub uskelzar-slip-spec : {M : Type 1} → statement M
-uskelzar-slip-spec = tie.close (tie.spec (λ c. search needs) (λ c κs. search needs) (λ c κs. search needs) (λ c κs. search needs) (λ c. search needs) (λ c. search needs) (λ c. search needs) returns)
+uskelzar-slip-spec = tie.close (tie.spec (λ c. search needs) (λ c κs. search needs) (λ c κs. search needs) (λ c κs. search needs) (λ c. search needs)
+    (λ c. search needs) (λ c. search needs) returns)

@@ -1,9 +1,5 @@
 -- `vectors::text::bytes` meets its contract: it writes inside the room and counts what it wrote. Assumes nothing.
-use Prim.Native.Nat.{ℕ, _≤_, _-_}
-use borrow.Author.Needs.{needs}
-use lib.ListN.{length, length-set, length-take}
-use mathlib.Core.{List.{List}, Path.{_≡_}}
-use native.Mathlib.Omega.{arith}
+use Rattle.numbers.proofs.Prelude.{ℕ, _-_, _≤_, needs, length, length-set, length-take, List, _≡_, arith}
 use Rattle.io.specs.Counts.{Counts}
 use Rattle.vectors.proofs.text.bytes.Statement.{statement}
 use Rattle.vectors.proofs.text.bytes.Tie as tie
@@ -17,35 +13,10 @@ Inv-loop word out₀ i₀ at₀ out i at = (i ≤ length word) × (at ≤ length
 abbrev μ-loop : tie.MeasureT-loop
 μ-loop word out₀ i₀ at₀ out i at = length word - i
 
-loop-again : tie.Need-loop-again Inv-loop μ-loop
-loop-again c =
-    let loop = c .before .before .before .before .before .before .before .loop in
-    let loop = loop in
-    simp length-set (omega arith, omega arith, loop .inv .2)
-
 pub bytes-spec : {M : Type 1} → statement M
-bytes-spec =
-    tie.close
-    (tie.spec
-    Inv-loop
-    μ-loop
+bytes-spec = tie.close (tie.spec Inv-loop μ-loop (λ c. search needs) (λ c. search needs) (λ c. search needs) (λ c. counts _ _ (c .before .before .loop .inv .1))
+    (λ c. search needs) (λ c. counts _ _ (c .before .before .before .loop .inv .1)) (λ c. search needs) (λ c κs. search needs) (λ c. search needs)
+    (λ c. search needs) (λ c. search needs) (λ c κs. search needs) (λ c. search needs) (λ c. search needs) (λ c. search needs) (λ c. search needs)
     (λ c. search needs)
-    (λ c. search needs)
-    (λ c. search needs)
-    (λ c. counts _ _ (c .before .before .loop .inv .1))
-    (λ c. search needs)
-    (λ c. counts _ _ (c .before .before .before .loop .inv .1))
-    (λ c. search needs)
-    (λ c κs. search needs)
-    (λ c. search needs)
-    (λ c. search needs)
-    (λ c. search needs)
-    (λ c κs. search needs)
-    (λ c. search needs)
-    (λ c. search needs)
-    (λ c. search needs)
-    (λ c. search needs)
-    (λ c. search needs)
-    loop-again
-    (λ c. search needs)
-    (λ c. counts _ _ (c .before .loop .inv .1)))
+    (λ c. let loop = c .before .before .before .before .before .before .before .loop in simp length-set (omega arith, omega arith, loop .inv .2))
+    (λ c. search needs) (λ c. counts _ _ (c .before .loop .inv .1)))

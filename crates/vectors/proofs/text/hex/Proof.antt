@@ -1,7 +1,5 @@
 -- `vectors::text::hex` is safe and ends. Assumes nothing.
-use Prim.Native.Nat.{_≤_, _-_}
-use borrow.Author.Needs.{needs}
-use lib.ListN.{length}
+use Rattle.numbers.proofs.Prelude.{_-_, _≤_, needs, length}
 use Rattle.vectors.proofs.text.hex.Statement.{statement}
 use Rattle.vectors.proofs.text.hex.Tie as tie
 
@@ -12,18 +10,5 @@ abbrev μ-loop : tie.MeasureT-loop
 μ-loop word value₀ i₀ value i = length word - i
 
 pub hex-spec : {M : Type 1} → statement M
-hex-spec =
-    tie.close
-    (tie.spec
-    Inv-loop
-    μ-loop
-    (λ c. search needs)
-    (λ c. search needs)
-    (λ c. search needs)
-    (λ c κs. search needs)
-    (λ c. search needs)
-    (λ c. search needs)
-    (λ c. search needs)
-    (λ c. search needs)
-    (λ c. search needs)
-    (λ c. search needs))
+hex-spec = tie.close (tie.spec Inv-loop μ-loop (λ c. search needs) (λ c. search needs) (λ c. search needs) (λ c κs. search needs) (λ c. search needs)
+    (λ c. search needs) (λ c. search needs) (λ c. search needs) (λ c. search needs) (λ c. search needs))

@@ -1,13 +1,7 @@
 -- `verdict::afar::are_small` meets its contract, by its tests. Assumes nothing.
-use borrow.Author.Needs.{needs}
-use borrow.Author.Tests.{not-true, not-false}
-use mathlib.Core.Path.{sym, _∙_}
+use Rattle.numbers.proofs.Prelude.{needs, not-false, not-true, sym, _∙_}
 use Rattle.verdict.proofs.afar.are_small.Statement.{statement}
 use Rattle.verdict.proofs.afar.are_small.Tie as tie
-
-returns : tie.Need-returns
-returns c =
-    rw (sym (c .before .is-small .ensures) ∙ not-true _ (c .if1 .taken))
 
 returns-2 : tie.Need-returns-2
 returns-2 c =
@@ -22,12 +16,5 @@ returns-3 c =
     ) (c .is-small3 .ensures)
 
 pub are-small-spec : {M : Type 1} → statement M
-are-small-spec =
-    tie.close
-    (tie.spec
-    (λ c κs. search needs)
-    returns
-    (λ c κs. search needs)
-    returns-2
-    (λ c κs. search needs)
-    returns-3)
+are-small-spec = tie.close (tie.spec (λ c κs. search needs) (λ c. rw (sym (c .before .is-small .ensures) ∙ not-true _ (c .if1 .taken))) (λ c κs. search needs)
+    returns-2 (λ c κs. search needs) returns-3)

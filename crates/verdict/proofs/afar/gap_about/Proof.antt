@@ -1,28 +1,12 @@
 -- `verdict::afar::gap_about` meets its contract: what its calls ensure. Assumes nothing.
-use Prim.Native.Nat.{ℕ, _≤_}
-use borrow.Author.Needs.{needs}
-use mathlib.Core.Path.{_≡_, sym, _∙_, subst}
-use mir.{Facts.{toZ-ofZ}, Syntax.{w32}}
-use Rattle.verdict.proofs.AfarBox.{raised-most, gap-most}
-use Rattle.verdict.proofs.afar.gap_about.Statement.{statement}
+use Rattle.numbers.proofs.Prelude.{ℕ, _≤_, needs, _≡_, sym, subst, _∙_, w32}
+use mir.Facts.{toZ-ofZ}
+use Rattle.verdict.proofs.{AfarBox.{raised-most, gap-most}, afar.gap_about.Statement.{statement}}
 use Rattle.verdict.specs.Far.{raised, gapOf, gapAbout}
 use Rattle.verdict.proofs.afar.gap_about.Tie as tie
 
-raise-requires : tie.Need-raise-requires
-raise-requires c κs =
-    rw (toZ-ofZ {w = w32} (c .fits .low)) (c .pre .0)
-
-raise-requires-2 : tie.Need-raise-requires-2
-raise-requires-2 c κs =
-    rw (toZ-ofZ {w = w32} (c .before .fits .x)) (c .before .pre .1)
-
-raise-requires-3 : tie.Need-raise-requires-3
-raise-requires-3 c κs =
-    rw (toZ-ofZ {w = w32} (c .before .before .fits .high)) (c .before .before .pre .2)
-
 returns : tie.Need-returns
-returns c =
-    let a = c .before .before .before .before .args in
+returns c = let a = c .before .before .before .before .args in
     let low = rw (toZ-ofZ {w = w32} (c .before .before .before .before .fits .low)) at (c .before .before .before .raise .ensures) in
     let x = rw (toZ-ofZ {w = w32} (c .before .before .before .before .fits .x)) at (c .before .before .raise2 .ensures) in
     let high = rw (toZ-ofZ {w = w32} (c .before .before .before .before .fits .high)) at (c .before .raise3 .ensures) in
@@ -33,5 +17,6 @@ returns c =
     )
 
 pub gap-about-spec : {M : Type 1} → statement M
-gap-about-spec =
-    tie.close (tie.spec raise-requires raise-requires-2 raise-requires-3 (λ c κs. search needs) returns)
+gap-about-spec = tie.close (tie.spec (λ c κs. rw (toZ-ofZ {w = w32} (c .fits .low)) (c .pre .0))
+    (λ c κs. rw (toZ-ofZ {w = w32} (c .before .fits .x)) (c .before .pre .1))
+    (λ c κs. rw (toZ-ofZ {w = w32} (c .before .before .fits .high)) (c .before .before .pre .2)) (λ c κs. search needs) returns)

@@ -3,15 +3,6 @@ use Rattle.border.proofs.Signs.{le-read, read-le}
 use Rattle.verdict.proofs.edge.rising.Statement.{statement}
 use Rattle.verdict.proofs.edge.rising.Tie as tie
 
-returns : tie.Need-returns
-returns c =
-    let f = c .before .fits in
-    rw (le-read (f .one) (f .x) (c .if1 .taken)) (read-le (f .x) (f .other))
-
-returns-2 : tie.Need-returns-2
-returns-2 c =
-    let f = c .before .fits in
-    rw (read-le (f .one) (f .x), le-read (f .one) (f .x) (c .if1 .left))
-
 pub rising-spec : {M : Type 1} → statement M
-rising-spec = tie.close (tie.spec returns returns-2)
+rising-spec = tie.close (tie.spec (λ c. let f = c .before .fits in rw (le-read (f .one) (f .x) (c .if1 .taken)) (read-le (f .x) (f .other)))
+    (λ c. let f = c .before .fits in rw (read-le (f .one) (f .x), le-read (f .one) (f .x) (c .if1 .left))))

@@ -1,6 +1,5 @@
 -- `verdict::field::held` meets its contract. Assumes nothing.
-use borrow.Author.Needs.{needs}
-use mathlib.Core.Path.{refl, sym, _∙_}
+use Rattle.numbers.proofs.Prelude.{needs, refl, sym, _∙_}
 use Rattle.verdict.proofs.field.held.Statement.{statement}
 use Rattle.verdict.proofs.field.held.Tie as tie
 

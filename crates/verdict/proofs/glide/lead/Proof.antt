@@ -1,79 +1,36 @@
 -- `verdict::glide::lead` meets its contract: the exact sums, held against the field. Assumes nothing.
-use borrow.Author.{Needs.{needs}, Tests.{not-false}}
-use lib.IntN.{_+ℤ_}
-use mathlib.Core.Path.{sym, _∙_}
-use mir.{Facts.{toZ-ofZ}, Syntax.{w32}, Val.{SFits}}
+use Rattle.numbers.proofs.{Prelude.{needs, not-false, ℤ, _+ℤ_, _≡_, sym, _∙_, w32, w64, SFits, ofZ, toZ}, write.Gaps.{widened, widens}}
+use mir.Facts.{toZ-ofZ, sfits-widen}
 use Rattle.verdict.proofs.{Gliding.{within-of, fits, moved-to}, glide.lead.Statement.{statement}}
-use Rattle.border.proofs.{Signs.{exact-sum}, place.Whole.{sum-fits}}
-use Rattle.numbers.proofs.write.Gaps.{widened, widens}
+use Rattle.verdict.specs.inner.Gliding.{pointed}
+use Rattle.border.proofs.place.Whole.{sum-fits}
 use Rattle.verdict.proofs.glide.lead.Tie as tie
 
-cast-lat : tie.Need-cast-lat
-cast-lat c =
-    let x : SFits w32 (c .before .before .args .p .lat .0) = search needs in
-    widens x
+-- an i32 that is held wide, and a move that is read as an i64
+module _ {a b : ℤ} (f : SFits w32 a) (g : SFits w32 b) where
+  step-fits : SFits w64 (toZ w64 (ofZ w64 a) +ℤ toZ w64 (ofZ w64 (toZ w32 (ofZ w32 b))))
+  step-fits = rw (toZ-ofZ {w = w64} (sfits-widen tt f), widened g) (sum-fits f g)
 
-cast-lat-2 : tie.Need-cast-lat-2
-cast-lat-2 c =
-    let y : SFits w32 (c .before .before .before .before .args .by .lat) = search needs in
-    widens y
-
-add-lat : tie.Need-add-lat
-add-lat c =
-    let a = c .before .before .before .before .args in
-    let x : SFits w32 (a .p .lat .0) = search needs in
-    let y : SFits w32 (a .by .lat) = search needs in
-    rw (widened x, widened y) (sum-fits x y)
-
-cast-lon : tie.Need-cast-lon
-cast-lon c =
-    let u : SFits w32 (c .before .before .before .before .before .before .before .before .args .p .lon .0) = search needs in
-    widens u
-
-cast-lon-2 : tie.Need-cast-lon-2
-cast-lon-2 c =
-    let v : SFits w32 (c .before .before .before .before .before .before .before .before .before .before .args .by .lon) = search needs in
-    widens v
+  step-is : toZ w64 (ofZ w64 (toZ w64 (ofZ w64 a) +ℤ toZ w64 (ofZ w64 (toZ w32 (ofZ w32 b))))) ≡ a +ℤ b
+  step-is = rw (toZ-ofZ {w = w64} (sfits-widen tt f), widened g, toZ-ofZ {w = w64} (sum-fits f g))
 
 add-lon : tie.Need-add-lon
-add-lon c =
-    let a = c .before .before .before .before .before .before .before .before .before .before .args in
-    let u : SFits w32 (a .p .lon .0) = search needs in
-    let v : SFits w32 (a .by .lon) = search needs in
-    rw (widened u, widened v) (sum-fits u v)
-
-cast-t10 : tie.Need-cast-t10
-cast-t10 c =
-    let a = c .before .before .before .before .before .before .before .before .before .before .before .before .args in
-    let x : SFits w32 (a .p .lat .0) = search needs in
-    let y : SFits w32 (a .by .lat) = search needs in
-    let lat = rw (exact-sum x y) at (c .before .before .before .before .before .before .before .lies-in .ensures) in
-    rw (exact-sum x y) (fits (a .p .lat .0 +ℤ a .by .lat) (lat .1 (not-false _ (c .before .before .before .before .before .before .if1 .left))))
-
-cast-t12 : tie.Need-cast-t12
-cast-t12 c =
-    let a = c .before .before .before .before .before .before .before .before .before .before .before .before .args in
-    let u : SFits w32 (a .p .lon .0) = search needs in
-    let v : SFits w32 (a .by .lon) = search needs in
-    let lon = rw (exact-sum u v) at (c .before .lies-in2 .ensures) in
-    rw (exact-sum u v) (fits (a .p .lon .0 +ℤ a .by .lon) (lon .1 (not-false _ (c .if2 .left))))
+add-lon c = let start = c .before .before .before .before .before .before .before .before .before .before in
+    let v : SFits w32 (start .args .by .lon) = search needs in step-fits (start .pre .lon-fits) v
 
 returns-3 : tie.Need-returns-3
-returns-3 c =
-    let a = c .before .before .before .before .before .before .before .before .before .before .before .before .args in
-    let x : SFits w32 (a .p .lat .0) = search needs in
-    let y : SFits w32 (a .by .lat) = search needs in
-    let u : SFits w32 (a .p .lon .0) = search needs in
+returns-3 c = let start = c .before .before .before .before .before .before .before .before .before .before .before .before in let a = start .args in
+    let x = start .pre .lat-fits in let y : SFits w32 (a .by .lat) = search needs in let u = start .pre .lon-fits in
     let v : SFits w32 (a .by .lon) = search needs in
-    let lat = rw (exact-sum x y) at (c .before .before .before .before .before .before .before .lies-in .ensures) in
-    let lon = rw (exact-sum u v) at (c .before .lies-in2 .ensures) in
-    let lat-in = not-false _ (c .before .before .before .before .before .before .if1 .left) in
-    let lon-in = not-false _ (c .if2 .left) in
-    let lat-fits = fits (a .p .lat .0 +ℤ a .by .lat) (lat .1 lat-in) in
-    let lon-fits = fits (a .p .lon .0 +ℤ a .by .lon) (lon .1 lon-in) in
-    rw (exact-sum x y, exact-sum u v, toZ-ofZ {w = w32} lat-fits, toZ-ofZ {w = w32} lon-fits) (moved-to (a .p) (a .by) lat-fits lon-fits, within-of (a .field) _ (sym (lat .0) ∙ lat-in) (sym (lon .0) ∙ lon-in))
+    let lat = rw (step-is x y) at (c .before .before .before .before .before .before .before .lies-in .ensures) in
+    let lon = rw (step-is u v) at (c .before .lies-in2 .ensures) in let lat-in = not-false _ (c .before .before .before .before .before .before .if1 .left) in
+    let lon-in = not-false _ (c .if2 .left) in let lat-fits = fits (a .p .lat +ℤ a .by .lat) (lat .1 lat-in) in
+    let lon-fits = fits (a .p .lon +ℤ a .by .lon) (lon .1 lon-in) in let inside = within-of (a .field) _ (sym (lat .0) ∙ lat-in) (sym (lon .0) ∙ lon-in) in
+    rw (step-is x y, step-is u v) (moved-to (pointed (a .p)) (a .by) lat-fits lon-fits, inside, record { lat-fits = lat-fits; lon-fits = lon-fits })
 
 pub lead-spec : {M : Type 1} → statement M
-lead-spec =
-    tie.close
-    (tie.spec cast-lat cast-lat-2 add-lat (λ c κs. search needs) (λ c. search needs) cast-lon cast-lon-2 add-lon (λ c κs. search needs) (λ c. search needs) cast-t10 cast-t12 returns-3)
+lead-spec = tie.close (tie.spec (λ c. let y : SFits w32 (c .before .before .args .by .lat) = search needs in widens y)
+    (λ c. let start = c .before .before .before .before in let y : SFits w32 (start .args .by .lat) = search needs in step-fits (start .pre .lat-fits) y)
+    (λ c κs. search needs) (λ c. search needs)
+    (λ c. let v : SFits w32 (c .before .before .before .before .before .before .before .before .args .by .lon) = search needs in widens v) add-lon
+    (λ c κs. search needs) (λ c. search needs) returns-3)

@@ -1,16 +1,12 @@
 -- `verdict::winding::crossing_of` meets its contract: what `to_i32` ensures. Assumes nothing.
-use borrow.Author.Needs.{needs}
-use mathlib.Core.Path.{_≡_}
-use mir.{Syntax.{w32}, Val.{toZ, ofZ}}
+use Rattle.numbers.proofs.Prelude.{needs, _≡_, w32, ofZ, toZ}
 use Rattle.verdict.proofs.winding.crossing_of.Statement.{statement}
 use Rattle.verdict.specs.Winding.{crossingOf}
 use Rattle.verdict.proofs.winding.crossing_of.Tie as tie
 
 returns : tie.Need-returns
 unfolding crossingOf
-returns c =
-    let pre = c .before .before .before .before .pre in
-    let p : toZ w32 (ofZ w32 (c .to-i32 .result)) ≡ c .to-i32 .result = search needs in
+returns c = let pre = c .before .before .before .before .pre in let p : toZ w32 (ofZ w32 (c .to-i32 .result)) ≡ c .to-i32 .result = search needs in
     rw (p, c .to-i32 .ensures, pre)
 
 pub crossing-of-spec : {M : Type 1} → statement M

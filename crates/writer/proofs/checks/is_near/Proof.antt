@@ -3,11 +3,6 @@ use mir.Facts.{toZ-ofZ}
 use Rattle.writer.proofs.{Elements.{near-low, near-rest}, checks.is_near.Statement.{statement}}
 use Rattle.writer.proofs.checks.is_near.Tie as tie
 
-returns : tie.Need-returns
-returns c = near-low (c .before .args .z) (rw (toZ-ofZ (c .before .fits .z)) at (c .if1 .taken))
-
-returns-2 : tie.Need-returns-2
-returns-2 c = rw (toZ-ofZ (c .before .fits .z)) (near-rest (c .before .args .z) (rw (toZ-ofZ (c .before .fits .z)) at (c .if1 .left)))
-
 pub is-near-spec : {M : Type 1} → statement M
-is-near-spec = tie.close (tie.spec returns returns-2)
+is-near-spec = tie.close (tie.spec (λ c. near-low (c .before .args .z) (rw (toZ-ofZ (c .before .fits .z)) at (c .if1 .taken)))
+    (λ c. rw (toZ-ofZ (c .before .fits .z)) (near-rest (c .before .args .z) (rw (toZ-ofZ (c .before .fits .z)) at (c .if1 .left)))))

@@ -1,7 +1,5 @@
 -- `writer::checks::is_sized` meets its contract. Assumes nothing.
-use native.Mathlib.Omega.{arith}
-use borrow.Author.Tests.{lt-ltb, le-ltb, eq-eqb, ne-eqb}
-use lib.ListN.{length}
+use Rattle.numbers.proofs.Prelude.{eq-eqb, ne-eqb, lt-ltb, le-ltb, length, arith}
 use Rattle.writer.specs.Writer.{sized}
 use Rattle.writer.proofs.checks.is_sized.Statement.{statement}
 use Rattle.writer.proofs.checks.is_sized.Tie as tie

@@ -1,6 +1,5 @@
 -- `writer::pieces::clear_before` meets its contract. Assumes nothing.
-use native.Mathlib.Omega.{arith}
-use borrow.Author.Tests.{lt-ltb, le-ltb}
+use Rattle.numbers.proofs.Prelude.{lt-ltb, le-ltb, arith}
 use Rattle.writer.specs.Pieces.{clearBefore}
 use Rattle.writer.proofs.pieces.clear_before.Statement.{statement}
 use Rattle.writer.proofs.pieces.clear_before.Tie as tie

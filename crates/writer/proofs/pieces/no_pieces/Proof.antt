@@ -1,5 +1,5 @@
 -- `writer::pieces::no_pieces` meets its contract. Assumes nothing.
-use mathlib.Core.Path.{refl}
+use Rattle.numbers.proofs.Prelude.{refl}
 use Rattle.writer.specs.Moves.{movesOf}
 use Rattle.writer.proofs.{Gathering.{empty}, pieces.no_pieces.Statement.{statement}}
 use Rattle.writer.proofs.pieces.no_pieces.Tie as tie

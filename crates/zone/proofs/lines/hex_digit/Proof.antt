@@ -1,5 +1,5 @@
 -- `zone::lines::hex_digit` meets its contract. Assumes nothing.
-use borrow.Author.Needs.{needs}
+use Rattle.numbers.proofs.Prelude.{needs}
 use Rattle.zone.proofs.{Digits.{below-ten, from-ten}, lines.hex_digit.Statement.{statement}}
 use Rattle.zone.proofs.lines.hex_digit.Tie as tie
 

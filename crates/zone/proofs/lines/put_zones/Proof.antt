@@ -1,5 +1,5 @@
 -- `zone::lines::put_zones` meets its contract. Assumes nothing.
-use borrow.Author.Needs.{needs}
+use Rattle.numbers.proofs.Prelude.{needs}
 use Rattle.line.proofs.Puts.{put-then}
 use Rattle.zone.proofs.lines.put_zones.Statement.{statement}
 use Rattle.zone.specs.Lines.{linesOf}
@@ -7,10 +7,7 @@ use Rattle.zone.proofs.lines.put_zones.Tie as tie
 
 returns : tie.Need-returns
 unfolding linesOf
-returns c =
-    let put-head = c .before .before .before .before .before .before .put-head in
-    let put-matches = c .before .before .put-matches in
-    put-then _ _ (put-head .ensures) (put-matches .ensures)
+returns c = put-then _ _ (c .before .before .before .before .before .before .put-head .ensures) (c .before .before .put-matches .ensures)
 
 pub put-zones-spec : {M : Type 1} → statement M
 put-zones-spec = tie.close (tie.spec (λ c κs. search needs) (λ c κs. search needs) (λ c. search needs) returns)

@@ -1,19 +1,13 @@
 -- `zones::marked::lookup_marked` meets its contract: a text of zeros, then the lookup, then zeros again where it refused. Assumes nothing.
-use borrow.Author.Needs.{needs}
-use lib.ListN.{length}
-use mathlib.Core.Path.{refl, ap, _∙_}
-use native.Mathlib.Omega.{arith}
+use Rattle.numbers.{proofs.Prelude.{needs, length, refl, ap, _∙_, arith}, specs.Lists.{zeros}}
 use Rattle.header.proofs.Buffers.{of-length, all-zero}
-use Rattle.numbers.specs.Lists.{zeros}
 use Rattle.zones.proofs.{Replying.{given-reply, refused-reply}, marked.lookup_marked.Statement.{statement}}
 use Rattle.zones.specs.{Lookup.{toldLooked}, Marked.{zonesMarked, lookedMarked}}
 use Rattle.zones.proofs.marked.lookup_marked.Tie as tie
 
 look-marked-requires : tie.Need-look-marked-requires
-look-marked-requires c κs =
-    let args = c .before .before .before .before .before .before .before .before .before .before .before .before .args in
-    let zero = c .before .before .before .before .zero in
-    all-zero _ (length (args .text .now)) (zero .ensures)
+look-marked-requires c κs = let args = c .before .before .before .before .before .before .before .before .before .before .before .before .args in
+    all-zero _ (length (args .text .now)) (c .before .before .before .before .zero .ensures)
 
 same-length : tie.Need-same-length
 same-length c = search needs
@@ -24,35 +18,26 @@ same-length-2 c = search needs
 returns : tie.Need-returns
 unfolding lookedMarked
 returns c =
-    let args = c .before .before .before .before .before .before .before .before .before .before .before .before .before .before .before .before .before .before .before .before .before .before .before .before .before .before .before .args in
+    let args =
+    c .before .before .before .before .before .before .before .before .before .before .before .before .before .before .before .before .before .before .before
+    .before .before .before .before .before .before .before .before .args in
     let look = c .before .before .before .before .before .before .before .before .before .before .before .before .before .before .look-marked in
     let zero = c .before .before .before .before .before .before .before .before .before .before .before .before .before .before .before .before .before .before .before .zero in
-    let why = c .before .before .before .before .before .before .before .before .why in
-    let zero-both = c .before .before .before .before .zero-both in
-    refused-reply (zonesMarked (args .file .now) (args .head) (args .location) (args .asked) (args .records .now) (args .numbers .now) (args .marks .now)) (toldLooked (look .result)) _ _ refl (of-length _ (length (args .text .now)) (zero .ensures)) (look .ensures) (ap toldLooked (why .given .1))
-    (all-zero _ (length (look .last .1 .1 .1 .1 .1 .1 .1 .0)) (zero-both .ensures .0) ∙ ap zeros (same-length c)) (all-zero _ (length (look .last .1 .1 .1 .1 .1 .1 .1 .1 .0)) (zero-both .ensures .1) ∙ ap zeros (same-length-2 c))
+    let why = c .before .before .before .before .before .before .before .before .why in let zero-both = c .before .before .before .before .zero-both in
+    refused-reply (zonesMarked (args .file .now) (args .head) (args .location) (args .asked) (args .records .now) (args .numbers .now) (args .marks .now))
+    (toldLooked (look .result)) _ _ refl (of-length _ (length (args .text .now)) (zero .ensures)) (look .ensures) (ap toldLooked (why .given .1))
+    (all-zero _ (length (look .last .1 .1 .1 .1 .1 .1 .1 .0)) (zero-both .ensures .0) ∙ ap zeros (same-length c)) (all-zero _ (length (look .last .1 .1 .1 .1 .1 .1 .1 .1 .0))
+    (zero-both .ensures .1) ∙ ap zeros (same-length-2 c))
 
 returns-2 : tie.Need-returns-2
 unfolding lookedMarked
 returns-2 c =
     let args = c .before .before .before .before .before .before .before .before .before .before .before .before .before .before .before .before .before .before .before .before .args in
     let look = c .before .before .before .before .before .before .before .look-marked in
-    let zero = c .before .before .before .before .before .before .before .before .before .before .before .before .zero in
-    let zones = c .before .zones in
-    given-reply (zonesMarked (args .file .now) (args .head) (args .location) (args .asked) (args .records .now) (args .numbers .now) (args .marks .now)) (toldLooked (look .result)) _ _ refl (of-length _ (length (args .text .now)) (zero .ensures)) (look .ensures) (ap toldLooked (zones .given .1))
+    let zero = c .before .before .before .before .before .before .before .before .before .before .before .before .zero in let zones = c .before .zones in
+    given-reply (zonesMarked (args .file .now) (args .head) (args .location) (args .asked) (args .records .now) (args .numbers .now) (args .marks .now))
+    (toldLooked (look .result)) _ _ refl (of-length _ (length (args .text .now)) (zero .ensures)) (look .ensures) (ap toldLooked (zones .given .1))
 
 pub lookup-marked-spec : {M : Type 1} → statement M
-lookup-marked-spec =
-    tie.close
-    (tie.spec
-    (λ c κs. tt)
-    look-marked-requires
-    (λ c. omega arith)
-    (λ c. omega arith)
-    (λ c κs. tt)
-    same-length
-    same-length-2
-    returns
-    (λ c. omega arith)
-    (λ c. omega arith)
-    returns-2)
+lookup-marked-spec = tie.close (tie.spec (λ c κs. tt) look-marked-requires (λ c. omega arith) (λ c. omega arith) (λ c κs. tt) same-length same-length-2 returns
+    (λ c. omega arith) (λ c. omega arith) returns-2)

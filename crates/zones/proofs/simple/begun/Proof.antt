@@ -1,5 +1,5 @@
 -- `zones::simple::begun` meets its contract. Assumes nothing.
-use borrow.Author.Tests.{eq-eqb, ne-eqb}
+use Rattle.numbers.proofs.Prelude.{eq-eqb, ne-eqb}
 use Rattle.zones.proofs.simple.begun.Statement.{statement}
 use Rattle.zones.proofs.simple.begun.Tie as tie
 

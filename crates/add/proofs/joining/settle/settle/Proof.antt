@@ -1,194 +1,99 @@
 -- `add::joining::settle::settle` meets its contract. Assumes nothing.
-use borrow.Author.Needs.{needs}
-use mathlib.Core.Path.{refl, _∙_}
-use native.Mathlib.Omega.{arith}
+use Rattle.numbers.proofs.Prelude.{needs, refl, _∙_, arith}
 use Rattle.add.specs.Joining.Joins.{untouched}
-use Rattle.add.proofs.joining.Settling.{values-few, joinable, measurable, notes-as, settled-into, settled-not, settled-afresh, unsure-tag, idle-as}
-use Rattle.add.proofs.joining.settle.settle.Statement.{statement}
+use Rattle.add.proofs.joining.{Settling.{values-few, joinable, measurable, notes-as, settled-into, settled-not, settled-afresh, unsure-tag, idle-as}, settle.settle.Statement.{statement}}
 use Rattle.add.proofs.joining.settle.settle.Tie as tie
-use Rattle.add.proofs.joining.settle.settle.Reads as reads
-use Rattle.add.proofs.joining.settle.settle.Lts as lts
-use Rattle.add.proofs.afresh.join.join_afresh.Reads as join-afresh-reads
-use Rattle.draft.proofs.summed.rest.rest_work.Reads as rest-work-reads
-use Rattle.add.proofs.surely.sure.join_sure.Reads as join-sure-reads
 
-cast-first : tie.Need-cast-first
-cast-first c = search needs
+-- ---- the places that the answers speak of
+abbrev at-marks : tie.After-slice-known15 → tie.After-marks
+at-marks c = c .before .before .before .before .before .before .before
 
-add-first : tie.Need-add-first
-add-first c = search needs
+abbrev at-keys2 : tie.After-slice-known33 → tie.After-keys2
+at-keys2 c = c .before .before .before .before .before .before .before .before .before .before .before
 
-cast-last : tie.Need-cast-last
-cast-last c = search needs
+abbrev at-match-keys3-2 : tie.After-join-afresh-arg13 → tie.At-match-keys3
+at-match-keys3-2 c = c .before .before .before .before .before .before .before .before .before .before .before .before .before .before
 
-add-last : tie.Need-add-last
-add-last c = search needs
+abbrev at-start-2 : tie.After-struct-known3 → tie.Start
+at-start-2 c = c .before .before .before .before .before .before .before .before .before .before .before .before .before .before .before .before .before .before
 
-mul-last : tie.Need-mul-last
-mul-last c = omega (arith, values-few _ _ _ _ _ (c .before .before .before .before .before .before .before .before .before .before .before .before .before .before .before .before .before .before .args .lengths .now) (c .before .before .before .before .before .before .before .before .before .before .before .before .before .before .before .before .before .before .args .texts .now) _ _ _ _ _ (c .before .before .before .before .before .before .before .before .before .before .before .before .before .before .before .before .before .before .pre))
+abbrev at-places : tie.After-slice-known33 → tie.After-places
+at-places c = at-keys2 c .before .before .before .before .before .before .before .before .before .before .before .before
+
+abbrev at-words : tie.After-slice-known33 → tie.After-words
+at-words c = at-places c .before .before
+
+abbrev at-start : tie.After-slice-known15 → tie.Start
+at-start c = at-start-2 (at-marks c .before .before .before .before .before .before .before)
+
+abbrev at-keys : tie.After-slice-known33 → tie.After-keys
+at-keys c = at-words c .before .before .before .before .before .before .before .before
+
+abbrev at-chains2 : tie.After-slice-known33 → tie.After-chains2
+at-chains2 c = at-keys c .before .before .before .before .before .before .before .before
+
+abbrev at-match-keys3 : tie.After-slice-known33 → tie.At-match-keys3
+at-match-keys3 c = at-match-keys3-2 (at-chains2 c .before .before .before .before)
 
 add-last-2 : tie.Need-add-last-2
-add-last-2 c = omega (arith, values-few _ _ _ _ _ (c .before .before .before .before .before .before .before .before .before .before .before .before .before .before .before .before .before .before .args .lengths .now) (c .before .before .before .before .before .before .before .before .before .before .before .before .before .before .before .before .before .before .args .texts .now) _ _ _ _ _ (c .before .before .before .before .before .before .before .before .before .before .before .before .before .before .before .before .before .before .pre), c .before .before .before .before .before .before .before .before .before .before .before .before .before .before .before .before .before .before .pre .few-names)
-
-sub-join-sure : tie.Need-sub-join-sure
-sub-join-sure c = search needs
-
-part-join-sure-start : tie.Need-part-join-sure-start
-part-join-sure-start c = search needs
-
-part-join-sure-end : tie.Need-part-join-sure-end
-part-join-sure-end c = search needs
+add-last-2 c = let args = at-start-2 c .args in
+    omega (arith, values-few _ _ _ _ _ (args .lengths .now) (args .texts .now) _ _ _ _ _ (at-start-2 c .pre), at-start-2 c .pre .few-names)
 
 join-sure-requires : tie.Need-join-sure-requires
-join-sure-requires c κs = joinable _ _ _ _ _ (c .before .before .before .before .before .before .before .before .before .before .before .before .before .before .before .before .before .before .before .before .before .before .before .args .lengths .now) (c .before .before .before .before .before .before .before .before .before .before .before .before .before .before .before .before .before .before .before .before .before .before .before .args .texts .now) _ _ _ _ _ (c .before .before .before .before .before .before .before .before .before .before .before .before .before .before .before .before .before .before .before .before .before .before .before .pre)
-
-enum-known-sure : tie.Need-enum-known-sure
-enum-known-sure c = search needs
-
-same-length : tie.Need-same-length
-same-length c = search needs
-
-same-length-2 : tie.Need-same-length-2
-same-length-2 c = search needs
-
-same-length-3 : tie.Need-same-length-3
-same-length-3 c = search needs
-
-same-length-4 : tie.Need-same-length-4
-same-length-4 c = search needs
+join-sure-requires c κs = let args = at-start-2 (c .before .before .before .before .before) .args in
+    joinable _ _ _ _ _ (args .lengths .now) (args .texts .now) _ _ _ _ _ (at-start-2 (c .before .before .before .before .before) .pre)
 
 returns : tie.Need-returns
-returns c = (settled-into _ _ _ _ _ _ _ _ _ _ _ _ (c .before .before .before .before .before .before .before .before .before .before .before .before .before .before .before .before .before .before .before .before .before .before .before .before .before .before .before .before .before .before .before .before .before .before .before .pre) _ _ _ _ _ _ (c .before .before .before .before .before .before .before .before .before .before .before .join-sure .ensures) _ _ (c .before .sure .given .1), untouched refl refl refl refl refl refl refl)
-
-enum-known-sure-2 : tie.Need-enum-known-sure-2
-enum-known-sure-2 c = search needs
-
-same-length-5 : tie.Need-same-length-5
-same-length-5 c = search needs
-
-same-length-6 : tie.Need-same-length-6
-same-length-6 c = search needs
-
-same-length-7 : tie.Need-same-length-7
-same-length-7 c = search needs
-
-same-length-8 : tie.Need-same-length-8
-same-length-8 c = search needs
+returns c = (
+  settled-into _ _ _ _ _ _ _ _ _ _ _ _ (at-start (c .before .before .before) .pre) _ _ _ _ _ _ (at-marks (c .before .before .before) .before .join-sure .ensures) _ _
+      (c .before .sure .given .1),
+  untouched refl refl refl refl refl refl refl,
+)
 
 returns-2 : tie.Need-returns-2
-returns-2 c = (settled-not _ _ _ _ _ _ _ _ _ _ _ _ (c .before .before .before .before .before .before .before .before .before .before .before .before .before .before .before .before .before .before .before .before .before .before .before .before .before .before .before .before .before .before .before .before .before .before .before .pre) _ _ _ _ _ _ (c .before .before .before .before .before .before .before .before .before .before .before .join-sure .ensures) _ (c .before .sure2 .given .1), untouched refl refl refl refl refl refl refl)
+returns-2 c = (
+  settled-not _ _ _ _ _ _ _ _ _ _ _ _ (at-start (c .before .before .before) .pre) _ _ _ _ _ _ (at-marks (c .before .before .before) .before .join-sure .ensures) _
+      (c .before .sure2 .given .1),
+  untouched refl refl refl refl refl refl refl,
+)
 
 enum-told : tie.Need-enum-told
 enum-told c = search needs
 
-mul-join-afresh : tie.Need-mul-join-afresh
-mul-join-afresh c = search needs
-
-sub-join-afresh : tie.Need-sub-join-afresh
-sub-join-afresh c = search needs
-
-part-join-afresh-start : tie.Need-part-join-afresh-start
-part-join-afresh-start c = search needs
-
-part-join-afresh-end : tie.Need-part-join-afresh-end
-part-join-afresh-end c = omega (arith, c .before .before .before .before .before .before .before .before .before .before .before .before .before .before .before .before .before .before .before .before .before .before .before .before .before .before .before .before .before .before .before .before .before .before .pre .lengths-room)
-
-sub-join-afresh-2 : tie.Need-sub-join-afresh-2
-sub-join-afresh-2 c = omega (arith, c .before .before .before .before .before .before .before .before .before .before .before .before .before .before .before .before .before .before .before .before .before .before .before .before .before .before .before .before .before .before .before .before .before .before .before .pre .order, c .before .before .before .before .before .before .before .before .before .before .before .before .before .before .before .before .before .before .before .before .before .before .before .before .before .before .before .before .before .before .before .before .before .before .before .pre .longer)
-
-part-join-afresh-start-2 : tie.Need-part-join-afresh-start-2
-part-join-afresh-start-2 c = omega (arith, c .before .before .before .before .before .before .before .before .before .before .before .before .before .before .before .before .before .before .before .before .before .before .before .before .before .before .before .before .before .before .before .before .before .before .before .pre .order, c .before .before .before .before .before .before .before .before .before .before .before .before .before .before .before .before .before .before .before .before .before .before .before .before .before .before .before .before .before .before .before .before .before .before .before .pre .longer)
-
-part-join-afresh-end-2 : tie.Need-part-join-afresh-end-2
-part-join-afresh-end-2 c = c .before .before .before .before .before .before .before .before .before .before .before .before .before .before .before .before .before .before .before .before .before .before .before .before .before .before .before .before .before .before .before .before .before .before .before .pre .texts-room
-
 join-afresh-requires : tie.Need-join-afresh-requires
-join-afresh-requires c κs = (measurable _ _ _ _ _ _ _ _ _ _ _ _ (c .before .before .before .before .before .before .before .before .before .before .before .before .before .before .before .before .before .before .before .before .before .before .before .before .before .before .before .before .before .before .before .before .before .before .before .before .before .before .before .before .before .before .before .before .before .before .before .pre), notes-as _ _ _ _ _ _ _ _ _ _ (c .before .before .before .before .before .before .before .before .before .before .before .before .before .before .before .before .before .before .before .before .before .before .marks .given) (c .before .before .before .before .before .before .before .before .before .before .before .before .before .before .before .before .before .before .before .before .chains .given) (c .before .before .before .before .before .before .before .before .before .before .before .before .before .before .before .before .before .before .groups .given) (c .before .before .before .before .before .before .before .before .before .before .before .before .before .before .before .before .begins .given) (c .before .before .before .before .before .before .before .before .before .before .before .before .before .before .before .before .before .before .before .before .before .before .before .before .before .before .before .before .before .before .before .before .before .before .before .before .before .before .before .before .before .before .before .before .before .before .before .pre .noted))
-
-rest-work-requires : tie.Need-rest-work-requires
-rest-work-requires c κs = search needs
-
-same-length-9 : tie.Need-same-length-9
-same-length-9 c = c .before .before .before .before .before .before .before .before .before .before .before .before .before .before .before .before .before .before .before .before .before .before .before .before .before .before .before .before .before .before .before .before .before .before .before .before .before .before .before .before .before .before .before .marks2 .given ∙ c .before .before .before .before .before .before .before .before .before .before .before .before .before .before .before .before .before .before .before .before .before .before .before .before .before .before .before .before .before .before .before .before .before .before .before .before .before .before .before .before .before .before .before .before .before .before .before .before .before .before .before .before .before .before .before .before .before .before .before .before .before .before .before .before .before .before .before .marks .given
-
-same-length-10 : tie.Need-same-length-10
-same-length-10 c = c .before .before .before .before .before .before .before .before .before .before .before .before .before .before .before .before .before .before .before .before .before .before .before .before .before .before .before .before .before .before .before .before .before .before .before .before .before .before .before .before .before .chains2 .given ∙ c .before .before .before .before .before .before .before .before .before .before .before .before .before .before .before .before .before .before .before .before .before .before .before .before .before .before .before .before .before .before .before .before .before .before .before .before .before .before .before .before .before .before .before .before .before .before .before .before .before .before .before .before .before .before .before .before .before .before .before .before .before .before .before .before .before .chains .given
-
-same-length-11 : tie.Need-same-length-11
-same-length-11 c = c .before .before .before .before .before .before .before .before .before .before .before .before .before .before .before .before .before .before .before .before .before .before .before .before .before .before .before .before .before .before .before .before .before .before .before .before .before .before .before .groups2 .given ∙ c .before .before .before .before .before .before .before .before .before .before .before .before .before .before .before .before .before .before .before .before .before .before .before .before .before .before .before .before .before .before .before .before .before .before .before .before .before .before .before .before .before .before .before .before .before .before .before .before .before .before .before .before .before .before .before .before .before .before .before .before .before .before .before .groups .given
-
-same-length-12 : tie.Need-same-length-12
-same-length-12 c = c .before .before .before .before .before .before .before .before .before .before .before .before .before .before .before .before .before .before .before .before .before .before .before .before .before .before .before .before .before .before .before .before .before .before .before .before .before .begins2 .given ∙ c .before .before .before .before .before .before .before .before .before .before .before .before .before .before .before .before .before .before .before .before .before .before .before .before .before .before .before .before .before .before .before .before .before .before .before .before .before .before .before .before .before .before .before .before .before .before .before .before .before .before .before .before .before .before .before .before .before .before .before .before .before .begins .given
-
-same-length-13 : tie.Need-same-length-13
-same-length-13 c = c .before .before .before .before .before .before .before .before .before .before .before .before .before .starts2 .given ∙ c .before .before .before .before .before .before .before .before .before .before .before .before .before .before .before .before .before .before .before .before .before .before .before .before .before .before .before .before .before .before .before .before .before .before .before .starts .given
-
-same-length-14 : tie.Need-same-length-14
-same-length-14 c = c .before .before .before .before .before .before .before .before .before .before .before .keys2 .given ∙ c .before .before .before .before .before .before .before .before .before .before .before .before .before .before .before .before .before .before .before .before .before .before .before .before .before .before .before .before .before .before .before .before .before .keys .given
+join-afresh-requires c κs = let pre = at-start (at-match-keys3-2 c .before) .pre in (
+  measurable _ _ _ _ _ _ _ _ _ _ _ _ (pre),
+  notes-as _ _ _ _ _ _ _ _ _ _ (at-marks (at-match-keys3-2 c .before) .marks .given) (at-match-keys3-2 c .before .before .before .before .before .before .chains .given)
+      (at-match-keys3-2 c .before .before .before .before .groups .given) (at-match-keys3-2 c .before .before .begins .given) (pre .noted),
+)
 
 same-length-15 : tie.Need-same-length-15
-same-length-15 c = c .before .before .before .before .before .before .before .before .before .spare2 .given ∙ c .before .before .before .before .before .before .before .before .before .before .before .before .before .before .before .before .before .before .before .before .before .before .before .before .before .before .before .before .before .before .before .spare .given
-
-same-length-16 : tie.Need-same-length-16
-same-length-16 c = c .before .before .before .before .before .before .before .kept2 .given ∙ c .before .before .before .before .before .before .before .before .before .before .before .before .before .before .before .before .before .before .before .before .before .before .before .before .before .before .before .before .before .kept .given
-
-same-length-17 : tie.Need-same-length-17
-same-length-17 c = c .before .before .before .before .before .held2 .given ∙ c .before .before .before .before .before .before .before .before .before .before .before .before .before .before .before .before .before .before .before .before .before .before .before .before .before .before .before .held .given
-
-same-length-18 : tie.Need-same-length-18
-same-length-18 c = c .before .before .before .words2 .given ∙ c .before .before .before .before .before .before .before .before .before .before .before .before .before .before .before .before .before .before .before .before .before .before .before .before .before .words .given
-
-same-length-19 : tie.Need-same-length-19
-same-length-19 c = c .before .places2 .given ∙ c .before .before .before .before .before .before .before .before .before .before .before .before .before .before .before .before .before .before .before .before .before .before .before .places .given
+same-length-15 c = c .before .before .before .before .before .before .before .before .before .spare2 .given ∙ at-words c .before .before .before .before .before .before .spare .given
 
 returns-3 : tie.Need-returns-3
-returns-3 c = (settled-afresh _ _ _ _ _ _ _ _ _ _ _ _ (c .before .before .before .before .before .before .before .before .before .before .before .before .before .before .before .before .before .before .before .before .before .before .before .before .before .before .before .before .before .before .before .before .before .before .before .before .before .before .before .before .before .before .before .before .before .before .before .before .before .before .before .before .before .before .before .before .before .before .before .before .before .before .before .before .before .before .before .before .before .before .before .before .before .before .before .before .before .before .before .before .before .before .before .before .before .before .before .before .before .before .before .before .pre) _ _ _ _ _ _ (c .before .before .before .before .before .before .before .before .before .before .before .before .before .before .before .before .before .before .before .before .before .before .before .before .before .before .before .before .before .before .before .before .before .before .before .before .before .before .before .before .before .before .before .before .before .before .before .before .before .before .before .before .before .before .before .before .before .before .before .before .before .before .before .before .before .before .before .before .join-sure .ensures) (unsure-tag _ (enum-told (c .before .before .before .before .before .before .before .before .before .before .before .before .before .before .before .before .before .before .before .before .before .before .before .before .before .before .before .before .before .before .before .before .before .before .before .before .before .before .before .before .before .before .before .before .before .before .before .before .before .before .before .before .before .before .before .before .before .before .before))) _ _ (c .before .before .before .before .before .before .before .before .before .before .before .before .before .before .before .before .before .before .before .before .before .before .before .before .before .before .before .before .before .before .before .before .before .before .before .before .before .before .before .before .before .before .before .before .join-afresh .ensures), idle-as _ _ _ _ _ _ _ _ _ _ _ _ _ _ _ _ _ _ _ _ _ (c .before .before .before .before .before .before .before .before .before .before .before .before .before .before .before .before .before .before .before .before .before .before .before .before .before .before .before .before .before .before .before .before .before .before .before .starts .given) (c .before .before .before .before .before .before .before .before .before .before .before .before .before .before .before .before .before .before .before .before .before .before .before .before .before .before .before .before .before .before .before .before .before .keys .given) (c .before .before .before .before .before .before .before .before .before .before .before .before .before .before .before .before .before .before .before .before .before .before .before .before .before .before .before .before .before .before .before .spare .given) (c .before .before .before .before .before .before .before .before .before .before .before .before .before .before .before .before .before .before .before .before .before .before .before .before .before .before .before .before .before .kept .given) (c .before .before .before .before .before .before .before .before .before .before .before .before .before .before .before .before .before .before .before .before .before .before .before .before .before .before .before .held .given) (c .before .before .before .before .before .before .before .before .before .before .before .before .before .before .before .before .before .before .before .before .before .before .before .before .before .words .given) (c .before .before .before .before .before .before .before .before .before .before .before .before .before .before .before .before .before .before .before .before .before .before .before .places .given) (c .before .before .before .before .before .before .before .before .before .before .before .before .before .before .rest-work .ensures))
+returns-3 c = (
+  settled-afresh _ _ _ _ _ _ _ _ _ _ _ _ (at-start (at-match-keys3 c .before) .pre) _ _ _ _ _ _ (at-marks (at-match-keys3 c .before) .before .join-sure .ensures)
+      (unsure-tag _ (enum-told (at-match-keys3 c))) _ _ (at-chains2 c .before .before .before .join-afresh .ensures),
+  idle-as _ _ _ _ _ _ _ _ _ _ _ _ _ _ _ _ _ _ _ _ _
+      (at-keys c .before .before .starts .given) (at-keys c .keys .given) (at-words c .before .before .before .before .before .before .spare .given)
+      (at-words c .before .before .before .before .kept .given) (at-words c .before .before .held .given) (at-words c .words .given) (at-places c .places .given)
+      (at-keys2 c .before .before .before .rest-work .ensures),
+)
 
 pub settle-spec : {M : Type 1} → statement M
-settle-spec =
-    tie.close
-    (tie.spec
-    cast-first
-    add-first
-    cast-last
-    add-last
-    mul-last
-    add-last-2
-    sub-join-sure
-    part-join-sure-start
-    part-join-sure-end
-    join-sure-requires
-    enum-known-sure
-    same-length
-    same-length-2
-    same-length-3
-    same-length-4
-    returns
-    enum-known-sure-2
-    same-length-5
-    same-length-6
-    same-length-7
-    same-length-8
-    returns-2
-    enum-told
-    mul-join-afresh
-    sub-join-afresh
-    part-join-afresh-start
-    part-join-afresh-end
-    sub-join-afresh-2
-    part-join-afresh-start-2
-    part-join-afresh-end-2
-    join-afresh-requires
-    rest-work-requires
-    same-length-9
-    same-length-10
-    same-length-11
-    same-length-12
-    same-length-13
-    same-length-14
-    same-length-15
-    same-length-16
-    same-length-17
-    same-length-18
-    same-length-19
-    returns-3)
+settle-spec = tie.close (tie.spec (λ c. search needs) (λ c. search needs) (λ c. search needs) (λ c. search needs)
+    (λ c. let args = at-start-2 c .args in omega (arith, values-few _ _ _ _ _ (args .lengths .now) (args .texts .now) _ _ _ _ _ (at-start-2 c .pre))) add-last-2
+    (λ c. search needs) (λ c. search needs) (λ c. search needs) join-sure-requires (λ c. search needs) (λ c. search needs) (λ c. search needs)
+    (λ c. search needs) (λ c. search needs) returns (λ c. search needs) (λ c. search needs) (λ c. search needs) (λ c. search needs) (λ c. search needs)
+    returns-2 enum-told (λ c. search needs) (λ c. search needs) (λ c. search needs) (λ c. omega (arith, at-start (c .before .before) .pre .lengths-room))
+    (λ c. omega (arith, at-start (c .before .before .before) .pre .order, at-start (c .before .before .before) .pre .longer))
+    (λ c. omega (arith, at-start (c .before .before .before) .pre .order, at-start (c .before .before .before) .pre .longer))
+    (λ c. at-start (c .before .before .before) .pre .texts-room) join-afresh-requires (λ c κs. search needs)
+    (λ c. at-chains2 c .before .before .marks2 .given ∙ at-marks (at-match-keys3 c .before) .marks .given)
+    (λ c. at-chains2 c .chains2 .given ∙ at-match-keys3 c .before .before .before .before .before .before .chains .given)
+    (λ c. at-keys c .before .before .before .before .before .before .groups2 .given ∙ at-match-keys3 c .before .before .before .before .groups .given)
+    (λ c. at-keys c .before .before .before .before .begins2 .given ∙ at-match-keys3 c .before .before .begins .given)
+    (λ c. at-keys2 c .before .before .starts2 .given ∙ at-keys c .before .before .starts .given) (λ c. at-keys2 c .keys2 .given ∙ at-keys c .keys .given)
+    same-length-15 (λ c. c .before .before .before .before .before .before .before .kept2 .given ∙ at-words c .before .before .before .before .kept .given)
+    (λ c. c .before .before .before .before .before .held2 .given ∙ at-words c .before .before .held .given)
+    (λ c. c .before .before .before .words2 .given ∙ at-words c .words .given) (λ c. c .before .places2 .given ∙ at-places c .places .given) returns-3)

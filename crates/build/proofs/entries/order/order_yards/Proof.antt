@@ -1,17 +1,7 @@
 -- `build::entries::order::order_yards` meets its contract. Assumes nothing.
-use borrow.Author.Needs.{needs}
+use Rattle.numbers.proofs.Prelude.{needs}
 use Rattle.build.proofs.entries.{Ordering.{words-there, words-room, in-order}, order.order_yards.Statement.{statement}}
 use Rattle.build.proofs.entries.order.order_yards.Tie as tie
-
-slice-aggregate-box-yards : tie.Need-slice-aggregate-box-yards
-slice-aggregate-box-yards c =
-    let pre = c .before .before .before .before .pre in
-    words-there _ _ (pre .0)
-
-box-yards-requires : tie.Need-box-yards-requires
-box-yards-requires c κs =
-    let pre = c .before .before .before .before .before .pre in
-    words-room _ _ _ (pre .2)
 
 returns : tie.Need-returns
 returns c =
@@ -22,15 +12,6 @@ returns c =
     in-order _ _ _ _ _ _ (pre .0) _ (box-yards .ensures) (pre .1) (pre .2) (pre .3) _ (put-yard-words .ensures) _ _ _ (sort .ensures)
 
 pub order-yards-spec : {M : Type 1} → statement M
-order-yards-spec =
-    tie.close
-    (tie.spec
-    (λ c. search needs)
-    slice-aggregate-box-yards
-    box-yards-requires
-    (λ c κs. search needs)
-    (λ c κs. search needs)
-    (λ c. search needs)
-    (λ c. search needs)
-    (λ c. search needs)
-    returns)
+order-yards-spec = tie.close (tie.spec (λ c. search needs) (λ c. let pre = c .before .before .before .before .pre in words-there _ _ (pre .0))
+    (λ c κs. let pre = c .before .before .before .before .before .pre in words-room _ _ _ (pre .2)) (λ c κs. search needs) (λ c κs. search needs)
+    (λ c. search needs) (λ c. search needs) (λ c. search needs) returns)

@@ -1,9 +1,6 @@
 -- `build::metadata::kept::put_words` meets its contract. Assumes nothing.
+use Rattle.numbers.proofs.Prelude.{_-_, needs, length, arith}
 use Rattle.builder.proofs.Puts.{Putting, put-starts, put-goes, itself, put-ends-plain}
-use lib.ListN.{length}
-use Prim.Native.Nat.{_-_}
-use native.Mathlib.Omega.{arith}
-use borrow.Author.Needs.{needs}
 use Rattle.build.proofs.metadata.kept.put_words.Statement.{statement}
 use Rattle.build.proofs.metadata.kept.put_words.Tie as tie
 
@@ -17,20 +14,9 @@ put-word-requires : tie.Need-put-word-requires Inv-loop μ-loop
 put-word-requires c κs = omega (arith, c .before .before .before .loop .inv .next-is, c .before .before .before .loop .inv .index, c .before .before .before .before .before .before .pre)
 
 loop-again : tie.Need-loop-again Inv-loop μ-loop
-loop-again c = put-goes _ _ _ _ _ _ _ _ _ (c .before .before .before .before .before .before .loop .inv) (c .before .before .before .before .before .loop-test .taken) (c .before .before .put-word .ensures)
+loop-again c = put-goes _ _ _ _ _ _ _ _ _ (c .before .before .before .before .before .before .loop .inv) (c .before .before .before .before .before .loop-test .taken)
+    (c .before .before .put-word .ensures)
 
 pub put-words-spec : {M : Type 1} → statement M
-put-words-spec =
-    tie.close
-    (tie.spec
-    Inv-loop
-    μ-loop
-    (λ c. put-starts _ _ _ _)
-    (λ c. search needs)
-    (λ c. search needs)
-    put-word-requires
-    (λ c. search needs)
-    (λ c. search needs)
-    loop-again
-    (λ c. c .before .loop .inv .left .size)
-    (λ c. put-ends-plain _ _ _ _ _ _ (c .before .loop .inv) (c .loop-test .left)))
+put-words-spec = tie.close (tie.spec Inv-loop μ-loop (λ c. put-starts _ _ _ _) (λ c. search needs) (λ c. search needs) put-word-requires (λ c. search needs)
+    (λ c. search needs) loop-again (λ c. c .before .loop .inv .left .size) (λ c. put-ends-plain _ _ _ _ _ _ (c .before .loop .inv) (c .loop-test .left)))

@@ -1,6 +1,5 @@
 -- `builder::drawing::form::is_kind` meets its contract. Assumes nothing.
-use borrow.Author.{Tests.{eq-eqb, ne-eqb}, Needs.{needs}}
-use native.Mathlib.Omega.{arith}
+use Rattle.numbers.proofs.Prelude.{eq-eqb, ne-eqb}
 use Rattle.builder.proofs.drawing.form.is_kind.Statement.{statement}
 use Rattle.builder.proofs.drawing.form.is_kind.Tie as tie
 

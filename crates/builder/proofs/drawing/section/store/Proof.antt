@@ -1,8 +1,5 @@
 -- `builder::drawing::section::store` meets its contract. Assumes nothing.
-use mathlib.Core.Path.{sym}
-use lib.Seq.{set-out}
-use native.Mathlib.Omega.{arith}
-use borrow.Author.Needs.{needs}
+use Rattle.numbers.proofs.Prelude.{needs, set-out, sym}
 use Rattle.builder.proofs.drawing.section.store.Statement.{statement}
 use Rattle.builder.proofs.drawing.section.store.Tie as tie
 

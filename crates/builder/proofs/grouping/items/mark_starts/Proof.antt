@@ -1,10 +1,6 @@
 -- `builder::grouping::items::mark_starts` meets its contract. Assumes nothing.
+use Rattle.numbers.proofs.Prelude.{_-_, needs, length, length-set, _∙_, arith}
 use Rattle.builder.proofs.grouping.{Starting.{Starting, start-starts, start-sum, start-goes, start-inside, start-ends}, items.mark_starts.Statement.{statement}}
-use lib.ListN.{length, length-set}
-use mathlib.Core.Path.{_∙_}
-use Prim.Native.Nat.{_-_}
-use native.Mathlib.Omega.{arith}
-use borrow.Author.Needs.{needs}
 use Rattle.builder.proofs.grouping.items.mark_starts.Tie as tie
 
 abbrev Inv-loop : tie.InvT-loop
@@ -13,31 +9,11 @@ Inv-loop lengths starts₀ at₀ i₀ starts at i = Starting starts₀ lengths s
 abbrev μ-loop : tie.MeasureT-loop
 μ-loop lengths starts₀ at₀ i₀ starts at i = length lengths - i
 
-add-at : tie.Need-add-at Inv-loop μ-loop
-add-at c = omega (arith, start-sum _ _ _ _ _ (c .before .before .loop .inv) (c .before .loop-test .taken))
-
-loop-again : tie.Need-loop-again Inv-loop μ-loop
-loop-again c = start-goes _ _ _ _ _ (c .before .before .loop .inv) (c .before .loop-test .taken)
-
-same-length : tie.Need-same-length Inv-loop μ-loop
-same-length c = length-set (c .before .loop .starts) (c .before .loop .i) (c .before .loop .at) ∙ c .before .loop .inv .left .size
-
 pub mark-starts-spec : {M : Type 1} → statement M
-mark-starts-spec =
-    tie.close
-    (tie.spec
-    Inv-loop
-    μ-loop
-    (λ c. start-starts _ _ (c .pre .0) (c .pre .1))
-    (λ c. search needs)
+mark-starts-spec = tie.close (tie.spec Inv-loop μ-loop (λ c. start-starts _ _ (c .pre .0) (c .pre .1)) (λ c. search needs)
+    (λ c. start-inside _ _ _ _ _ (c .before .loop .inv)) (λ c. search needs) (λ c. search needs)
+    (λ c. omega (arith, start-sum _ _ _ _ _ (c .before .before .loop .inv) (c .before .loop-test .taken))) (λ c. search needs) (λ c. search needs)
+    (λ c. start-goes _ _ _ _ _ (c .before .before .loop .inv) (c .before .loop-test .taken)) (λ c. search needs)
     (λ c. start-inside _ _ _ _ _ (c .before .loop .inv))
-    (λ c. search needs)
-    (λ c. search needs)
-    add-at
-    (λ c. search needs)
-    (λ c. search needs)
-    loop-again
-    (λ c. search needs)
-    (λ c. start-inside _ _ _ _ _ (c .before .loop .inv))
-    same-length
+    (λ c. length-set (c .before .loop .starts) (c .before .loop .i) (c .before .loop .at) ∙ c .before .loop .inv .left .size)
     (λ c. start-ends _ _ _ _ _ (c .before .loop .inv) (c .loop-test .left)))

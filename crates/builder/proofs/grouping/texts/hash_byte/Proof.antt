@@ -1,8 +1,6 @@
 -- `builder::grouping::texts::hash_byte` meets its contract. Assumes nothing.
+use Rattle.numbers.proofs.Prelude.{needs, refl}
 use Rattle.builder.specs.Grouping.Items.{hashByte}
-use mathlib.Core.Path.{refl}
-use native.Mathlib.Omega.{arith}
-use borrow.Author.Needs.{needs}
 use Rattle.builder.proofs.grouping.texts.hash_byte.Statement.{statement}
 use Rattle.builder.proofs.grouping.texts.hash_byte.Tie as tie
 

@@ -1,5 +1,5 @@
 -- `edit::changing::clear::emptied` meets its contract. Assumes nothing.
-use mathlib.Core.Path.{refl}
+use Rattle.numbers.proofs.Prelude.{refl}
 use Rattle.edit.proofs.changing.clear.emptied.Statement.{statement}
 use Rattle.edit.specs.Changing.Emptied.{emptiedOf}
 use Rattle.edit.proofs.changing.clear.emptied.Tie as tie

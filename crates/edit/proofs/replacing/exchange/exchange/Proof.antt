@@ -1,11 +1,6 @@
 -- `edit::replacing::exchange::exchange` meets its contract. Assumes nothing.
-use borrow.Author.Needs.{needs}
-use borrow.Rule.Slice.PartMut.{post-is}
-use lib.ListN.{length, length-take}
-use lib.Seq.{length-take-le}
-use mathlib.Core.Path.{sym}
-use native.Mathlib.Omega.{arith}
-use Rattle.edit.proofs.replacing.{Exchanges.{tail-short, tail-size, exchanged-longer, exchanged-shorter}, exchange.exchange.Statement.{statement}}
+use Rattle.numbers.proofs.Prelude.{needs, length-take-le, sym, arith}
+use Rattle.edit.proofs.replacing.{Exchanges.{tail-short, exchanged-longer, exchanged-shorter}, exchange.exchange.Statement.{statement}}
 use Rattle.edit.proofs.replacing.exchange.exchange.Tie as tie
 
 put-bytes-requires : tie.Need-put-bytes-requires
@@ -14,8 +9,7 @@ put-bytes-requires c κs =
     tail-short (args .place) (args .from) (args .strings) (args .text .now) (args .texts .now) (args .out .now) (pre)
 
 put-bytes-requires-2 : tie.Need-put-bytes-requires-2
-put-bytes-requires-2 c κs =
-    let pre = c .before .before .before .before .before .before .before .before .before .before .pre in
+put-bytes-requires-2 c κs = let pre = c .before .before .before .before .before .before .before .before .before .before .pre in
     omega (arith, pre .few, pre .short, pre .inside, pre .ordered)
 
 slice-reshare-prefix-put-bytes : tie.Need-slice-reshare-prefix-put-bytes
@@ -29,21 +23,17 @@ abbrev at-start : tie.After-put-bytes-arg5 → tie.Start
 at-start c = c .before .before .before .before .before .before .before .before .before .before .before .before .before .before .before
 
 put-bytes-requires-3 : tie.Need-put-bytes-requires-3
-put-bytes-requires-3 c κs =
-    let put-bytes2 = c .before .before .before .before .put-bytes2 in let pre = at-start c .pre in
+put-bytes-requires-3 c κs = let put-bytes2 = c .before .before .before .before .put-bytes2 in let pre = at-start c .pre in
     omega (arith, slice-aggregate-put-bytes c, put-bytes2 .ensures .place-after, pre .few, pre .short, pre .inside, pre .ordered)
 
 returns : tie.Need-returns
-returns c =
-    let pre = at-start (c .before .before .before .before) .pre in
+returns c = let pre = at-start (c .before .before .before .before) .pre in
     let put-bytes = c .before .before .before .before .before .before .before .before .before .before .before .before .put-bytes in
     let put-bytes2 = c .before .before .before .before .before .before .before .before .put-bytes2 in
-    let put-bytes3 = c .before .before .before .put-bytes3 in
-    exchanged-longer _ _ _ _ _ _ (pre) _ _ _ _ _ _ (put-bytes .ensures) (put-bytes2 .ensures) (put-bytes3 .ensures) (c .if1 .taken)
+    exchanged-longer _ _ _ _ _ _ (pre) _ _ _ _ _ _ (put-bytes .ensures) (put-bytes2 .ensures) (c .before .before .before .put-bytes3 .ensures) (c .if1 .taken)
 
 returns-2 : tie.Need-returns-2
-returns-2 c =
-    let pre = at-start (c .before .before .before .before .before .before .before .before) .pre in
+returns-2 c = let pre = at-start (c .before .before .before .before .before .before .before .before) .pre in
     let put-bytes = c .before .before .before .before .before .before .before .before .before .before .before .before .before .before .before .before .put-bytes in
     let put-bytes2 = c .before .before .before .before .before .before .before .before .before .before .before .before .put-bytes2 in
     let put-bytes3 = c .before .before .before .before .before .before .before .put-bytes3 in let if1 = c .before .before .before .before .if1 in
@@ -51,9 +41,6 @@ returns-2 c =
     exchanged-shorter _ _ _ _ _ _ (pre) _ _ _ _ _ _ (put-bytes .ensures) (put-bytes2 .ensures) (put-bytes3 .ensures) (if1 .left) _ (zero .ensures)
 
 pub exchange-spec : {M : Type 1} → statement M
-exchange-spec =
-    tie.close
-    (tie.spec
-    (λ c. search needs) (λ c. search needs) (λ c. search needs) (λ c. search needs) put-bytes-requires put-bytes-requires-2
+exchange-spec = tie.close (tie.spec (λ c. search needs) (λ c. search needs) (λ c. search needs) (λ c. search needs) put-bytes-requires put-bytes-requires-2
     slice-reshare-prefix-put-bytes slice-aggregate-put-bytes put-bytes-requires-3 (λ c. search needs) (λ c. search needs) returns (λ c. search needs)
     (λ c. search needs) (λ c. search needs) (λ c κs. search needs) (λ c. search needs) (λ c. search needs) returns-2)

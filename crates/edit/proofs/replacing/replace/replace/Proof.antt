@@ -1,6 +1,5 @@
 -- `edit::replacing::replace::replace` meets its contract. Assumes nothing.
-use mathlib.Core.Path.{_∙_}
-use borrow.Author.Needs.{needs}
+use Rattle.numbers.proofs.Prelude.{needs, _∙_}
 use Rattle.edit.proofs.replacing.{Answered.{idle-as}, replace.replace.Statement.{statement}}
 use Rattle.edit.proofs.replacing.replace.replace.Tie as tie
 
@@ -17,33 +16,8 @@ at-kept c = at-out c .before .before .before .before .before .before .before .be
 abbrev at-keys : tie.After-slice-known28 → tie.After-keys
 at-keys c = at-kept c .before .before .before .before
 
-same-length-3 : tie.Need-same-length-3
-same-length-3 c =
-    let starts2 = at-kept2 c .before .before .before .before .before .before .starts2 in let starts = at-keys c .before .before .starts in
-    starts2 .given ∙ starts .given
-
-same-length-4 : tie.Need-same-length-4
-same-length-4 c = let keys2 = at-kept2 c .before .before .before .before .keys2 in let keys = at-keys c .keys in keys2 .given ∙ keys .given
-
-same-length-5 : tie.Need-same-length-5
-same-length-5 c = let spare2 = at-kept2 c .before .before .spare2 in let spare = at-kept c .before .before .spare in spare2 .given ∙ spare .given
-
-same-length-7 : tie.Need-same-length-7
-same-length-7 c =
-    let held2 = c .before .before .before .before .before .before .before .held2 in
-    let held = at-out c .before .before .before .before .before .before .held in held2 .given ∙ held .given
-
-same-length-8 : tie.Need-same-length-8
-same-length-8 c =
-    let words2 = c .before .before .before .before .before .words2 in let words = at-out c .before .before .before .before .words in
-    words2 .given ∙ words .given
-
-same-length-9 : tie.Need-same-length-9
-same-length-9 c = let places2 = c .before .before .before .places2 in let places = at-out c .before .before .places in places2 .given ∙ places .given
-
 returns : tie.Need-returns
-returns c =
-    let change = at-keys c .before .before .before .before .before .before .before .change in let starts = at-keys c .before .before .starts in
+returns c = let change = at-keys c .before .before .before .before .before .before .before .change in let starts = at-keys c .before .before .starts in
     let keys = at-keys c .keys in let spare = at-kept c .before .before .spare in let kept = at-kept c .kept in
     let held = at-out c .before .before .before .before .before .before .held in let words = at-out c .before .before .before .before .words in
     let places = at-out c .before .before .places in let out = at-out c .out in
@@ -51,11 +25,14 @@ returns c =
     (change .ensures, idle-as (starts .given) (keys .given) (spare .given) (kept .given) (held .given) (words .given) (places .given) (out .given) (rest .ensures))
 
 pub replace-spec : {M : Type 1} → statement M
-replace-spec =
-    tie.close
-    (tie.spec
-    (λ c κs. search needs) (λ c κs. search needs)
+replace-spec = tie.close (tie.spec (λ c κs. search needs) (λ c κs. search needs)
     (λ c. let lengths = at-keys c .before .before .before .before .before .before .lengths in lengths .given)
-    (λ c. let texts = at-keys c .before .before .before .before .texts in texts .given) same-length-3 same-length-4 same-length-5
-    (λ c. let kept2 = at-kept2 c .kept2 in let kept = at-kept c .kept in kept2 .given ∙ kept .given) same-length-7 same-length-8 same-length-9
+    (λ c. let texts = at-keys c .before .before .before .before .texts in texts .given)
+    (λ c. at-kept2 c .before .before .before .before .before .before .starts2 .given ∙ at-keys c .before .before .starts .given)
+    (λ c. let keys2 = at-kept2 c .before .before .before .before .keys2 in let keys = at-keys c .keys in keys2 .given ∙ keys .given)
+    (λ c. let spare2 = at-kept2 c .before .before .spare2 in let spare = at-kept c .before .before .spare in spare2 .given ∙ spare .given)
+    (λ c. let kept2 = at-kept2 c .kept2 in let kept = at-kept c .kept in kept2 .given ∙ kept .given)
+    (λ c. c .before .before .before .before .before .before .before .held2 .given ∙ at-out c .before .before .before .before .before .before .held .given)
+    (λ c. c .before .before .before .before .before .words2 .given ∙ at-out c .before .before .before .before .words .given)
+    (λ c. let places2 = c .before .before .before .places2 in let places = at-out c .before .before .places in places2 .given ∙ places .given)
     (λ c. let out2 = c .before .out2 in let out = at-out c .out in out2 .given ∙ out .given) returns)

@@ -1,16 +1,15 @@
 -- `notes::chains::find::find` meets its contract. Assumes nothing.
-use borrow.Author.Needs.{needs}
-use mathlib.Core.Path.{refl}
-use native.Mathlib.Omega.{arith}
-use Rattle.notes.proofs.chains.Walking.{from-head}
-use Rattle.notes.proofs.chains.find.find.Statement.{statement}
+use Rattle.numbers.proofs.Prelude.{needs, refl, arith}
+use Rattle.notes.proofs.chains.{Walking.{from-head}, find.find.Statement.{statement}}
 use Rattle.notes.proofs.chains.find.find.Tie as tie
 
-cast-find-from : tie.Need-cast-find-from
-cast-find-from c = omega (arith, c .shared-slice-known4 .given (c .before .bucket-of .result))
-
 returns : tie.Need-returns
-returns c = (c .find-from .ensures .within, λ entered count inside chained most. from-head _ _ _ _ _ _ entered count inside chained most _ _ (c .before .before .bucket-of .ensures .0) (c .before .before .bucket-of .ensures .1 inside) refl (c .find-from .ensures))
+returns c = (
+  c .find-from .ensures .within,
+  λ entered count inside chained most. from-head _ _ _ _ _ _ entered count inside chained most _ _ (c .before .before .bucket-of .ensures .0)
+      (c .before .before .bucket-of .ensures .1 inside) refl (c .find-from .ensures),
+)
 
 pub find-spec : {M : Type 1} → statement M
-find-spec = tie.close (tie.spec (λ c κs. search needs) (λ c. search needs) (λ c. search needs) cast-find-from (λ c κs. search needs) returns)
+find-spec = tie.close (tie.spec (λ c κs. search needs) (λ c. search needs) (λ c. search needs)
+    (λ c. omega (arith, c .shared-slice-known4 .given (c .before .bucket-of .result))) (λ c κs. search needs) returns)

@@ -1,12 +1,8 @@
 -- `notes::chains::texts::bucket_of` meets its contract. Assumes nothing.
-use borrow.Author.Needs.{needs}
-use mathlib.Core.Path.{ap}
-use native.Mathlib.Omega.{arith}
-use Prim.Native.Nat.{ℕ, _%_}
-use Rattle.notes.proofs.chains.Walking.{other-inside}
-use Rattle.notes.proofs.chains.texts.bucket_of.Statement.{statement}
-use Rattle.notes.proofs.chains.texts.bucket_of.Tie as tie
+use Rattle.numbers.proofs.Prelude.{ℕ, _%_, needs, ap, arith}
+use Rattle.notes.proofs.chains.{Walking.{other-inside}, texts.bucket_of.Statement.{statement}}
 use Rattle.notes.specs.Chains.Entered.{bucketOf}
+use Rattle.notes.proofs.chains.texts.bucket_of.Tie as tie
 
 returns : tie.Need-returns
 unfolding bucketOf

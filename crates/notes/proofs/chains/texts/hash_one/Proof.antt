@@ -1,41 +1,17 @@
 -- `notes::chains::texts::hash_one` meets its contract. Assumes nothing.
-use borrow.Author.Needs.{needs}
-use native.Mathlib.Omega.{arith}
-use Prim.Native.Nat.{_+_}
+use Rattle.numbers.proofs.Prelude.{_+_, needs, arith}
 use Rattle.notes.proofs.chains.texts.hash_one.Statement.{statement}
-use Rattle.notes.proofs.chains.texts.hash_one.Tie as tie
 use Rattle.builder.specs.Grouping.Items.{textAt}
-
-cast-begin : tie.Need-cast-begin
-cast-begin c = omega (arith, c .shared-slice-known3 .given (c .before .before .before .args .text))
-
-cast-end : tie.Need-cast-end
-cast-end c = omega (arith, c .shared-slice-known4 .given (c .before .before .before .before .args .text + 1))
-
-returns : tie.Need-returns
-returns c inside = absurd (omega (arith, c .if1 .taken, inside .rise (c .before .before .before .before .before .args .text) (omega arith)))
-
-returns-2 : tie.Need-returns-2
-returns-2 c inside = absurd (omega (arith, c .if2 .taken, inside .most (c .before .before .before .before .before .before .args .text) (omega arith)))
+use Rattle.notes.proofs.chains.texts.hash_one.Tie as tie
 
 returns-3 : tie.Need-returns-3
 unfolding textAt
 returns-3 c inside = c .hash-text .ensures
 
 pub hash-one-spec : {M : Type 1} → statement M
-hash-one-spec =
-    tie.close
-    (tie.spec
-    (λ c. search needs)
-    (λ c. search needs)
-    cast-begin
-    (λ c. search needs)
-    (λ c. search needs)
-    (λ c. search needs)
-    cast-end
-    returns
-    returns-2
-    (λ c. search needs)
-    (λ c. search needs)
-    (λ c κs. search needs)
-    returns-3)
+hash-one-spec = tie.close (tie.spec (λ c. search needs) (λ c. search needs)
+    (λ c. omega (arith, c .shared-slice-known3 .given (c .before .before .before .args .text))) (λ c. search needs) (λ c. search needs) (λ c. search needs)
+    (λ c. omega (arith, c .shared-slice-known4 .given (c .before .before .before .before .args .text + 1)))
+    (λ c inside. absurd (omega (arith, c .if1 .taken, inside .rise (c .before .before .before .before .before .args .text) (omega arith))))
+    (λ c inside. absurd (omega (arith, c .if2 .taken, inside .most (c .before .before .before .before .before .before .args .text) (omega arith))))
+    (λ c. search needs) (λ c. search needs) (λ c κs. search needs) returns-3)

@@ -1,25 +1,8 @@
 -- `notes::chains::texts::same_one` meets its contract. Assumes nothing.
-use borrow.Author.Needs.{needs}
-use native.Mathlib.Omega.{arith}
-use Prim.Native.Nat.{_+_}
+use Rattle.numbers.proofs.Prelude.{_+_, needs, arith}
 use Rattle.notes.proofs.chains.texts.same_one.Statement.{statement}
-use Rattle.notes.proofs.chains.texts.same_one.Tie as tie
 use Rattle.builder.specs.Grouping.Items.{textAt}
-
-cast-begin : tie.Need-cast-begin
-cast-begin c = omega (arith, c .shared-slice-known3 .given (c .before .before .before .args .a))
-
-cast-end : tie.Need-cast-end
-cast-end c = omega (arith, c .shared-slice-known4 .given (c .before .before .before .before .args .a + 1))
-
-cast-from : tie.Need-cast-from
-cast-from c = omega (arith, c .shared-slice-known5 .given (c .before .before .before .before .before .args .b))
-
-cast-to : tie.Need-cast-to
-cast-to c = omega (arith, c .shared-slice-known6 .given (c .before .before .before .before .before .before .args .b + 1))
-
-returns : tie.Need-returns
-returns c one other = absurd (omega (arith, c .if1 .taken, one .rise (c .before .before .before .before .before .before .before .args .a) (omega arith)))
+use Rattle.notes.proofs.chains.texts.same_one.Tie as tie
 
 returns-2 : tie.Need-returns-2
 returns-2 c one other = absurd (omega (arith, c .if2 .taken, one .most (c .before .before .before .before .before .before .before .before .args .a) (omega arith)))
@@ -35,30 +18,10 @@ unfolding textAt
 returns-5 c one other = c .same-text .ensures
 
 pub same-one-spec : {M : Type 1} → statement M
-same-one-spec =
-    tie.close
-    (tie.spec
-    (λ c. search needs)
-    (λ c. search needs)
-    cast-begin
-    (λ c. search needs)
-    (λ c. search needs)
-    (λ c. search needs)
-    cast-end
-    (λ c. search needs)
-    (λ c. search needs)
-    cast-from
-    (λ c. search needs)
-    (λ c. search needs)
-    (λ c. search needs)
-    cast-to
-    returns
-    returns-2
-    returns-3
-    returns-4
-    (λ c. search needs)
-    (λ c. search needs)
-    (λ c. search needs)
-    (λ c. search needs)
-    (λ c κs. search needs)
-    returns-5)
+same-one-spec = tie.close (tie.spec (λ c. search needs) (λ c. search needs)
+    (λ c. omega (arith, c .shared-slice-known3 .given (c .before .before .before .args .a))) (λ c. search needs) (λ c. search needs) (λ c. search needs)
+    (λ c. omega (arith, c .shared-slice-known4 .given (c .before .before .before .before .args .a + 1))) (λ c. search needs) (λ c. search needs)
+    (λ c. omega (arith, c .shared-slice-known5 .given (c .before .before .before .before .before .args .b))) (λ c. search needs) (λ c. search needs)
+    (λ c. search needs) (λ c. omega (arith, c .shared-slice-known6 .given (c .before .before .before .before .before .before .args .b + 1)))
+    (λ c one other. absurd (omega (arith, c .if1 .taken, one .rise (c .before .before .before .before .before .before .before .args .a) (omega arith))))
+    returns-2 returns-3 returns-4 (λ c. search needs) (λ c. search needs) (λ c. search needs) (λ c. search needs) (λ c κs. search needs) returns-5)

@@ -1,32 +1,16 @@
 -- `notes::nearby::near::greatest_with` meets its contract. Assumes nothing.
-use borrow.Author.Needs.{needs}
+use Rattle.numbers.proofs.Prelude.{needs}
 use Rattle.notes.proofs.nearby.{Highest.{only, above, not-above}, near.greatest_with.Statement.{statement}}
 use Rattle.notes.proofs.nearby.near.greatest_with.Tie as tie
 
-returns : tie.Need-returns
-returns c = only _ _ _ (record { sfits = c .before .south .given }) (c .if1 .taken)
-
 returns-2 : tie.Need-returns-2
 returns-2 c =
-    let south = c .before .before .south in
-    let if1 = c .before .if1 in
-    let fits = c .before .before .before .fits in
-    above _ _ _ (record { sfits = south .given }) (if1 .left) (fits .greatest) (c .if2 .taken)
+    above _ _ _ (record { sfits = c .before .before .south .given }) (c .before .if1 .left) (c .before .before .before .fits .greatest) (c .if2 .taken)
 
 returns-3 : tie.Need-returns-3
 returns-3 c =
-    let south = c .before .before .south in
-    let if1 = c .before .if1 in
-    let fits = c .before .before .before .fits in
-    not-above _ _ _ (record { sfits = south .given }) (if1 .left) (fits .greatest) (c .if2 .left)
+    not-above _ _ _ (record { sfits = c .before .before .south .given }) (c .before .if1 .left) (c .before .before .before .fits .greatest) (c .if2 .left)
 
 pub greatest-with-spec : {M : Type 1} → statement M
-greatest-with-spec =
-    tie.close
-    (tie.spec
-    (λ c. search needs)
-    (λ c. search needs)
-    (λ c. search needs)
-    returns
-    returns-2
-    returns-3)
+greatest-with-spec = tie.close (tie.spec (λ c. search needs) (λ c. search needs) (λ c. search needs)
+    (λ c. only _ _ _ (record { sfits = c .before .south .given }) (c .if1 .taken)) returns-2 returns-3)

@@ -1,7 +1,5 @@
 -- `notes::weighed::weigh::is_repeated` meets its contract. Assumes nothing.
-use Prim.Native.Nat.{_-_}
-use borrow.Author.Needs.{needs}
-use native.Mathlib.Omega.{arith}
+use Rattle.numbers.proofs.Prelude.{_-_, needs, arith}
 use Rattle.notes.proofs.weighed.{Repeated.{Repeating, repeat-starts, repeat-found, repeat-goes, repeat-ends}, weigh.is_repeated.Statement.{statement}}
 use Rattle.notes.proofs.weighed.weigh.is_repeated.Tie as tie
 
@@ -11,30 +9,15 @@ Inv-loop starts texts first value i₀ i = Repeating starts texts first value i
 abbrev μ-loop : tie.MeasureT-loop
 μ-loop starts texts first value i₀ i = value - i
 
-loop-holds : tie.Need-loop-holds Inv-loop μ-loop
-loop-holds c = repeat-starts _ _ _ _ (c .before .before .pre .1)
-
-same-items-requires : tie.Need-same-items-requires Inv-loop μ-loop
-same-items-requires c κs =
-    let pre = c .before .before .before .before .pre in
-    (pre .0, omega (arith, pre .0, c .loop-test .taken))
-
 returns : tie.Need-returns Inv-loop μ-loop
 returns c =
-    let loop = c .before .before .before .loop in
-    let loop-test = c .before .before .loop-test in
-    let same-items = c .before .same-items in
-    repeat-found _ _ _ _ _ (loop .inv) (loop-test .taken) _ (same-items .ensures) (c .if1 .taken)
+    repeat-found _ _ _ _ _ (c .before .before .before .loop .inv) (c .before .before .loop-test .taken) _ (c .before .same-items .ensures) (c .if1 .taken)
 
 loop-again : tie.Need-loop-again Inv-loop μ-loop
 loop-again c =
-    let loop = c .before .before .before .loop in
-    let loop-test = c .before .before .loop-test in
-    let same-items = c .before .same-items in
-    repeat-goes _ _ _ _ _ (loop .inv) (loop-test .taken) _ (same-items .ensures) (c .if1 .left)
-
-returns-2 : tie.Need-returns-2 Inv-loop μ-loop
-returns-2 c = repeat-ends _ _ _ _ _ (c .before .loop .inv) (c .loop-test .left)
+    repeat-goes _ _ _ _ _ (c .before .before .before .loop .inv) (c .before .before .loop-test .taken) _ (c .before .same-items .ensures) (c .if1 .left)
 
 pub is-repeated-spec : {M : Type 1} → statement M
-is-repeated-spec = tie.close (tie.spec Inv-loop μ-loop loop-holds same-items-requires returns (λ c. search needs) (λ c. search needs) loop-again returns-2)
+is-repeated-spec = tie.close (tie.spec Inv-loop μ-loop (λ c. repeat-starts _ _ _ _ (c .before .before .pre .1))
+    (λ c κs. let pre = c .before .before .before .before .pre in (pre .0, omega (arith, pre .0, c .loop-test .taken))) returns (λ c. search needs)
+    (λ c. search needs) loop-again (λ c. repeat-ends _ _ _ _ _ (c .before .loop .inv) (c .loop-test .left)))

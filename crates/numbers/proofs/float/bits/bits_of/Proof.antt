@@ -1,8 +1,6 @@
 -- `numbers::float::bits::bits_of` meets its contract. Only a NaN differs from itself, and the logic's pattern of it is the constant. Assumes nothing.
-use borrow.Author.Needs.{needs}
-use lib.{Dec.{T}, Ieee.{Compare.{differs-from-itself}, Float, nan, inf, fin, binary32, ne, isNan, toBits}}
-use mathlib.Core.{Bool.{not, false}, Path.{_≡_, refl, sym, ap, _∙_, subst}}
-use Rattle.numbers.proofs.float.bits.bits_of.Statement.{statement}
+use Rattle.numbers.proofs.{Prelude.{needs, T, Float, binary32, fin, nan, inf, false, not, _≡_, refl, sym, ap, subst, _∙_}, float.bits.bits_of.Statement.{statement}}
+use lib.Ieee.{ne, isNan, toBits, Compare.{differs-from-itself}}
 use Rattle.numbers.proofs.float.bits.bits_of.Tie as tie
 
 no-nan : (x : Float) → ne x x ≡ false → T (not (isNan x))
@@ -15,8 +13,6 @@ nan-bits : toBits binary32 nan ≡ 0x7fc0_0000
 unfolding toBits
 nan-bits = refl
 
-returns : tie.Need-returns
-returns c = sym (ap (toBits binary32) (differs-from-itself (c .before .args .x) (subst T (sym (c .if1 .taken)) tt)) ∙ nan-bits)
-
 pub bits-of-spec : {M : Type 1} → statement M
-bits-of-spec = tie.close (tie.spec (λ c. no-nan (c .before .args .x) (c .if1 .left)) returns (λ c. search needs))
+bits-of-spec = tie.close (tie.spec (λ c. no-nan (c .before .args .x) (c .if1 .left))
+    (λ c. sym (ap (toBits binary32) (differs-from-itself (c .before .args .x) (subst T (sym (c .if1 .taken)) tt)) ∙ nan-bits)) (λ c. search needs))

@@ -1,9 +1,6 @@
 -- `numbers::float::bits::of_bits` meets its contract. Without its sign a NaN's pattern is a number above the infinity's, and 0 / 0 is the NaN. Assumes nothing.
-use Prim.Native.Nat.{ℕ, _%_, _<_}
-use borrow.Author.Needs.{needs}
-use lib.{Arith.{le→nltb}, Dec.{T, lt→ltb}, Ieee.{Bits.{nanBits-is, nanBits-above}, Float, nan, inf, fin, binary32, isNan, ofBits, div}}
-use mathlib.Core.{Bool.{Bool, not}, Path.{_≡_, refl, sym, _∙_, subst}}
-use Rattle.numbers.proofs.float.bits.of_bits.Statement.{statement}
+use Rattle.numbers.proofs.{Prelude.{ℕ, _%_, _<_, needs, T, Float, binary32, fin, nan, inf, ofBits, div, Bool, not, _≡_, refl, sym, subst, _∙_}, float.bits.of_bits.Statement.{statement}}
+use lib.{Arith.{le→nltb}, Dec.{lt→ltb}, Ieee.{isNan, Bits.{nanBits-is, nanBits-above}}}
 use Rattle.numbers.proofs.float.bits.of_bits.Tie as tie
 
 is-nan : (x : Float) → T (isNan x) → x ≡ nan

@@ -1,7 +1,5 @@
 -- `numbers::float::cut::to_i64` meets its contract, by the laws over the width (proofs/float/Cutting.antt). Assumes nothing.
-use lib.{Dec.{lit≤}, Ieee.{ofBits}}
-use mathlib.Core.Path.{refl, sym}
-use mir.Syntax.{w64}
+use Rattle.numbers.proofs.Prelude.{lit≤, ofBits, refl, sym, w64}
 use Rattle.numbers.proofs.float.{Cutting.{asked, part-fits, part-cut, negated-fits, mirrored-cut, cut-above, cut-below, cut-between}, cut.to_i64.Statement.{statement}}
 use Rattle.numbers.proofs.float.cut.to_i64.Tie as tie
 
@@ -11,17 +9,11 @@ whole-part-requires c κs = asked w64 _ (lit≤ tt) (c .before .if1 .taken) (c .
 
 cast-result : tie.Need-cast-result
 unfolding ofBits
-cast-result c =
-    let if1 = c .before .before .if1 in
-    let if2 = c .before .if2 in
-    part-fits w64 _ (lit≤ tt) (if1 .taken) (if2 .taken) (c .whole-part .ensures)
+cast-result c = part-fits w64 _ (lit≤ tt) (c .before .before .if1 .taken) (c .before .if2 .taken) (c .whole-part .ensures)
 
 returns : tie.Need-returns
 unfolding ofBits
-returns c =
-    let if1 = c .before .before .if1 in
-    let if2 = c .before .if2 in
-    part-cut w64 _ (lit≤ tt) (if1 .taken) (if2 .taken) (c .whole-part .ensures)
+returns c = part-cut w64 _ (lit≤ tt) (c .before .before .if1 .taken) (c .before .if2 .taken) (c .whole-part .ensures)
 
 returns-2 : tie.Need-returns-2
 unfolding ofBits
@@ -33,24 +25,15 @@ whole-part-requires-2 c κs = asked w64 _ (lit≤ tt) (c .before .if3 .taken) (c
 
 cast-result-2 : tie.Need-cast-result-2
 unfolding ofBits
-cast-result-2 c =
-    let if3 = c .before .before .if3 in
-    let if4 = c .before .if4 in
-    part-fits w64 _ (lit≤ tt) (if3 .taken) (if4 .taken) (c .whole-part2 .ensures)
+cast-result-2 c = part-fits w64 _ (lit≤ tt) (c .before .before .if3 .taken) (c .before .if4 .taken) (c .whole-part2 .ensures)
 
 sub-result : tie.Need-sub-result
 unfolding ofBits
-sub-result c =
-    let if3 = c .before .before .if3 in
-    let if4 = c .before .if4 in
-    negated-fits w64 _ (lit≤ tt) (if3 .taken) (if4 .taken) (c .whole-part2 .ensures)
+sub-result c = negated-fits w64 _ (lit≤ tt) (c .before .before .if3 .taken) (c .before .if4 .taken) (c .whole-part2 .ensures)
 
 returns-3 : tie.Need-returns-3
 unfolding ofBits
-returns-3 c =
-    let if3 = c .before .before .if3 in
-    let if4 = c .before .if4 in
-    mirrored-cut w64 _ (lit≤ tt) (if3 .taken) (if4 .taken) (c .whole-part2 .ensures) _ refl
+returns-3 c = mirrored-cut w64 _ (lit≤ tt) (c .before .before .if3 .taken) (c .before .if4 .taken) (c .whole-part2 .ensures) _ refl
 
 returns-4 : tie.Need-returns-4
 unfolding ofBits
@@ -61,16 +44,5 @@ unfolding ofBits
 returns-5 c = sym (cut-between 63 _ (c .before .if1 .left) (c .if3 .left))
 
 pub to-i64-spec : {M : Type 1} → statement M
-to-i64-spec =
-    tie.close
-    (tie.spec
-    whole-part-requires
-    cast-result
-    returns
-    returns-2
-    whole-part-requires-2
-    cast-result-2
-    sub-result
-    returns-3
-    returns-4
+to-i64-spec = tie.close (tie.spec whole-part-requires cast-result returns returns-2 whole-part-requires-2 cast-result-2 sub-result returns-3 returns-4
     returns-5)

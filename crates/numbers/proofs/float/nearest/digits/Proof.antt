@@ -1,9 +1,7 @@
 -- `numbers::float::nearest::digits` meets its contract: the zeros above the leading digit, and the digits from it on, make 64. Assumes nothing.
-use Prim.Native.Nat.{ℕ, suc, _+_, _-_, _^_, _<_}
+use Rattle.numbers.proofs.{Prelude.{ℕ, suc, _+_, _-_, _^_, _<_, inl, inr, _≡_, refl, sym, ap, _∙_, arith}, float.{Rounding.{size-is}, nearest.digits.Statement.{statement}}}
 use lib.{Count.{leadingZeros, leading-le, leading-of-zero, leading-top}, Ieee.{size}}
-use mathlib.Core.{Logic.{inl, inr}, Path.{_≡_, refl, sym, ap, _∙_}}
-use native.Mathlib.{Nat.{eq-zero-or-pos}, Omega.{arith}}
-use Rattle.numbers.proofs.float.{Rounding.{size-is}, nearest.digits.Statement.{statement}}
+use native.Mathlib.Nat.{eq-zero-or-pos}
 use Rattle.numbers.proofs.float.nearest.digits.Tie as tie
 
 zero-size : size 0 ≡ 0
@@ -21,4 +19,5 @@ all-but-zeros n h =
     ]
 
 pub digits-spec : {M : Type 1} → statement M
-digits-spec = tie.close (tie.spec (λ c. omega (arith, leading-le 64 (c .args .n))) (λ c. leading-le 64 (c .args .n)) (λ c. all-but-zeros (c .args .n) (omega arith)))
+digits-spec = tie.close (tie.spec (λ c. omega (arith, leading-le 64 (c .args .n))) (λ c. leading-le 64 (c .args .n))
+    (λ c. all-but-zeros (c .args .n) (omega arith)))

@@ -1,10 +1,9 @@
 -- `numbers::float::nearest::nearest_shifted` meets its contract: each branch has one of the three orders of twice the remainder and the unit. Assumes nothing.
-use Prim.Native.Nat.{ℕ, _-_, _*_, _/_, _%_, _^_, _≤_, _<_, Ordering, Ordering·lt, Ordering·eq, Ordering·gt}
-use borrow.Author.Needs.{needs}
-use lib.{Ieee.{Nearest.{closest}, nearest}, Pow.{pow-pos, pow-mono}}
-use mathlib.Core.Path.{_≡_, sym, ap, _∙_, subst}
-use native.Mathlib.{Nat.{mod-lt, mod-eq-of-lt, le-antisymm, lt-of-le-of-lt, div-mul-le-self, div-add-mod'}, Numerals.{add-one}, Omega.{arith}}
+use Rattle.numbers.proofs.Prelude.{ℕ, _-_, _*_, _/_, _%_, _^_, _≤_, _<_, needs, pow-pos, pow-mono, _≡_, sym, ap, subst, _∙_, lt-of-le-of-lt, mod-lt, mod-eq-of-lt, add-one, arith}
 use Rattle.numbers.proofs.float.{Rounding.{Cmp, order-is}, nearest.nearest_shifted.Statement.{statement}}
+use Prim.Native.Nat.{Ordering, Ordering·lt, Ordering·eq, Ordering·gt}
+use lib.Ieee.{nearest, Nearest.{closest}}
+use native.Mathlib.Nat.{le-antisymm, div-mul-le-self, div-add-mod'}
 use Rattle.numbers.proofs.float.nearest.nearest_shifted.Tie as tie
 
 -- n less its kept digits is the remainder
@@ -24,37 +23,15 @@ module _ (n k : ℕ) (h : n < 2 ^ 64) where
       ap (nearest (n / 2 ^ k)) (sym (order-is (n % 2 ^ k * 2) (2 ^ k) o (subst (λ (u : ℕ). Cmp o (n % 2 ^ k * 2) u) e (subst (λ (r : ℕ). Cmp o (r * 2) unit) rest found))))
 
 mul-twice : tie.Need-mul-twice
-mul-twice c =
-    let args = c .before .args in
-    let pre = c .before .pre in
-    let n = args .n in
-    let k = args .k in
-    let unit : 2 ^ k ≤ 2 ^ 40 = pow-mono (pre .0) in
+mul-twice c = let args = c .before .args in let pre = c .before .pre in let n = args .n in let k = args .k in let unit : 2 ^ k ≤ 2 ^ 40 = pow-mono (pre .0) in
     omega (arith, rest n k (omega arith), mod-lt n (pow-pos k))
 
-returns : tie.Need-returns
-returns c = at-order _ _ (omega arith) Ordering·lt (c .before .power-of-two .ensures) (c .if1 .taken)
-
-returns-2 : tie.Need-returns-2
-returns-2 c = add-one _ ∙ at-order _ _ (omega arith) Ordering·gt (c .before .before .power-of-two .ensures) (c .if2 .taken)
-
 returns-3 : tie.Need-returns-3
-returns-3 c =
-    let power-of-two = c .before .before .power-of-two in
-    let if1 = c .before .if1 in
+returns-3 c = let power-of-two = c .before .before .power-of-two in let if1 = c .before .if1 in
     at-order _ _ (omega arith) Ordering·eq (power-of-two .ensures) (le-antisymm (c .if2 .left) (if1 .left))
 
 pub nearest-shifted-spec : {M : Type 1} → statement M
-nearest-shifted-spec =
-    tie.close
-    (tie.spec
-    (λ c κs. search needs)
-    (λ c. search needs)
-    (λ c. search needs)
-    (λ c. back-le (c .before .args .n) (c .before .args .k) (omega arith))
-    mul-twice
-    returns
-    (λ c. search needs)
-    returns-2
-    (λ c. search needs)
-    returns-3)
+nearest-shifted-spec = tie.close (tie.spec (λ c κs. search needs) (λ c. search needs) (λ c. search needs)
+    (λ c. back-le (c .before .args .n) (c .before .args .k) (omega arith)) mul-twice
+    (λ c. at-order _ _ (omega arith) Ordering·lt (c .before .power-of-two .ensures) (c .if1 .taken)) (λ c. search needs)
+    (λ c. add-one _ ∙ at-order _ _ (omega arith) Ordering·gt (c .before .before .power-of-two .ensures) (c .if2 .taken)) (λ c. search needs) returns-3)

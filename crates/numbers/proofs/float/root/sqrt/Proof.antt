@@ -1,11 +1,8 @@
 -- `numbers::float::root::sqrt` meets its contract: each way through its tests has one kind of x, at which the definition computes. Assumes nothing.
-use Prim.Native.Nat.{ℕ, zero, suc, _*_, _≤_, _<_}
-use borrow.Author.Needs.{needs}
-use lib.Dec.{T, ltb, eqb, ltb→lt, lt→ltb, eqb→eq, T-not}
-use lib.{Ieee.{Fits.{up-pos, and-l}, Positive.{positive, first-pos}, Float, nan, inf, fin, up, down, lt, eq, level, div, ofBits}, IntN.{ℤ, pos}}
-use mathlib.Core.{Bool.{Bool, true, false, not}, Path.{_≡_, refl, sym, ap, _∙_, subst}}
-use native.Mathlib.{Nat.{zero-lt-suc, mul-pos, zero-mul, lt-of-le-of-lt}, Omega.{arith}}
-use Rattle.numbers.proofs.float.root.sqrt.Statement.{statement}
+use Rattle.numbers.proofs.Prelude.{ℕ, zero, suc, _*_, _≤_, _<_, needs, eqb, ltb, T, Float, fin, nan, inf, ofBits, div, ℤ, pos, Bool, true, false, not, _≡_, refl, sym, ap, subst, _∙_}
+use Rattle.numbers.proofs.{Prelude.{lt-of-le-of-lt, zero-mul, mul-pos, arith}, float.root.sqrt.Statement.{statement}}
+use lib.{Dec.{ltb→lt, lt→ltb, eqb→eq, T-not}, Ieee.{up, down, lt, eq, level, Fits.{up-pos, and-l}, Positive.{positive, first-pos}}}
+use native.Mathlib.Nat.{zero-lt-suc}
 use Rattle.numbers.specs.Float.Root.{root}
 use Rattle.numbers.proofs.float.root.sqrt.Tie as tie
 
@@ -60,11 +57,10 @@ is-zero (fin s (suc m) e) a = absurd (clash (suc m * up e * 1) (number-pos m e) 
 
 -- two zeros are equal, whatever their signs
 zeros-level : (s : Bool) (a b : ℕ) → a ≡ 0 → b ≡ 0 → T (level s a false b)
-zeros-level s a b p q = subst (λ (x : ℕ). T (level s x false b)) (sym p) (subst (λ (x : ℕ). T (level s 0 false x)) (sym q) (base s))
-  where
-    base : (s : Bool) → T (level s 0 false 0)
-    base true = tt
-    base false = tt
+zeros-level s a b p q = subst (λ (x : ℕ). T (level s x false b)) (sym p) (subst (λ (x : ℕ). T (level s 0 false x)) (sym q) (base s)) where
+  base : (s : Bool) → T (level s 0 false 0)
+  base true = tt
+  base false = tt
 
 has-none : (x : Float) → lt nought x ≡ false → eq x nought ≡ false → nan ≡ root x
 unfolding lt eq root
@@ -78,17 +74,11 @@ has-none (fin false (suc m) e) a b =
 
 positive-root-requires : tie.Need-positive-root-requires
 unfolding ofBits div
-positive-root-requires c κs =
-    let args = c .before .before .args in
-    let if1 = c .before .if1 in
-    is-positive (args .x) (if1 .taken) (c .if2 .taken)
+positive-root-requires c κs = is-positive (c .before .before .args .x) (c .before .if1 .taken) (c .if2 .taken)
 
 returns-2 : tie.Need-returns-2
 unfolding ofBits div
-returns-2 c =
-    let args = c .before .before .args in
-    let if1 = c .before .if1 in
-    is-infinite (args .x) (if1 .taken) (c .if2 .left)
+returns-2 c = is-infinite (c .before .before .args .x) (c .before .if1 .taken) (c .if2 .left)
 
 returns-3 : tie.Need-returns-3
 unfolding ofBits
@@ -96,10 +86,7 @@ returns-3 c = is-zero (c .before .before .args .x) (c .if3 .taken)
 
 returns-4 : tie.Need-returns-4
 unfolding ofBits div
-returns-4 c =
-    let args = c .before .before .args in
-    let if1 = c .before .if1 in
-    has-none (args .x) (if1 .left) (c .if3 .left)
+returns-4 c = has-none (c .before .before .args .x) (c .before .if1 .left) (c .if3 .left)
 
 pub sqrt-spec : {M : Type 1} → statement M
 sqrt-spec = tie.close (tie.spec positive-root-requires (λ c. search needs) returns-2 returns-3 returns-4)

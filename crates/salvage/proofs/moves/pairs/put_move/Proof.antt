@@ -1,10 +1,8 @@
 -- `salvage::moves::pairs::put_move` meets its contract. Assumes nothing.
-use mathlib.Core.Path.{ap, _∙_}
-use mir.{Facts.{toZ-ofZ}, Syntax.{w32}, Val.{SFits}}
+use Rattle.numbers.{proofs.Prelude.{needs, ap, _∙_, w32, SFits}, specs.Spelling.{varintOf, signedForm}}
+use mir.Facts.{toZ-ofZ}
 use Rattle.writer.specs.Moves.{plainMoveBytes}
-use Rattle.numbers.specs.Spelling.{varintOf, signedForm}
 use Rattle.salvage.proofs.moves.{Capping.{capped-then, capped-form}, Forms.{from-zero}, pairs.put_move.Statement.{statement}}
-use borrow.Author.Needs.{needs}
 use Rattle.salvage.proofs.moves.pairs.put_move.Tie as tie
 
 -- ---- the places that the answers speak of
@@ -13,8 +11,7 @@ at-form-of c = c .before .before .before .before .before .before .before .before
 
 returns : tie.Need-returns
 unfolding plainMoveBytes
-returns c =
-    let told = at-form-of c .before .struct-told .given in
+returns c = let told = at-form-of c .before .struct-told .given in
     let lat : SFits w32 (at-form-of c .before .before .before .before .args .by .lat) = search needs in
     let lon : SFits w32 (at-form-of c .before .before .before .before .args .by .lon) = search needs in
     let args = at-form-of c .before .before .before .before .args in
@@ -23,7 +20,4 @@ returns c =
     (capped-form (c .before .before .before .form-of2 .ensures ∙ from-zero _ ∙ ap signedForm (toZ-ofZ lon)) (c .before .before .put-number2 .ensures))
 
 pub put-move-spec : {M : Type 1} → statement M
-put-move-spec =
-    tie.close
-    (tie.spec
-    (λ c κs. search needs) (λ c κs. search needs) (λ c κs. search needs) (λ c κs. search needs) (λ c. search needs) returns)
+put-move-spec = tie.close (tie.spec (λ c κs. search needs) (λ c κs. search needs) (λ c κs. search needs) (λ c κs. search needs) (λ c. search needs) returns)

@@ -1,7 +1,5 @@
 -- `salvage::moves::pairs::put_pairs` meets its contract. Assumes nothing.
-use borrow.Author.Needs.{needs}
-use mathlib.Core.Path.{_∙_}
-use Rattle.numbers.specs.Varint.{readingOf}
+use Rattle.numbers.{proofs.Prelude.{needs, _∙_}, specs.Varint.{readingOf}}
 use Rattle.salvage.proofs.moves.pairs.{Pairing.{Pairing, no-pair, pair-starts, pair-goes, pair-ends, pair-stops}, put_pairs.Statement.{statement}}
 use Rattle.salvage.proofs.moves.pairs.put_pairs.Tie as tie
 
@@ -28,8 +26,5 @@ loop-again c = pair-goes _ _ _ _ _ _ (c .if1 .left) (c .before .before .before .
     (c .before .before .before .put-move .ensures)
 
 pub put-pairs-spec : {M : Type 1} → statement M
-put-pairs-spec =
-    tie.close
-    (tie.spec
-    Inv-loop μ-loop (λ c. pair-starts _ _ _ _ _) (λ c κs. search needs) (λ c. search needs) (λ c. c .before .before .loop .inv .laid .size) returns
-    (λ c κs. search needs) same-length-2 returns-2 (λ c. search needs) (λ c. search needs) loop-again)
+put-pairs-spec = tie.close (tie.spec Inv-loop μ-loop (λ c. pair-starts _ _ _ _ _) (λ c κs. search needs) (λ c. search needs)
+    (λ c. c .before .before .loop .inv .laid .size) returns (λ c κs. search needs) same-length-2 returns-2 (λ c. search needs) (λ c. search needs) loop-again)

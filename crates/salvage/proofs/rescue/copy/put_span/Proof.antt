@@ -1,5 +1,5 @@
 -- `salvage::rescue::copy::put_span` meets its contract. Assumes nothing.
-use borrow.Author.Needs.{needs}
+use Rattle.numbers.proofs.Prelude.{needs}
 use Rattle.salvage.proofs.rescue.copy.{Copying.{Copying, copies-start, copies-go, copies-past, copies-end}, put_span.Statement.{statement}}
 use Rattle.salvage.proofs.rescue.copy.put_span.Tie as tie
 
@@ -14,10 +14,7 @@ loop-again c = copies-go _ _ _ _ _ (c .before .before .before .before .before .b
     (c .before .before .before .before .before .if1 .left) (c .before .before .put-byte .ensures)
 
 pub put-span-spec : {M : Type 1} → statement M
-put-span-spec =
-    tie.close
-    (tie.spec
-    Inv-loop μ-loop (λ c. copies-start _ _ _ _ _) (λ c. c .before .before .loop .inv .laid .size)
+put-span-spec = tie.close (tie.spec Inv-loop μ-loop (λ c. copies-start _ _ _ _ _) (λ c. c .before .before .loop .inv .laid .size)
     (λ c. copies-past _ _ _ _ _ (c .before .before .loop .inv) (c .if1 .taken)) (λ c. search needs) (λ c κs. search needs) (λ c. search needs)
     (λ c. search needs) (λ c. search needs) loop-again (λ c. c .before .loop .inv .laid .size)
     (λ c. copies-end _ _ _ _ _ (c .before .loop .inv) (c .loop-test .left)))

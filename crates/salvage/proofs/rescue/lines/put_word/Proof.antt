@@ -1,7 +1,5 @@
 -- `salvage::rescue::lines::put_word` meets its contract. Assumes nothing.
-use borrow.Author.Needs.{needs}
-use lib.Seq.{set-out}
-use mathlib.Core.Path.{sym}
+use Rattle.numbers.proofs.Prelude.{needs, set-out, sym}
 use Rattle.salvage.proofs.rescue.lines.put_word.Statement.{statement}
 use Rattle.salvage.proofs.rescue.lines.put_word.Tie as tie
 

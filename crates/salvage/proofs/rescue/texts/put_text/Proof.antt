@@ -1,8 +1,7 @@
 -- `salvage::rescue::texts::put_text` meets its contract. Assumes nothing.
-use borrow.Author.Needs.{needs}
-use Rattle.salvage.proofs.moves.Capping.{capped-then}
+use Rattle.numbers.proofs.Prelude.{needs}
+use Rattle.salvage.proofs.{moves.Capping.{capped-then}, rescue.texts.put_text.Statement.{statement}}
 use Rattle.salvage.specs.inner.Rescue.Texts.{textBytes}
-use Rattle.salvage.proofs.rescue.texts.put_text.Statement.{statement}
 use Rattle.salvage.proofs.rescue.texts.put_text.Tie as tie
 
 returns : tie.Need-returns

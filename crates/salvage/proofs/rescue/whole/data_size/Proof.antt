@@ -1,7 +1,6 @@
 -- `salvage::rescue::whole::data_size` meets its contract. Assumes nothing.
-use borrow.Author.Needs.{needs}
-use Rattle.salvage.proofs.entries.Tabling.{sized-of}
-use Rattle.salvage.proofs.rescue.whole.data_size.Statement.{statement}
+use Rattle.numbers.proofs.Prelude.{needs}
+use Rattle.salvage.proofs.{entries.Tabling.{sized-of}, rescue.whole.data_size.Statement.{statement}}
 use Rattle.salvage.proofs.rescue.whole.data_size.Tie as tie
 
 pub data-size-spec : {M : Type 1} → statement M

@@ -1,7 +1,6 @@
 -- `salvage::rescue::whole::metadata_size` meets its contract. Assumes nothing.
-use borrow.Author.Needs.{needs}
-use Rattle.salvage.proofs.entries.Tabling.{sized-of}
-use Rattle.salvage.proofs.rescue.whole.metadata_size.Statement.{statement}
+use Rattle.numbers.proofs.Prelude.{needs}
+use Rattle.salvage.proofs.{entries.Tabling.{sized-of}, rescue.whole.metadata_size.Statement.{statement}}
 use Rattle.salvage.proofs.rescue.whole.metadata_size.Tie as tie
 
 pub metadata-size-spec : {M : Type 1} → statement M

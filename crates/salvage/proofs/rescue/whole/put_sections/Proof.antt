@@ -1,7 +1,5 @@
 -- `salvage::rescue::whole::put_sections` meets its contract. Assumes nothing.
-use borrow.Author.Needs.{needs}
-use lib.ListN.{length}
-use mathlib.Core.Path.{_≡_}
+use Rattle.numbers.proofs.Prelude.{needs, length, _≡_}
 use Rattle.salvage.proofs.rescue.whole.{Assembling.{sections-laid}, put_sections.Statement.{statement}}
 use Rattle.salvage.proofs.rescue.whole.put_sections.Tie as tie
 

@@ -1,5 +1,5 @@
 -- `salvage::rescue::whole::table_size` meets its contract. Assumes nothing.
-use borrow.Author.Needs.{needs}
+use Rattle.numbers.proofs.Prelude.{needs}
 use Rattle.salvage.proofs.rescue.whole.{Assembling.{table-sized}, table_size.Statement.{statement}}
 use Rattle.salvage.proofs.rescue.whole.table_size.Tie as tie
 
