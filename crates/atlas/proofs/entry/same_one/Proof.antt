@@ -4,14 +4,18 @@ use Rattle.atlas.specs.inner.{Building.{marksAtRecord}, Marking.{marksOf
 use Rattle.atlas.proofs.{Behind.{entry-is, marks-size, size-few}, Owned.{other-word, other-marks, marks-so}, entry.same_one.Statement.{statement}}
 use Rattle.atlas.proofs.entry.same_one.Tie as tie
 
+-- ---- the places that the answers speak of
+abbrev at-start : tie.After-is-word → tie.Start
+at-start c = c .before .before .before .before .before .before .before
+
 returns : tie.Need-returns
 returns c =
-    let args = c .before .before .before .before .before .before .before .before .args in
+    let args = at-start (c .before) .args in
     let encoding-of = c .before .before .before .before .before .encoding-of in
     let course-of = c .before .before .before .before .course-of in
     let size-of = c .before .before .before .size-of in
     let entry-for = c .before .before .entry-for in
-    let pre = c .before .before .before .before .before .before .before .before .pre in
+    let pre = at-start (c .before) .pre in
     let is-word = c .before .is-word in
     let if1 = c .if1 in
     let is = (λ i. marksOf (args .file .now) (encoding-of .ensures i) (course-of .result)) ∙ course-of .ensures .0 in
@@ -24,17 +28,17 @@ returns c =
     )
 
 same-marks-requires : tie.Need-same-marks-requires
-same-marks-requires c κs = let pre = c .before .before .before .before .before .before .before .before .pre in
+same-marks-requires c κs = let pre = at-start (c .before) .pre in
     let course-of = c .before .before .before .before .course-of in (pre .2, omega (arith, course-of .ensures .1))
 
 returns-2 : tie.Need-returns-2
 returns-2 c =
-    let args = c .before .before .before .before .before .before .before .before .before .before .args in
+    let args = at-start (c .before .before .before) .args in
     let encoding-of = c .before .before .before .before .before .before .before .encoding-of in
     let course-of = c .before .before .before .before .before .before .course-of in
     let size-of = c .before .before .before .before .before .size-of in
     let entry-for = c .before .before .before .before .entry-for in
-    let pre = c .before .before .before .before .before .before .before .before .before .before .pre in
+    let pre = at-start (c .before .before .before) .pre in
     let is-word = c .before .before .before .is-word in
     let if1 = c .before .before .if1 in
     let same-marks = c .before .same-marks in
@@ -51,12 +55,12 @@ returns-2 c =
 
 returns-3 : tie.Need-returns-3
 returns-3 c =
-    let args = c .before .before .before .before .before .before .before .before .before .before .args in
+    let args = at-start (c .before .before .before) .args in
     let encoding-of = c .before .before .before .before .before .before .before .encoding-of in
     let course-of = c .before .before .before .before .before .before .course-of in
     let size-of = c .before .before .before .before .before .size-of in
     let entry-for = c .before .before .before .before .entry-for in
-    let pre = c .before .before .before .before .before .before .before .before .before .before .pre in
+    let pre = at-start (c .before .before .before) .pre in
     let is-word = c .before .before .before .is-word in
     let if1 = c .before .before .if1 in
     let same-marks = c .before .same-marks in

@@ -6,6 +6,10 @@ use Rattle.atlas.specs.inner.Building.{behindOf, isBehind, endOf}
 use Rattle.atlas.proofs.{Owned.{front-part, records-inside, atlas-so, not-index, not-opened, not-behind}, own.is_atlas.Statement.{statement}}
 use Rattle.atlas.proofs.own.is_atlas.Tie as tie
 
+-- ---- the places that the answers speak of
+abbrev at-is-index : tie.After-known-told → tie.After-is-index
+at-is-index c = c .before .before .before .before .before .before
+
 returns : tie.Need-returns
 returns c = let args = c .before .before .before .before .before .before .before .before .args in let is-index = c .before .before .before .is-index in
     let same = ap (isIndexOf (args .file .now)) (front-part (args .words .now) (c .before .before .before .before .before .end-of .ensures .0)) in
@@ -17,9 +21,8 @@ returns-2 c = let args = c .before .before .before .before .before .before .befo
     rw (c .plain2 .ensures) (not-opened (args .file .now) (args .words .now) (sym (ap toldHead (c .before .enum-told3 .given .1)) ∙ head-of .ensures))
 
 same-behind-requires : tie.Need-same-behind-requires
-same-behind-requires c κs = let args = c .before .before .before .before .before .before .before .before .before .before .before .args in
-    let end-of = c .before .before .before .before .before .before .before .before .end-of in let head = c .before .head in
-    let head-of = c .before .before .before .head-of in let is-index = c .before .before .before .before .before .before .is-index in
+same-behind-requires c κs = let args = at-is-index c .before .before .before .before .before .args in let end-of = at-is-index c .before .before .end-of in
+    let head = c .before .head in let head-of = c .before .before .before .head-of in let is-index = at-is-index c .is-index in
     let enum-told2 = c .before .before .before .before .enum-told2 in
     let same = ap (isIndexOf (args .file .now)) (front-part (args .words .now) (end-of .ensures .0)) in
     let opened = sym (ap toldHead (head .given .1)) ∙ head-of .ensures in
@@ -28,10 +31,9 @@ same-behind-requires c κs = let args = c .before .before .before .before .befor
     (omega (arith, records-inside (args .file .now) (args .words .now) opened yes-index few), end-of .ensures .2)
 
 returns-3 : tie.Need-returns-3
-returns-3 c = let args = c .before .before .before .before .before .before .before .before .before .before .before .before .before .args in
-    let end-of = c .before .before .before .before .before .before .before .before .before .before .end-of in let head = c .before .before .before .head in
-    let head-of = c .before .before .before .before .before .head-of in
-    let is-index = c .before .before .before .before .before .before .before .before .is-index in
+returns-3 c = let args = at-is-index (c .before .before) .before .before .before .before .before .args in
+    let end-of = at-is-index (c .before .before) .before .before .end-of in let head = c .before .before .before .head in
+    let head-of = c .before .before .before .before .before .head-of in let is-index = at-is-index (c .before .before) .is-index in
     let enum-told2 = c .before .before .before .before .before .before .enum-told2 in let same-behind = c .before .same-behind in let if1 = c .if1 in
     let same = ap (isIndexOf (args .file .now)) (front-part (args .words .now) (end-of .ensures .0)) in
     let opened = sym (ap toldHead (head .given .1)) ∙ head-of .ensures in
@@ -41,10 +43,9 @@ returns-3 c = let args = c .before .before .before .before .before .before .befo
     (sym (end-of .ensures .0)) ∙ sym (same-behind .ensures) ∙ if1 .taken)
 
 returns-4 : tie.Need-returns-4
-returns-4 c = let args = c .before .before .before .before .before .before .before .before .before .before .before .before .before .before .args in
-    let end-of = c .before .before .before .before .before .before .before .before .before .before .before .end-of in
-    let head = c .before .before .before .before .head in let head-of = c .before .before .before .before .before .before .head-of in
-    let is-index = c .before .before .before .before .before .before .before .before .before .is-index in
+returns-4 c = let args = at-is-index (c .before .before .before) .before .before .before .before .before .args in
+    let end-of = at-is-index (c .before .before .before) .before .before .end-of in let head = c .before .before .before .before .head in
+    let head-of = c .before .before .before .before .before .before .head-of in let is-index = at-is-index (c .before .before .before) .is-index in
     let enum-told2 = c .before .before .before .before .before .before .before .enum-told2 in let plain3 = c .plain3 in
     let same-behind = c .before .before .same-behind in let if1 = c .before .if1 in
     let same = ap (isIndexOf (args .file .now)) (front-part (args .words .now) (end-of .ensures .0)) in

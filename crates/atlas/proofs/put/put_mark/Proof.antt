@@ -5,13 +5,16 @@ use Rattle.atlas.proofs.put.put_mark.Statement.{statement}
 use Rattle.index.proofs.Stores.{same-word}
 use Rattle.atlas.proofs.put.put_mark.Tie as tie
 
+-- ---- the places that the answers speak of
+abbrev at-put : tie.After-slice-known7 → tie.After-put
+at-put c = c .before .before .before .before .before .before .before .before .before .before .before
+
 returns : tie.Need-returns
-returns c = let low-of = c .before .before .before .before .before .before .before .before .before .before .before .before .low-of in
-    let low-long = c .before .before .before .before .before .before .before .low-long in
-    let early = c .before .before .before .before .before .before .before .before .before .before .before .before .before .before .before .before .before .before in
-    let put-point2 = c .before .before .before .before .before .before .before .before .before .before .before .before .before .before .before .before .before .before .before .before .put-point2 in
-    let put-point3 = c .before .before .before .before .before .before .before .before .before .before .before .before .before .before .before .before .put-point3 in
-    let five = same-word (low-of .ensures) (c .before .before .before .before .before .before .before .before .before .before .before .put .ensures) in
+returns c = let low-long = c .before .before .before .before .before .before .before .low-long in
+    let early = at-put c .before .before .before .before .before .before .before in
+    let put-point2 = at-put c .before .before .before .before .before .before .before .before .before .put-point2 in
+    let put-point3 = at-put c .before .before .before .before .before .put-point3 in
+    let five = same-word (at-put c .before .low-of .ensures) (at-put c .put .ensures) in
     let six = same-word (low-long .ensures) (c .before .before .before .before .before .before .put2 .ensures) in
     let corners = stored-then _ _ (early .before .before .before .before .before .before .put-point .ensures) (put-point2 .ensures) in
     stored-then _ _ (stored-then _ _ (stored-then _ _ (stored-then _ _ corners (put-point3 .ensures)) five) six) (c .before .before .put-run .ensures)

@@ -6,14 +6,15 @@ use Rattle.atlas.proofs.put.put_run.Statement.{statement}
 use Rattle.index.proofs.Stores.{same-word}
 use Rattle.atlas.proofs.put.put_run.Tie as tie
 
+-- ---- the places that the answers speak of
+abbrev at-put2 : tie.After-slice-known4 → tie.After-put2
+at-put2 c = c .before .before .before .before .before .before .before .before
+
 returns : tie.Need-returns
-returns c = let kind-of = c .before .before .before .before .before .before .before .before .before .before .before .before .before .before .before .kind-of in
-    let put = c .before .before .before .before .before .before .before .before .before .before .before .before .before .before .put in
-    let low-of = c .before .before .before .before .before .before .before .before .before .low-of in
-    let next-of = c .before .before .before .before .before .before .before .before .before .before .next-of in
-    let low-of2 = c .before .before .before .low-of2 in let end-of = c .before .before .before .before .end-of in
-    let one = same-word (kind-of .ensures) (put .ensures) in
-    let two = same-word (low-of .ensures ∙ ap low (next-of .ensures)) (c .before .before .before .before .before .before .before .before .put2 .ensures) in
+returns c = let kind-of = at-put2 c .before .before .before .before .before .before .before .kind-of in let low-of2 = c .before .before .before .low-of2 in
+    let end-of = c .before .before .before .before .end-of in
+    let one = same-word (kind-of .ensures) (at-put2 c .before .before .before .before .before .before .put .ensures) in
+    let two = same-word (at-put2 c .before .low-of .ensures ∙ ap low (at-put2 c .before .before .next-of .ensures)) (at-put2 c .put2 .ensures) in
     stored-then _ _ (stored-then _ _ one two) (same-word (low-of2 .ensures ∙ ap low (end-of .ensures)) (c .before .before .put3 .ensures))
 
 pub put-run-spec : {M : Type 1} → statement M

@@ -12,39 +12,32 @@ Inv-loop out₀ at map head zones fix hits count first next₀ i₀ out next i =
 abbrev μ-loop : tie.MeasureT-loop
 μ-loop out₀ at map head zones fix hits count first next₀ i₀ out next i = count - i
 
-hour-again-requires : tie.Need-hour-again-requires Inv-loop μ-loop
-hour-again-requires c κs = (omega (arith, c .before .before .before .before .before .before .pre .0, c .loop-test .taken), c .before .before .before .before .before .before .pre .1)
+-- ---- the places that the answers speak of
+abbrev at-start : tie.In-loop Inv-loop μ-loop → tie.Start Inv-loop μ-loop
+at-start c = c .before .before .before .before .before .before
+
+abbrev at-in-loop : tie.After-slice-known2 Inv-loop μ-loop → tie.In-loop Inv-loop μ-loop
+at-in-loop c = c .before .before .before .before .before .before .before .before
 
 returns : tie.Need-returns Inv-loop μ-loop
-returns c = let args = c .before .before .before .before .before .before .before .before .before .args in let loop = c .before .before .before .before .loop in
-    let pre = c .before .before .before .before .before .before .before .before .before .pre .0 in
+returns c = let args = at-start (c .before .before .before) .args in let loop = c .before .before .before .before .loop in
+    let pre = at-start (c .before .before .before) .pre .0 in
     lining-stop _ _ _ _ (take (args .count) (slots (args .hits .now))) _ _ _ _ (loop .i) (loop .inv .0)
     (omega (arith, c .before .before .before .loop-test .taken, count-slots (args .hits .now) (args .count) pre)) (slot-is (args .hits .now) (args .count) pre
     _ _ (c .before .before .before .loop-test .taken) refl) (sym (c .before .before .hour-again .ensures .0) ∙ ap (toldHour (args .map .now) (args .zones .now)) (c .enum-told .given .1))
 
 put-added-requires : tie.Need-put-added-requires Inv-loop μ-loop
 unfolding StandsHour
-put-added-requires c κs = let args = c .before .before .before .before .before .before .before .before .before .before .before .args in (
+put-added-requires c κs = let args = at-start (c .before .before .before .before .before) .args in (
   subst (λ (h : Hourly). StandsHour (length (args .map .now)) (length (args .zones .now)) h) (c .before .before .spot .given .1)
       (c .before .before .before .before .hour-again .ensures .1),
   omega
-      (arith, c .before .before .before .before .before .before .before .before .before .before .before .pre .0, c .before .before .before .before .before .loop-test .taken),
+      (arith, at-start (c .before .before .before .before .before) .pre .0, c .before .before .before .before .before .loop-test .taken),
 )
 
-add-i : tie.Need-add-i Inv-loop μ-loop
-add-i c =
-    omega (
-      arith,
-      c .before .before .before .before .before .before .before .before .loop-test .taken,
-      c .before .before .before .before .before .before .before .before .before .before .before .before .before .before .fits .count,
-    )
-
 loop-again : tie.Need-loop-again Inv-loop μ-loop
-loop-again c = let args = c .before .before .before .before .before .before .before .before .before .before .before .before .before .before .args in
-    let loop = c .before .before .before .before .before .before .before .before .before .loop in
-    let taken = c .before .before .before .before .before .before .before .before .loop-test .taken in
-    let pre = c .before .before .before .before .before .before .before .before .before .before .before .before .before .before .pre .0 in
-    let said = c .before .before .before .before .before .spot .given .0 .0 in
+loop-again c = let args = at-start (at-in-loop c) .args in let loop = at-in-loop c .before .loop in let taken = at-in-loop c .loop-test .taken in
+    let pre = at-start (at-in-loop c) .pre .0 in let said = c .before .before .before .before .before .spot .given .0 .0 in
     let same = first-of (loop .i) (args .count) (slots (args .hits .now)) (omega (arith, taken)) in (
       lining-one _ _ _ _ (take (args .count) (slots (args .hits .now))) _ _ _ _ (loop .i) (loop .inv .0) (omega (arith, taken, count-slots (args .hits .now) (args .count) pre))
           (slot-is (args .hits .now) (args .count) pre _ _ taken refl)
@@ -62,7 +55,8 @@ returns-2 c = let args = c .before .before .before .before .before .before .args
     (omega (arith, c .loop-test .left, count-slots (args .hits .now) (args .count) (c .before .before .before .before .before .before .pre .0)))
 
 pub put-zones-spec : {M : Type 1} → statement M
-put-zones-spec = tie.close (tie.spec Inv-loop μ-loop (λ c. (lining-none _ _ _ _ _ _ _, omega arith)) hour-again-requires (λ c. search needs) (λ c. search needs)
-    (λ c. lining-kept _ _ _ _ _ _ _ _ _ _ (c .before .before .before .before .loop .inv .0)) returns put-added-requires add-i
-    (λ c. omega (arith, c .before .before .before .before .before .before .before .before .loop-test .taken)) loop-again
+put-zones-spec = tie.close (tie.spec Inv-loop μ-loop (λ c. (lining-none _ _ _ _ _ _ _, omega arith))
+    (λ c κs. (omega (arith, at-start c .pre .0, c .loop-test .taken), at-start c .pre .1)) (λ c. search needs) (λ c. search needs)
+    (λ c. lining-kept _ _ _ _ _ _ _ _ _ _ (c .before .before .before .before .loop .inv .0)) returns put-added-requires
+    (λ c. omega (arith, at-in-loop c .loop-test .taken, at-start (at-in-loop c) .fits .count)) (λ c. omega (arith, at-in-loop c .loop-test .taken)) loop-again
     (λ c. lining-kept _ _ _ _ _ _ _ _ _ _ (c .before .loop .inv .0)) returns-2)

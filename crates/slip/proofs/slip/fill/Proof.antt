@@ -4,6 +4,10 @@ use Rattle.header.specs.Header.{toldHead}
 use Rattle.slip.proofs.{Stamps.{not-placed, not-opened, opened}, slip.fill.Statement.{statement}}
 use Rattle.slip.proofs.slip.fill.Tie as tie
 
+-- ---- the places that the answers speak of
+abbrev at-head : tie.After-slice-known6 → tie.After-head
+at-head c = c .before .before .before .before .before .before .before .before .before .before .before
+
 returns : tie.Need-returns
 returns c = let args = c .before .before .before .before .before .before .before .before .before .args in
     not-placed (args .fix) _ _ _ _ _ _ _ _ _ (sym (c .before .before .is-on-globe .ensures) ∙ not-true _ (c .before .if1 .taken)) (c .plain .ensures)
@@ -15,13 +19,9 @@ returns-2 c = let args = c .before .before .before .before .before .before .befo
     not-opened (args .fix) _ _ _ _ _ _ (sym (is-on-globe .ensures) ∙ not-false _ (if1 .left)) _ _ _ (sym (ap toldHead (why .given .1)) ∙ head-of .ensures)
 
 returns-3 : tie.Need-returns-3
-returns-3 c =
-    let args =
-    c .before .before .before .before .before .before .before .before .before .before .before .before .before .before .before .before .before .before .before .before .before .before .args in
-    let is-on-globe = c .before .before .before .before .before .before .before .before .before .before .before .before .before .before .before .is-on-globe in
-    let if1 = c .before .before .before .before .before .before .before .before .before .before .before .before .before .before .if1 in
-    let head = c .before .before .before .before .before .before .before .before .before .before .before .head in
-    let head-of = c .before .before .before .before .before .before .before .before .before .before .before .before .before .head-of in
+returns-3 c = let args = at-head c .before .before .before .before .before .before .before .before .before .before .before .args in
+    let is-on-globe = at-head c .before .before .before .before .is-on-globe in let if1 = at-head c .before .before .before .if1 in
+    let head = at-head c .head in let head-of = at-head c .before .before .head-of in
     let slip-in = c .before .before .before .before .before .before .slip-in in
     opened (args .fix) _ _ _ _ _ _ (sym (is-on-globe .ensures) ∙ not-false _ (if1 .left)) _ _ _ _ (sym (ap toldHead (head .given .1)) ∙ head-of .ensures) (slip-in .ensures)
 

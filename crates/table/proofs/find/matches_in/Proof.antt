@@ -4,6 +4,10 @@ use Rattle.table.proofs.{Agreeing.{agree-given, agree-refused, gave, re
 use Rattle.table.specs.{Find.{Matching}, Hits.{width}, Search.{searched, toldSearched, Sought}}
 use Rattle.table.proofs.find.matches_in.Tie as tie
 
+-- ---- the places that the answers speak of
+abbrev at-hits : tie.After-slice-known3 → tie.After-hits
+at-hits c = c .before .before .before .before .before .before .before .before
+
 returns : tie.Need-returns
 returns c = let args = c .before .before .before .before .before .before .args in let is-precision = c .before .before .is-precision in
     let if1 = c .before .if1 in
@@ -30,14 +34,10 @@ merge-front-requires c κs =
     (length (args .hits .now) / width)) (search .ensures) (ap toldSearched (ended .given .1)) .fits) (omega (arith, hits .given))
 
 returns-3 : tie.Need-returns-3
-returns-3 c =
-    let args = c .before .before .before .before .before .before .before .before .before .before .before .before .before .before .before .before .before .args in
-    let search = c .before .before .before .before .before .before .before .before .before .search in
-    let fix-of = c .before .before .before .before .before .before .before .before .before .before .before .fix-of in
-    let ended = c .before .before .before .before .before .ended in
-    let is-precision = c .before .before .before .before .before .before .before .before .before .before .before .before .before .is-precision in
-    let if1 = c .before .before .before .before .before .before .before .before .before .before .before .before .if1 in
-    let hits = c .before .before .before .before .before .before .before .before .hits in let merge-front = c .before .before .merge-front in
+returns-3 c = let args = at-hits c .before .before .before .before .before .before .before .before .before .args in let search = at-hits c .before .search in
+    let fix-of = at-hits c .before .before .before .fix-of in let ended = c .before .before .before .before .before .ended in
+    let is-precision = at-hits c .before .before .before .before .before .is-precision in let if1 = at-hits c .before .before .before .before .if1 in
+    let hits = at-hits c .hits in let merge-front = c .before .before .merge-front in
     let sought = gave (Sought (length (args .hits .now)) (search .last .1 .1 .1 .1 .0)) (searched (args .file .now) (args .head) (fix-of .result) (args .asked)
     (length (args .hits .now) / width)) (search .ensures) (ap toldSearched (ended .given .1)) in
     agree-given (Matching _ _) (searched-so (args .file .now) (args .head) (args .location) (args .asked) (length (args .hits .now) / width)

@@ -5,6 +5,10 @@ use Rattle.table.proofs.marked.judge_marked.Statement.{statement}
 use Rattle.table.specs.MarkedRows.{markFor, judgeMarked}
 use Rattle.table.proofs.marked.judge_marked.Tie as tie
 
+-- ---- the places that the answers speak of
+abbrev at-start : tie.After-judge-by → tie.Start
+at-start c = c .before .before .before .before .before .before
+
 returns : tie.Need-returns
 unfolding judgeMarked
 returns c =
@@ -13,13 +17,10 @@ returns c =
 
 returns-2 : tie.Need-returns-2
 unfolding judgeMarked
-returns-2 c =
-    let some = ne-eqb (markFor (c .before .before .before .before .before .before .args .marks .now) (c .before .before .before .before .before .before .args .k)) 0
-    (λ e. c .before .before .if1 .left (c .before .before .before .mark-for .ensures ∙ e)) in
-    c .judge-by .ensures ∙ (λ i. judgedBy (c .before .before .before .before .before .before .args .file .now) (c .before .encoding-of .ensures i)
-    (c .before .before .before .before .before .before .args .marks .now) (c .before .before .before .mark-for .ensures i)
-    (c .before .before .before .before .before .before .args .fix .lat) (c .before .before .before .before .before .before .args .fix .lon)
-    (c .before .before .before .before .before .before .args .asked) (c .before .before .before .before .before .before .args .least)) ∙ rw some
+returns-2 c = let args = at-start c .args in
+    let some = ne-eqb (markFor (args .marks .now) (args .k)) 0 (λ e. c .before .before .if1 .left (c .before .before .before .mark-for .ensures ∙ e)) in
+    c .judge-by .ensures ∙ (λ i. judgedBy (args .file .now) (c .before .encoding-of .ensures i) (args .marks .now) (c .before .before .before .mark-for .ensures i)
+    (args .fix .lat) (args .fix .lon) (args .asked) (args .least)) ∙ rw some
 
 pub judge-marked-spec : {M : Type 1} → statement M
 judge-marked-spec = tie.close (tie.spec (λ c κs. search needs) (λ c κs. search needs) returns (λ c κs. search needs) (λ c κs. search needs) returns-2)

@@ -11,6 +11,10 @@ Inv-loop hits₀ from id room t₀ j₀ hits t j = Gathering (slots hits₀) fro
 abbrev μ-loop : tie.MeasureT-loop
 μ-loop hits₀ from id room t₀ j₀ hits t j = room - j
 
+-- ---- the places that the answers speak of
+abbrev at-hit-at : tie.After-slice-known2 Inv-loop μ-loop → tie.After-hit-at Inv-loop μ-loop
+at-hit-at c = c .before .before .before .before .before .before .before .before
+
 loop-holds : tie.Need-loop-holds Inv-loop μ-loop
 loop-holds c = let pre = c .before .before .before .pre in
     (begins _ _ _ _ _ (pre .0) (pre .1) refl, ap length (pre .0) ∙ words-length (slots (c .before .before .before .args .hits .now)))
@@ -33,19 +37,19 @@ put-hit-requires c κs = let loop = c .before .before .before .before .before .b
 
 loop-again : tie.Need-loop-again Inv-loop μ-loop
 loop-again c = let joined = c .before .before .before .before .before .joined in (
-  takes (c .before .before .before .before .before .before .before .before .before .before .before .loop .inv .0)
+  takes (at-hit-at c .before .before .before .loop .inv .0)
       (omega (
         arith,
-        c .before .before .before .before .before .before .before .before .before .before .before .loop .inv .1,
-        c .before .before .before .before .before .before .before .before .before .before .loop-test .taken,
-        c .before .before .before .before .before .before .before .before .before .before .before .before .room .ensures,
+        at-hit-at c .before .before .before .loop .inv .1,
+        at-hit-at c .before .before .loop-test .taken,
+        at-hit-at c .before .before .before .before .room .ensures,
       ))
-      (c .before .before .before .before .before .before .before .before .hit-at .result) (c .before .before .before .before .before .before .before .before .hit-at .ensures) _ _
+      (at-hit-at c .hit-at .result) (at-hit-at c .hit-at .ensures) _ _
       (c .before .before .before .before .before .before .if1 .taken)
-      (c .before .before .put-hit .ensures ∙ ap (putHit (c .before .before .before .before .before .before .before .before .before .before .before .loop .hits)
-      (c .before .before .before .before .before .before .before .before .before .before .before .loop .j)) (c .before .before .before .none .ensures))
+      (c .before .before .put-hit .ensures ∙ ap (putHit (at-hit-at c .before .before .before .loop .hits)
+      (at-hit-at c .before .before .before .loop .j)) (c .before .before .before .none .ensures))
       (joined .ensures .0) (joined .ensures .1 .0) (joined .ensures .1 .1),
-  c .before .before .before .before .before .before .before .before .before .before .before .loop .inv .1,
+  at-hit-at c .before .before .before .loop .inv .1,
 )
 
 loop-again-2 : tie.Need-loop-again-2 Inv-loop μ-loop
@@ -60,6 +64,5 @@ returns c = let loop = c .before .loop in let room = c .before .before .room in
 pub gather-spec : {M : Type 1} → statement M
 gather-spec = tie.close (tie.spec Inv-loop μ-loop (λ c κs. tt) loop-holds hit-at-requires
     (λ c. omega (arith, c .before .before .loop-test .taken, c .before .before .before .before .room .ok)) joined-requires (λ c κs. tt) put-hit-requires
-    (λ c. omega (arith, c .before .before .before .before .before .before .before .before .before .before .loop-test .taken)) loop-again
-    (λ c. omega (arith, c .before .before .before .before .loop-test .taken)) loop-again-2
-    (λ c. omega (arith, gathered-length (c .before .loop .inv .0), c .before .loop .inv .1)) returns)
+    (λ c. omega (arith, at-hit-at c .before .before .loop-test .taken)) loop-again (λ c. omega (arith, c .before .before .before .before .loop-test .taken))
+    loop-again-2 (λ c. omega (arith, gathered-length (c .before .loop .inv .0), c .before .loop .inv .1)) returns)

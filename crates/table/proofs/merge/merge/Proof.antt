@@ -11,6 +11,13 @@ Inv-loop hits₀ room out₀ i₀ hits out i = Merging (slots hits₀) hits out 
 abbrev μ-loop : tie.MeasureT-loop
 μ-loop hits₀ room out₀ i₀ hits out i = room - i
 
+-- ---- the places that the answers speak of
+abbrev at-gather : tie.After-slice-known3 Inv-loop μ-loop → tie.After-gather Inv-loop μ-loop
+at-gather c = c .before .before .before .before .before .before .before .before
+
+abbrev at-in-loop : tie.After-kind-of Inv-loop μ-loop → tie.In-loop Inv-loop μ-loop
+at-in-loop c = c .before .before .before .before .before .before .before .before .before
+
 loop-holds : tie.Need-loop-holds Inv-loop μ-loop
 loop-holds c = let pre = c .before .before .before .pre in
     (starts _ _ (pre .0) (pre .1), ap length (pre .0) ∙ words-length (slots (c .before .before .before .args .hits .now)))
@@ -26,9 +33,9 @@ gather-requires c κs = let loop = c .before .before .before .before .before .be
 
 put-hit-requires : tie.Need-put-hit-requires Inv-loop μ-loop
 put-hit-requires c κs =
-    let loop = c .before .before .before .before .before .before .before .before .before .before .before .before .loop in
-    let loop-test = c .before .before .before .before .before .before .before .before .before .before .before .loop-test in
-    let room = c .before .before .before .before .before .before .before .before .before .before .before .before .before .room in
+    let loop = at-in-loop (c .before .before) .before .loop in
+    let loop-test = at-in-loop (c .before .before) .loop-test in
+    let room = at-in-loop (c .before .before) .before .before .room in
     let hit-at = c .before .before .before .before .before .before .before .before .before .hit-at in
     let if1 = c .before .before .before .before .before .before .before .if1 in
     let gather = c .before .before .before .before .before .gather in
@@ -38,45 +45,40 @@ put-hit-requires c κs =
     omega (arith, taken, inv .0 .place, inv .1, loop-test .taken, room .ensures)
 
 add-out : tie.Need-add-out Inv-loop μ-loop
-add-out c = let loop = c .before .before .before .before .before .before .before .before .before .before .before .before .before .before .before .loop in
-    let loop-test = c .before .before .before .before .before .before .before .before .before .before .before .before .before .before .loop-test in
-    let room = c .before .before .before .before .before .before .before .before .before .before .before .before .before .before .before .before .room in
-    omega (arith, loop .inv .0 .place, loop-test .taken, room .ok)
-
-loop-less : tie.Need-loop-less Inv-loop μ-loop
-loop-less c = let loop-test = c .before .before .before .before .before .before .before .before .before .before .before .before .before .before .loop-test in
-    omega (arith, loop-test .taken)
+add-out c = let loop = at-in-loop (c .before .before .before .before .before) .before .loop in
+    let loop-test = at-in-loop (c .before .before .before .before .before) .loop-test in
+    let room = at-in-loop (c .before .before .before .before .before) .before .before .room in omega (arith, loop .inv .0 .place, loop-test .taken, room .ok)
 
 loop-again : tie.Need-loop-again Inv-loop μ-loop
 loop-again c = (
-  keeps (c .before .before .before .before .before .before .before .before .before .before .before .before .before .before .before .loop .inv .0)
+  keeps (at-in-loop (c .before .before .before .before .before) .before .loop .inv .0)
       (omega (
         arith,
-        c .before .before .before .before .before .before .before .before .before .before .before .before .before .before .before .loop .inv .1,
-        c .before .before .before .before .before .before .before .before .before .before .before .before .before .before .loop-test .taken,
-        c .before .before .before .before .before .before .before .before .before .before .before .before .before .before .before .before .room .ensures,
+        at-in-loop (c .before .before .before .before .before) .before .loop .inv .1,
+        at-in-loop (c .before .before .before .before .before) .loop-test .taken,
+        at-in-loop (c .before .before .before .before .before) .before .before .room .ensures,
       ))
-      (c .before .before .before .before .before .before .before .before .before .before .before .before .hit-at .result)
-      (c .before .before .before .before .before .before .before .before .before .before .before .before .hit-at .ensures)
-      (c .before .before .before .before .before .before .before .before .before .before .if1 .taken) _ (tallied (c .before .before .before .before .before .before .before .before .gather .result)) _
-      (c .before .before .before .before .before .before .before .before .gather .ensures .1) (c .before .before .before .before .before .before .before .before .gather .ensures .0)
+      (at-gather c .before .before .before .before .hit-at .result)
+      (at-gather c .before .before .before .before .hit-at .ensures)
+      (at-gather c .before .before .if1 .taken) _ (tallied (at-gather c .gather .result)) _
+      (at-gather c .gather .ensures .1) (at-gather c .gather .ensures .0)
       (c .before .before .before .before .before .kind-of .ensures) _ (c .before .before .before .before .if2 .taken) (c .before .before .put-hit .ensures),
-  c .before .before .before .before .before .before .before .before .before .before .before .before .before .before .before .loop .inv .1,
+  at-in-loop (c .before .before .before .before .before) .before .loop .inv .1,
 )
 
 loop-again-2 : tie.Need-loop-again-2 Inv-loop μ-loop
 loop-again-2 c = (
-  drops (c .before .before .before .before .before .before .before .before .before .before .before .loop .inv .0)
+  drops (at-in-loop (c .before) .before .loop .inv .0)
       (omega (
         arith,
-        c .before .before .before .before .before .before .before .before .before .before .before .loop .inv .1,
-        c .before .before .before .before .before .before .before .before .before .before .loop-test .taken,
-        c .before .before .before .before .before .before .before .before .before .before .before .before .room .ensures,
+        at-in-loop (c .before) .before .loop .inv .1,
+        at-in-loop (c .before) .loop-test .taken,
+        at-in-loop (c .before) .before .before .room .ensures,
       ))
       (c .before .before .before .before .before .before .before .before .hit-at .result) (c .before .before .before .before .before .before .before .before .hit-at .ensures)
       (c .before .before .before .before .before .before .if1 .taken) _ (tallied (c .before .before .before .before .gather .result)) _
       (c .before .before .before .before .gather .ensures .1) (c .before .before .before .before .gather .ensures .0) (c .before .kind-of .ensures) (c .if2 .left),
-  c .before .before .before .before .before .before .before .before .before .before .before .loop .inv .1,
+  at-in-loop (c .before) .before .loop .inv .1,
 )
 
 loop-again-3 : tie.Need-loop-again-3 Inv-loop μ-loop
@@ -91,7 +93,7 @@ returns c = let loop = c .before .loop in let room = c .before .before .room in
 pub merge-spec : {M : Type 1} → statement M
 merge-spec = tie.close (tie.spec Inv-loop μ-loop (λ c κs. tt) loop-holds hit-at-requires
     (λ c. omega (arith, c .before .before .loop-test .taken, c .before .before .before .before .room .ok)) gather-requires (λ c κs. tt) put-hit-requires add-out
-    loop-less loop-again
-    (λ c. let loop-test = c .before .before .before .before .before .before .before .before .before .before .loop-test in omega (arith, loop-test .taken))
-    loop-again-2 (λ c. omega (arith, c .before .before .before .before .loop-test .taken)) loop-again-3
+    (λ c. let loop-test = at-in-loop (c .before .before .before .before .before) .loop-test in omega (arith, loop-test .taken)) loop-again
+    (λ c. let loop-test = at-in-loop (c .before) .loop-test in omega (arith, loop-test .taken)) loop-again-2
+    (λ c. omega (arith, c .before .before .before .before .loop-test .taken)) loop-again-3
     (λ c. omega (arith, merging-length (c .before .loop .inv .0), c .before .loop .inv .1)) returns)

@@ -4,6 +4,10 @@ use Rattle.table.proofs.rest.{Remaining.{none-held}, held_at.Statement.
 use Rattle.table.specs.{Rest.{heldBy, isHeld}, Table.{holds}, declared.table.Bounds.{Bounds}}
 use Rattle.table.proofs.rest.held_at.Tie as tie
 
+-- ---- the places that the answers speak of
+abbrev at-second : tie.After-holds → tie.After-second
+at-second c = c .before .before .before .before .before .before .before .before .before .before .before
+
 returns : tie.Need-returns
 unfolding heldBy
 returns c = none-held (c .before .read-number .result) (c .before .read-number .ensures) (c .match .keys2) _
@@ -36,16 +40,12 @@ returns-4 c = let read-number4 = c .before .read-number4 in let read-number3 = c
 
 returns-5 : tie.Need-returns-5
 unfolding heldBy
-returns-5 c =
-    let args = c .before .before .before .before .before .before .before .before .before .before .before .before .before .before .before .before .before .before .before .args in
-    let bounds-of = c .before .bounds-of in let read-number4 = c .before .before .before .before .before .read-number4 in
-    let fourth = c .before .before .before .fourth in
+returns-5 c = let args = at-second c .before .before .before .before .before .before .before .before .args in let bounds-of = c .before .bounds-of in
+    let read-number4 = c .before .before .before .before .before .read-number4 in let fourth = c .before .before .before .fourth in
     let read-number3 = c .before .before .before .before .before .before .before .before .before .read-number3 in
-    let third = c .before .before .before .before .before .before .before .third in
-    let read-number2 = c .before .before .before .before .before .before .before .before .before .before .before .before .before .read-number2 in
-    let second = c .before .before .before .before .before .before .before .before .before .before .before .second in
-    let read-number = c .before .before .before .before .before .before .before .before .before .before .before .before .before .before .before .before .before .read-number in
-    let first = c .before .before .before .before .before .before .before .before .before .before .before .before .before .before .before .first in
+    let third = c .before .before .before .before .before .before .before .third in let read-number2 = at-second c .before .before .read-number2 in
+    let second = at-second c .second in let read-number = at-second c .before .before .before .before .before .before .read-number in
+    let first = at-second c .before .before .before .before .first in
     c .holds .ensures ∙ ap (λ (b : Bounds). holds b (args .fix)) (bounds-of .ensures) ∙ ap isHeld (goes-on (read-number4 .result) (read-number4 .ensures)
     (fourth .given .1) _ ∙ goes-on (read-number3 .result) (read-number3 .ensures) (third .given .1) _ ∙ goes-on (read-number2 .result) (read-number2 .ensures)
     (second .given .1) _ ∙ goes-on (read-number .result) (read-number .ensures) (first .given .1) _)

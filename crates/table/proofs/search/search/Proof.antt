@@ -15,9 +15,25 @@ Inv-loop file head fix asked hits₀ end room count₀ least₀ at₀ hits count
 abbrev μ-loop : tie.MeasureT-loop
 μ-loop file head fix asked hits₀ end room count₀ least₀ at₀ hits count least at = end - at .place
 
+-- ---- the places that the answers speak of
+abbrev at-start : tie.After-room Inv-loop μ-loop → tie.Start Inv-loop μ-loop
+at-start c = c .before .before .before .before .before .before
+
+abbrev at-room : tie.After-entry-at Inv-loop μ-loop → tie.After-room Inv-loop μ-loop
+at-room c = c .before .before .before .before .before .before .before
+
+abbrev at-entry : tie.After-on-row Inv-loop μ-loop → tie.After-entry Inv-loop μ-loop
+at-entry c = c .before .before .before .before .before .before .before
+
+abbrev at-on-row : tie.After-slice-known2 Inv-loop μ-loop → tie.After-on-row Inv-loop μ-loop
+at-on-row c = c .before .before .before .before .before .before .before .before
+
+abbrev at-entry-at : tie.After-on-row Inv-loop μ-loop → tie.After-entry-at Inv-loop μ-loop
+at-entry-at c = at-entry c .before .before
+
 loop-holds : tie.Need-loop-holds Inv-loop μ-loop
 unfolding searched rowsIn
-loop-holds c = let pre = c .before .before .before .before .before .before .before .before .before .pre in
+loop-holds c = let pre = at-start (c .before .before .before) .pre in
     passed-on _ _ _ _ _ (c .pass-over .ensures) (starts _ _ _ _ _ _ (pre) (ap (rowsFrom _ _) (c .before .start-at .ensures)))
 
 enum-told : tie.Need-enum-told Inv-loop μ-loop
@@ -34,11 +50,6 @@ returns-2 c = let loop = c .before .before .before .before .before .before .befo
     let number = c .before .before .number in let entry-at = c .before .before .before .before .entry-at in
     rw (c .plain .ensures) (S.at-refused _ _ _ _ (loop .inv) _ (at-refused _ (reading-grows _ _) _ (if1 .taken) (row-refused _ _ (sym (ap toldEntered (number .given .1)) ∙ entry-at .ensures))))
 
-rest-mark-requires : tie.Need-rest-mark-requires Inv-loop μ-loop
-rest-mark-requires c κs =
-    let struct-known = c .before .before .before .before .before .before .before .before .before .before .before .before .before .before .struct-known in
-    omega (arith, struct-known .given)
-
 returns-3 : tie.Need-returns-3 Inv-loop μ-loop
 returns-3 c = let loop = c .before .before .before .before .before .before .before .before .before .before .loop in
     let if1 = c .before .before .before .before .before .before .before .before .if1 in let entry = c .before .before .before .before .before .entry in
@@ -48,115 +59,68 @@ returns-3 c = let loop = c .before .before .before .before .before .before .befo
     ∙ entry-at .ensures) refl) refl) (sym (is-above .ensures) ∙ if2 .taken) (stopped-mark _ _ _ _ (sym (is-above .ensures) ∙ if2 .taken) (rest-mark .ensures)))
 
 loop-less : tie.Need-loop-less Inv-loop μ-loop
-loop-less c = let if1 = c .before .before .before .before .before .before .before .before .before .before .before .before .before .if1 in
-    let entry = c .before .before .before .before .before .before .before .before .before .before .entry in
-    let entry-at = c .before .before .before .before .before .before .before .before .before .before .before .before .entry-at in
-    let row-of = c .before .before .before .before .before .before .row-of in let after = c .before .before .before .before .before .after in
-    let pass-over2 = c .before .before .before .before .pass-over2 in
+loop-less c = let if1 = at-entry-at (c .before .before .before) .before .if1 in let entry = at-entry (c .before .before .before) .entry in
+    let entry-at = at-entry-at (c .before .before .before) .entry-at in let row-of = c .before .before .before .before .before .before .row-of in
+    let after = c .before .before .before .before .before .after in let pass-over2 = c .before .before .before .before .pass-over2 in
     over-less _ (row-less _ (reading-grows _ _) _ (if1 .taken) (row-read _ _ (sym (ap toldEntered (entry .given .1)) ∙ entry-at .ensures) (row-of .ensures)) (after .ensures)) (pass-over2 .ensures)
 
 loop-again : tie.Need-loop-again Inv-loop μ-loop
 loop-again c = let pass-over2 = c .before .before .before .before .pass-over2 in
-    let loop = c .before .before .before .before .before .before .before .before .before .before .before .before .before .before .before .loop in
-    let if1 = c .before .before .before .before .before .before .before .before .before .before .before .before .before .if1 in
-    let entry = c .before .before .before .before .before .before .before .before .before .before .entry in
-    let entry-at = c .before .before .before .before .before .before .before .before .before .before .before .before .entry-at in
+    let loop = at-entry-at (c .before .before .before) .before .before .before .loop in let if1 = at-entry-at (c .before .before .before) .before .if1 in
+    let entry = at-entry (c .before .before .before) .entry in let entry-at = at-entry-at (c .before .before .before) .entry-at in
     let row-of = c .before .before .before .before .before .before .row-of in let after = c .before .before .before .before .before .after in
-    let args =
-    c .before .before .before .before .before .before .before .before .before .before .before .before .before .before .before .before .before .before .before
-    .before .before .before .before .before .before .args in
+    let args = at-start (at-room (at-entry-at (c .before .before .before))) .args in
     let is-above = c .before .before .before .before .before .before .before .before .is-above in
     let if2 = c .before .before .before .before .before .before .before .if2 in let turn = c .before .turn in let on-row = c .before .before .before .on-row in
     passed-on _ _ _ _ _ (pass-over2 .ensures) (on _ _ _ _ (loop .inv) (at-row _ (reading-grows _ _) _ (if1 .taken) (row-read _ _ (sym (ap toldEntered (entry .given .1))
     ∙ entry-at .ensures) (row-of .ensures)) (after .ensures)) (ap (λ (r : Row). isAbove (r .bounds) (args .fix)) (row-of .ensures) ∙ sym (is-above .ensures)
     ∙ if2 .left) (sym (turn .given .1) ∙ on-row .ensures))
 
-same-length-4 : tie.Need-same-length-4 Inv-loop μ-loop
-same-length-4 c =
-    let loop = c .before .before .before .before .before .before .before .before .before .before .before .before .before .before .before .before .before .loop in
-    kept-length _ _ _ _ (loop .inv)
-
 returns-4 : tie.Need-returns-4 Inv-loop μ-loop
-returns-4 c =
-    let loop = c .before .before .before .before .before .before .before .before .before .before .before .before .before .before .before .before .before .loop in
-    let if1 = c .before .before .before .before .before .before .before .before .before .before .before .before .before .before .before .if1 in
-    let entry = c .before .before .before .before .before .before .before .before .before .before .before .before .entry in
-    let entry-at = c .before .before .before .before .before .before .before .before .before .before .before .before .before .before .entry-at in
+returns-4 c = let loop = at-entry-at (c .before .before .before .before .before) .before .before .before .loop in
+    let if1 = at-entry-at (c .before .before .before .before .before) .before .if1 in let entry = at-entry (c .before .before .before .before .before) .entry in
+    let entry-at = at-entry-at (c .before .before .before .before .before) .entry-at in
     let row-of = c .before .before .before .before .before .before .before .before .row-of in
     let after = c .before .before .before .before .before .before .before .after in
-    let args =
-    c .before .before .before .before .before .before .before .before .before .before .before .before .before .before .before .before .before .before .before
-    .before .before .before .before .before .before .before .before .args in
+    let args = at-start (at-room (at-entry-at (c .before .before .before .before .before))) .args in
     let is-above = c .before .before .before .before .before .before .before .before .before .before .is-above in
     let if2 = c .before .before .before .before .before .before .before .before .before .if2 in let turn2 = c .before .before .before .turn2 in
     let on-row = c .before .before .before .before .before .on-row in let if3 = c .before .if3 in
-    let room = c .before .before .before .before .before .before .before .before .before .before .before .before .before .before .before .before .before .before .before .before .before .room in
+    let room = at-room (at-entry-at (c .before .before .before .before .before)) .room in
     rw (c .plain2 .ensures) (full _ _ _ _ (loop .inv) (at-row _ (reading-grows _ _) _ (if1 .taken) (row-read _ _ (sym (ap toldEntered (entry .given .1))
     ∙ entry-at .ensures) (row-of .ensures)) (after .ensures)) (ap (λ (r : Row). isAbove (r .bounds) (args .fix)) (row-of .ensures) ∙ sym (is-above .ensures)
     ∙ if2 .left) (sym (turn2 .given .1) ∙ on-row .ensures) _ (omega (arith, if3 .taken, room .ensures)))
 
 put-hit-requires : tie.Need-put-hit-requires Inv-loop μ-loop
-put-hit-requires c κs =
-    let loop = c .before .before .before .before .before .before .before .before .before .before .before .before .before .before .before .before .before .loop in
-    let if3 = c .before .if3 in
-    let room = c .before .before .before .before .before .before .before .before .before .before .before .before .before .before .before .before .before .before .before .before .before .room in
+put-hit-requires c κs = let loop = at-entry-at (c .before .before .before .before .before) .before .before .before .loop in let if3 = c .before .if3 in
+    let room = at-room (at-entry-at (c .before .before .before .before .before)) .room in
     omega (arith, kept-length _ _ _ _ (loop .inv), if3 .left, room .ensures)
 
-add-count : tie.Need-add-count Inv-loop μ-loop
-add-count c = let if3 = c .before .before .before .before .if3 in
-    let room =
-    c .before .before .before .before .before .before .before .before .before .before .before .before .before .before .before .before .before .before .before
-    .before .before .before .before .before .room in omega (arith, if3 .left, room .ok)
-
 loop-less-2 : tie.Need-loop-less-2 Inv-loop μ-loop
-loop-less-2 c =
-    let if1 = c .before .before .before .before .before .before .before .before .before .before .before .before .before .before .before .before .before .before .if1 in
-    let entry = c .before .before .before .before .before .before .before .before .before .before .before .before .before .before .before .entry in
-    let entry-at = c .before .before .before .before .before .before .before .before .before .before .before .before .before .before .before .before .before .entry-at in
-    let row-of = c .before .before .before .before .before .before .before .before .before .before .before .row-of in
-    let after = c .before .before .before .before .before .before .before .before .before .before .after in
-    let pass-over2 = c .before .before .before .before .before .before .before .before .before .pass-over2 in
+loop-less-2 c = let if1 = at-entry-at (at-on-row c) .before .if1 in let entry = at-entry (at-on-row c) .entry in
+    let entry-at = at-entry-at (at-on-row c) .entry-at in let row-of = at-on-row c .before .before .before .row-of in
+    let after = at-on-row c .before .before .after in let pass-over2 = at-on-row c .before .pass-over2 in
     over-less _ (row-less _ (reading-grows _ _) _ (if1 .taken) (row-read _ _ (sym (ap toldEntered (entry .given .1)) ∙ entry-at .ensures) (row-of .ensures)) (after .ensures)) (pass-over2 .ensures)
 
 loop-again-2 : tie.Need-loop-again-2 Inv-loop μ-loop
-loop-again-2 c = let put-hit = c .before .before .put-hit in
-    let pass-over2 = c .before .before .before .before .before .before .before .before .before .pass-over2 in
-    let loop = c .before .before .before .before .before .before .before .before .before .before .before .before .before .before .before .before .before .before .before .before .loop in
-    let if1 = c .before .before .before .before .before .before .before .before .before .before .before .before .before .before .before .before .before .before .if1 in
-    let entry = c .before .before .before .before .before .before .before .before .before .before .before .before .before .before .before .entry in
-    let entry-at = c .before .before .before .before .before .before .before .before .before .before .before .before .before .before .before .before .before .entry-at in
-    let row-of = c .before .before .before .before .before .before .before .before .before .before .before .row-of in
-    let after = c .before .before .before .before .before .before .before .before .before .before .after in
-    let args =
-    c .before .before .before .before .before .before .before .before .before .before .before .before .before .before .before .before .before .before .before
-    .before .before .before .before .before .before .before .before .before .before .before .args in
-    let is-above = c .before .before .before .before .before .before .before .before .before .before .before .before .before .is-above in
-    let if2 = c .before .before .before .before .before .before .before .before .before .before .before .before .if2 in
-    let turn2 = c .before .before .before .before .before .before .turn2 in
-    let on-row = c .before .before .before .before .before .before .before .before .on-row in let if3 = c .before .before .before .before .if3 in
-    let room =
-    c .before .before .before .before .before .before .before .before .before .before .before .before .before .before .before .before .before .before .before
-    .before .before .before .before .before .room in
+loop-again-2 c = let put-hit = c .before .before .put-hit in let pass-over2 = at-on-row c .before .pass-over2 in
+    let loop = at-entry-at (at-on-row c) .before .before .before .loop in let if1 = at-entry-at (at-on-row c) .before .if1 in
+    let entry = at-entry (at-on-row c) .entry in let entry-at = at-entry-at (at-on-row c) .entry-at in
+    let row-of = at-on-row c .before .before .before .row-of in let after = at-on-row c .before .before .after in
+    let args = at-start (at-room (at-entry-at (at-on-row c))) .args in let is-above = at-on-row c .before .before .before .before .before .is-above in
+    let if2 = at-on-row c .before .before .before .before .if2 in let turn2 = c .before .before .before .before .before .before .turn2 in
+    let on-row = at-on-row c .on-row in let if3 = c .before .before .before .before .if3 in let room = at-room (at-entry-at (at-on-row c)) .room in
     rw (put-hit .ensures) (passed-on _ _ _ _ _ (pass-over2 .ensures) (met _ _ _ _ (loop .inv) (at-row _ (reading-grows _ _) _ (if1 .taken)
     (row-read _ _ (sym (ap toldEntered (entry .given .1)) ∙ entry-at .ensures) (row-of .ensures)) (after .ensures)) (ap (λ (r : Row). isAbove (r .bounds) (args .fix))
     (row-of .ensures) ∙ sym (is-above .ensures) ∙ if2 .left) (sym (turn2 .given .1) ∙ on-row .ensures) (omega (arith, if3 .left, room .ensures))
     (met-kind _ _ _ _ (sym (turn2 .given .1) ∙ on-row .ensures))))
 
-same-length-5 : tie.Need-same-length-5 Inv-loop μ-loop
-same-length-5 c =
-    let loop = c .before .before .before .before .before .before .before .before .before .before .before .before .before .before .before .before .loop in
-    kept-length _ _ _ _ (loop .inv)
-
 returns-5 : tie.Need-returns-5 Inv-loop μ-loop
-returns-5 c =
-    let loop = c .before .before .before .before .before .before .before .before .before .before .before .before .before .before .before .before .loop in
-    let if1 = c .before .before .before .before .before .before .before .before .before .before .before .before .before .before .if1 in
-    let entry = c .before .before .before .before .before .before .before .before .before .before .before .entry in
-    let entry-at = c .before .before .before .before .before .before .before .before .before .before .before .before .before .entry-at in
+returns-5 c = let loop = at-entry-at (c .before .before .before .before) .before .before .before .loop in
+    let if1 = at-entry-at (c .before .before .before .before) .before .if1 in let entry = at-entry (c .before .before .before .before) .entry in
+    let entry-at = at-entry-at (c .before .before .before .before) .entry-at in
     let row-of = c .before .before .before .before .before .before .before .row-of in let after = c .before .before .before .before .before .before .after in
-    let args =
-    c .before .before .before .before .before .before .before .before .before .before .before .before .before .before .before .before .before .before .before
-    .before .before .before .before .before .before .before .args in
+    let args = at-start (at-room (at-entry-at (c .before .before .before .before))) .args in
     let is-above = c .before .before .before .before .before .before .before .before .before .is-above in
     let if2 = c .before .before .before .before .before .before .before .before .if2 in let turn3 = c .before .before .turn3 in
     let on-row = c .before .before .before .before .on-row in
@@ -164,21 +128,12 @@ returns-5 c =
     ∙ entry-at .ensures) (row-of .ensures)) (after .ensures)) (ap (λ (r : Row). isAbove (r .bounds) (args .fix)) (row-of .ensures) ∙ sym (is-above .ensures)
     ∙ if2 .left) (sym (turn3 .given .1) ∙ on-row .ensures))
 
-same-length-6 : tie.Need-same-length-6 Inv-loop μ-loop
-same-length-6 c =
-    let loop = c .before .before .before .before .before .before .before .before .before .before .before .before .before .before .before .before .loop in
-    kept-length _ _ _ _ (loop .inv)
-
 returns-6 : tie.Need-returns-6 Inv-loop μ-loop
-returns-6 c =
-    let loop = c .before .before .before .before .before .before .before .before .before .before .before .before .before .before .before .before .loop in
-    let if1 = c .before .before .before .before .before .before .before .before .before .before .before .before .before .before .if1 in
-    let entry = c .before .before .before .before .before .before .before .before .before .before .before .entry in
-    let entry-at = c .before .before .before .before .before .before .before .before .before .before .before .before .before .entry-at in
+returns-6 c = let loop = at-entry-at (c .before .before .before .before) .before .before .before .loop in
+    let if1 = at-entry-at (c .before .before .before .before) .before .if1 in let entry = at-entry (c .before .before .before .before) .entry in
+    let entry-at = at-entry-at (c .before .before .before .before) .entry-at in
     let row-of = c .before .before .before .before .before .before .before .row-of in let after = c .before .before .before .before .before .before .after in
-    let args =
-    c .before .before .before .before .before .before .before .before .before .before .before .before .before .before .before .before .before .before .before
-    .before .before .before .before .before .before .before .args in
+    let args = at-start (at-room (at-entry-at (c .before .before .before .before))) .args in
     let is-above = c .before .before .before .before .before .before .before .before .before .is-above in
     let if2 = c .before .before .before .before .before .before .before .before .if2 in let turn4 = c .before .before .turn4 in
     let on-row = c .before .before .before .before .on-row in
@@ -193,8 +148,15 @@ pub search-spec : {M : Type 1} → statement M
 search-spec = tie.close (tie.spec Inv-loop μ-loop (λ c. omega arith) (λ c κs. tt) (λ c. omega arith) (λ c κs. tt) (λ c κs. tt) loop-holds (λ c κs. tt)
     (λ c. omega arith) enum-told (λ c κs. tt) (λ c. let loop = c .before .before .before .before .before .before .loop in kept-length _ _ _ _ (loop .inv))
     returns (λ c. omega arith) (λ c κs. tt) (λ c. let loop = c .before .before .before .before .before .before .before .loop in kept-length _ _ _ _ (loop .inv))
-    returns-2 (λ c κs. tt) rest-mark-requires (λ c κs. tt)
-    (λ c. let loop = c .before .before .before .before .before .before .before .before .before .before .loop in kept-length _ _ _ _ (loop .inv)) returns-3
-    (λ c κs. tt) (λ c κs. tt) (λ c κs. tt) (λ c κs. tt) (λ c. omega arith) loop-less loop-again (λ c. omega arith) (λ c κs. tt) same-length-4 returns-4
-    put-hit-requires add-count loop-less-2 loop-again-2 (λ c. omega arith) (λ c κs. tt) same-length-5 returns-5 (λ c. omega arith) (λ c κs. tt) same-length-6
-    returns-6 (λ c κs. tt) (λ c. kept-length _ _ _ _ (c .before .before .before .loop .inv)) returns-7)
+    returns-2 (λ c κs. tt)
+    (λ c κs. let struct-known = at-room (c .before .before .before .before .before) .before .before .struct-known in omega (arith, struct-known .given))
+    (λ c κs. tt) (λ c. let loop = c .before .before .before .before .before .before .before .before .before .before .loop in kept-length _ _ _ _ (loop .inv))
+    returns-3 (λ c κs. tt) (λ c κs. tt) (λ c κs. tt) (λ c κs. tt) (λ c. omega arith) loop-less loop-again (λ c. omega arith) (λ c κs. tt)
+    (λ c. let loop = at-entry-at (c .before .before .before .before .before) .before .before .before .loop in kept-length _ _ _ _ (loop .inv)) returns-4
+    put-hit-requires
+    (λ c. let if3 = c .before .before .before .before .if3 in let room = at-room (at-entry-at (at-on-row c)) .room in omega (arith, if3 .left, room .ok))
+    loop-less-2 loop-again-2 (λ c. omega arith) (λ c κs. tt)
+    (λ c. let loop = at-entry-at (c .before .before .before .before) .before .before .before .loop in kept-length _ _ _ _ (loop .inv)) returns-5
+    (λ c. omega arith) (λ c κs. tt)
+    (λ c. let loop = at-entry-at (c .before .before .before .before) .before .before .before .loop in kept-length _ _ _ _ (loop .inv)) returns-6 (λ c κs. tt)
+    (λ c. kept-length _ _ _ _ (c .before .before .before .loop .inv)) returns-7)

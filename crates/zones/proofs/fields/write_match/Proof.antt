@@ -17,6 +17,10 @@ Inv-loop text₀ from file start preamble sections strict place₀ at₀ tag₀ 
 abbrev μ-loop : tie.MeasureT-loop
 μ-loop text₀ from file start preamble sections strict place₀ at₀ tag₀ text place at tag = preamble .count - tag
 
+-- ---- the places that the answers speak of
+abbrev at-then1 : tie.After-struct-known2 Inv-loop μ-loop → tie.Then1 Inv-loop μ-loop
+at-then1 c = c .before .before .before .before .before .before .before .before
+
 loop-holds : tie.Need-loop-holds Inv-loop μ-loop
 loop-holds c = let args = c .before .before .before .before .args in let pre = c .before .before .before .before .pre in
     starts _ _ _ _ (args .text .now) (args .from) _ (pre .0) (pre .1) refl
@@ -32,23 +36,16 @@ returns c = let loop = c .before .before .before .before .before .before .before
     faulted _ _ _ _ (loop .inv) (if1 .taken) (write-field .result) (write-field .last .0) (write-field .ensures .0) _ (c .before .why .given .1)
 
 loop-again : tie.Need-loop-again Inv-loop μ-loop
-loop-again c = let loop = c .before .before .before .before .before .before .before .before .before .before .loop in
-    let if1 = c .before .before .before .before .before .before .before .before .if1 in
+loop-again c = let loop = at-then1 c .before .before .loop in let if1 = at-then1 c .if1 in
     let write-field = c .before .before .before .before .before .before .write-field in let field = c .before .before .field in
     filled _ _ _ _ (loop .inv) (if1 .taken) (write-field .result) (write-field .last .0) (write-field .ensures .0) (write-field .ensures .1) (field .given .1)
-
-add-at : tie.Need-add-at Inv-loop μ-loop
-add-at c = let good = c .before .before .before .before .before .before .before .before .before .before .before .before .before .before .before .good in
-    omega (arith, loop-again c .held .fits, good)
-
-add-tag : tie.Need-add-tag Inv-loop μ-loop
-add-tag c = let if1 = c .before .before .before .before .before .before .before .before .if1 in
-    let struct-known = c .before .before .before .before .before .before .before .before .before .struct-known in omega (arith, if1 .taken, struct-known .given)
 
 pub write-match-spec : {M : Type 1} → statement M
 write-match-spec = tie.close (tie.spec Inv-loop μ-loop loop-holds
     (λ c. omega (arith, c .before .before .loop .inv .held .fits, filling-length _ _ _ _ (c .before .before .loop .inv)))
     (λ c. omega (arith, c .before .before .loop .inv .held .fits, filling-length _ _ _ _ (c .before .before .loop .inv))) (λ c. omega arith) (λ c κs. tt)
-    (λ c. omega arith) (λ c. omega arith) same-length returns add-at add-tag
-    (λ c. omega (arith, c .before .before .before .before .before .before .before .before .if1 .taken)) loop-again
-    (λ c. filling-length _ _ _ _ (c .before .before .loop .inv)) (λ c. ends _ _ _ _ (c .before .before .loop .inv) (c .if1 .left)))
+    (λ c. omega arith) (λ c. omega arith) same-length returns
+    (λ c. let good = at-then1 c .before .before .before .before .before .before .before .good in omega (arith, loop-again c .held .fits, good))
+    (λ c. let if1 = at-then1 c .if1 in let struct-known = at-then1 c .before .struct-known in omega (arith, if1 .taken, struct-known .given))
+    (λ c. omega (arith, at-then1 c .if1 .taken)) loop-again (λ c. filling-length _ _ _ _ (c .before .before .loop .inv))
+    (λ c. ends _ _ _ _ (c .before .before .loop .inv) (c .if1 .left)))

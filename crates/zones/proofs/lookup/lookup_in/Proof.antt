@@ -5,6 +5,10 @@ use Rattle.zones.proofs.{Replying.{given-reply, refused-reply}, lookup.
 use Rattle.zones.specs.Lookup.{zonesWith, lookedWith, toldLooked}
 use Rattle.zones.proofs.lookup.lookup_in.Tie as tie
 
+-- ---- the places that the answers speak of
+abbrev at-look : tie.After-slice-known7 → tie.After-look
+at-look c = c .before .before .before .before .before .before .before .before .before .before .before .before .before .before
+
 look-requires : tie.Need-look-requires
 look-requires c κs = let args = c .before .before .before .before .before .before .before .before .before .args in
     all-zero _ (length (args .text .now)) (c .before .before .before .before .zero .ensures)
@@ -17,13 +21,9 @@ same-length-2 c = search needs
 
 returns : tie.Need-returns
 unfolding lookedWith
-returns c =
-    let args =
-    c .before .before .before .before .before .before .before .before .before .before .before .before .before .before .before .before .before .before .before
-    .before .before .before .before .before .args in
-    let look = c .before .before .before .before .before .before .before .before .before .before .before .before .before .before .look in
-    let zero = c .before .before .before .before .before .before .before .before .before .before .before .before .before .before .before .before .before .before .before .zero in
-    let why = c .before .before .before .before .before .before .before .before .why in let zero-both = c .before .before .before .before .zero-both in
+returns c = let args = at-look c .before .before .before .before .before .before .before .before .before .before .args in let look = at-look c .look in
+    let zero = at-look c .before .before .before .before .before .zero in let why = c .before .before .before .before .before .before .before .before .why in
+    let zero-both = c .before .before .before .before .zero-both in
     refused-reply (zonesWith (args .file .now) (args .head) (args .location) (args .asked)) (toldLooked (look .result)) _ _ refl
     (of-length _ (length (args .text .now)) (zero .ensures)) (look .ensures) (ap toldLooked (why .given .1)) (all-zero _ (length (look .last .1 .1 .1 .1 .0))
     (zero-both .ensures .0) ∙ ap zeros (same-length c)) (all-zero _ (length (look .last .1 .1 .1 .1 .1 .0)) (zero-both .ensures .1) ∙ ap zeros (same-length-2 c))

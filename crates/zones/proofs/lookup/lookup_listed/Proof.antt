@@ -5,9 +5,12 @@ use Rattle.zones.proofs.{Replying.{given-reply, refused-reply}, lookup.
 use Rattle.zones.specs.Lookup.{zonesListed, lookedListed, toldLooked}
 use Rattle.zones.proofs.lookup.lookup_listed.Tie as tie
 
-look-listed-requires : tie.Need-look-listed-requires
-look-listed-requires c κs = let args = c .before .before .before .before .before .before .before .before .before .before .before .args in
-    all-zero _ (length (args .text .now)) (c .before .before .before .before .zero .ensures)
+-- ---- the places that the answers speak of
+abbrev at-start : tie.After-look-listed-arg2 → tie.Start
+at-start c = c .before .before .before .before .before .before .before .before .before .before .before
+
+abbrev at-hits : tie.After-slice-known7 → tie.After-hits
+at-hits c = c .before .before .before .before .before .before .before .before .before .before .before .before .before
 
 same-length : tie.Need-same-length
 same-length c = search needs
@@ -17,12 +20,8 @@ same-length-2 c = search needs
 
 returns : tie.Need-returns
 unfolding lookedListed
-returns c =
-    let args =
-    c .before .before .before .before .before .before .before .before .before .before .before .before .before .before .before .before .before .before .before
-    .before .before .before .before .before .before .before .args in
-    let look = c .before .before .before .before .before .before .before .before .before .before .before .before .before .before .look-listed in
-    let zero = c .before .before .before .before .before .before .before .before .before .before .before .before .before .before .before .before .before .before .before .zero in
+returns c = let args = at-start (at-hits c .before .before) .args in let look = at-hits c .before .look-listed in
+    let zero = at-hits c .before .before .before .before .before .before .zero in
     let why = c .before .before .before .before .before .before .before .before .why in let zero-both = c .before .before .before .before .zero-both in
     refused-reply (zonesListed (args .file .now) (args .head) (args .location) (args .asked) (args .records .now) (args .numbers .now)) (toldLooked (look .result))
     _ _ refl (of-length _ (length (args .text .now)) (zero .ensures)) (look .ensures) (ap toldLooked (why .given .1)) (all-zero _ (length (look .last .1 .1 .1 .1 .1 .1 .0))
@@ -30,13 +29,13 @@ returns c =
 
 returns-2 : tie.Need-returns-2
 unfolding lookedListed
-returns-2 c =
-    let args = c .before .before .before .before .before .before .before .before .before .before .before .before .before .before .before .before .before .before .before .args in
+returns-2 c = let args = at-start (c .before .before .before .before .before .before .before .before) .args in
     let look = c .before .before .before .before .before .before .before .look-listed in
     let zero = c .before .before .before .before .before .before .before .before .before .before .before .before .zero in let zones = c .before .zones in
     given-reply (zonesListed (args .file .now) (args .head) (args .location) (args .asked) (args .records .now) (args .numbers .now)) (toldLooked (look .result))
     _ _ refl (of-length _ (length (args .text .now)) (zero .ensures)) (look .ensures) (ap toldLooked (zones .given .1))
 
 pub lookup-listed-spec : {M : Type 1} → statement M
-lookup-listed-spec = tie.close (tie.spec (λ c κs. tt) look-listed-requires (λ c. omega arith) (λ c. omega arith) (λ c κs. tt) same-length same-length-2 returns
-    (λ c. omega arith) (λ c. omega arith) returns-2)
+lookup-listed-spec = tie.close (tie.spec (λ c κs. tt)
+    (λ c κs. let args = at-start c .args in all-zero _ (length (args .text .now)) (c .before .before .before .before .zero .ensures)) (λ c. omega arith)
+    (λ c. omega arith) (λ c κs. tt) same-length same-length-2 returns (λ c. omega arith) (λ c. omega arith) returns-2)

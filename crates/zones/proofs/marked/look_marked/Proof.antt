@@ -5,101 +5,43 @@ use Rattle.zones.proofs.{lookup.Looking.{no-match, looked}, marked.look
 use Rattle.zones.specs.{Lookup.{toldLooked}, Marked.{zonesMarked}}
 use Rattle.zones.proofs.marked.look_marked.Tie as tie
 
+-- ---- the places that the answers speak of
+abbrev at-slice-known3 : tie.After-slice-known4 → tie.After-slice-known3
+at-slice-known3 c = c .before .before .before .before .before .before .before .before
+
+abbrev at-start : tie.After-slice-known3 → tie.Start
+at-start c = c .before .before .before .before .before .before .before .before .before .before
+
 returns : tie.Need-returns
 unfolding zonesMarked
-returns c =
-    no-match (c .before .before .before .before .before .before .before .before .before .before .before .before .before .args .file .now)
-    (c .before .before .before .before .before .before .before .before .before .before .before .before .before .args .head)
-    (c .before .before .before .before .before .before .before .before .before .before .before .before .before .args .asked)
-    (length (c .before .before .before .before .before .before .before .before .before .before .before .before .before .args .hits .now))
-    (length (c .before .before .before .before .before .before .before .before .before .before .before .before .before .args .text .now)) (matchedMarked
-    (c .before .before .before .before .before .before .before .before .before .before .before .before .before .args .file .now)
-    (c .before .before .before .before .before .before .before .before .before .before .before .before .before .args .head)
-    (c .before .before .before .before .before .before .before .before .before .before .before .before .before .args .location)
-    (c .before .before .before .before .before .before .before .before .before .before .before .before .before .args .asked)
-    (c .before .before .before .before .before .before .before .before .before .before .before .before .before .args .records .now)
-    (c .before .before .before .before .before .before .before .before .before .before .before .before .before .args .numbers .now)
-    (c .before .before .before .before .before .before .before .before .before .before .before .before .before .args .marks .now)
-    (length (c .before .before .before .before .before .before .before .before .before .before .before .before .before .args .hits .now) / width)) _ _
-    (refused-so (Matching (length (c .before .before .before .before .before .before .before .before .before .before .before .before .before .args .hits .now)) _)
-    (matchedMarked (c .before .before .before .before .before .before .before .before .before .before .before .before .before .args .file .now)
-    (c .before .before .before .before .before .before .before .before .before .before .before .before .before .args .head)
-    (c .before .before .before .before .before .before .before .before .before .before .before .before .before .args .location)
-    (c .before .before .before .before .before .before .before .before .before .before .before .before .before .args .asked)
-    (c .before .before .before .before .before .before .before .before .before .before .before .before .before .args .records .now)
-    (c .before .before .before .before .before .before .before .before .before .before .before .before .before .args .numbers .now)
-    (c .before .before .before .before .before .before .before .before .before .before .before .before .before .args .marks .now)
-    (length (c .before .before .before .before .before .before .before .before .before .before .before .before .before .args .hits .now) / width))
-    (marked-agrees (c .before .before .before .before .before .before .before .before .before .before .before .before .before .args .file .now)
-    (c .before .before .before .before .before .before .before .before .before .before .before .before .before .args .head)
-    (c .before .before .before .before .before .before .before .before .before .before .before .before .before .args .location)
-    (c .before .before .before .before .before .before .before .before .before .before .before .before .before .args .asked)
-    (c .before .before .before .before .before .before .before .before .before .before .before .before .before .args .records .now)
-    (c .before .before .before .before .before .before .before .before .before .before .before .before .before .args .numbers .now)
-    (c .before .before .before .before .before .before .before .before .before .before .before .before .before .args .marks .now)
-    (length (c .before .before .before .before .before .before .before .before .before .before .before .before .before .args .hits .now)) _ _
-    (c .before .before .before .before .before .find-marked .ensures)) (ap toldFound (c .before .why .given .1)))
+returns c = let args = at-start (c .before .before .before) .args in
+    no-match (args .file .now) (args .head) (args .asked) (length (args .hits .now)) (length (args .text .now)) (matchedMarked (args .file .now) (args .head)
+    (args .location) (args .asked) (args .records .now) (args .numbers .now) (args .marks .now) (length (args .hits .now) / width)) _ _
+    (refused-so (Matching (length (args .hits .now)) _) (matchedMarked (args .file .now) (args .head) (args .location) (args .asked) (args .records .now)
+    (args .numbers .now) (args .marks .now) (length (args .hits .now) / width)) (marked-agrees (args .file .now) (args .head) (args .location) (args .asked)
+    (args .records .now) (args .numbers .now) (args .marks .now) (length (args .hits .now)) _ _ (c .before .before .before .before .before .find-marked .ensures))
+    (ap toldFound (c .before .why .given .1)))
 
 tell-requires : tie.Need-tell-requires
-tell-requires c κs =
-    let g = gave (Matching (length (c .before .before .before .before .before .before .before .before .before .before .before .before .before .before .before .args .hits .now)) _)
-    (matchedMarked (c .before .before .before .before .before .before .before .before .before .before .before .before .before .before .before .args .file .now)
-    (c .before .before .before .before .before .before .before .before .before .before .before .before .before .before .before .args .head)
-    (c .before .before .before .before .before .before .before .before .before .before .before .before .before .before .before .args .location)
-    (c .before .before .before .before .before .before .before .before .before .before .before .before .before .before .before .args .asked)
-    (c .before .before .before .before .before .before .before .before .before .before .before .before .before .before .before .args .records .now)
-    (c .before .before .before .before .before .before .before .before .before .before .before .before .before .before .before .args .numbers .now)
-    (c .before .before .before .before .before .before .before .before .before .before .before .before .before .before .before .args .marks .now)
-    (length (c .before .before .before .before .before .before .before .before .before .before .before .before .before .before .before .args .hits .now) / width))
-    (marked-agrees (c .before .before .before .before .before .before .before .before .before .before .before .before .before .before .before .args .file .now)
-    (c .before .before .before .before .before .before .before .before .before .before .before .before .before .before .before .args .head)
-    (c .before .before .before .before .before .before .before .before .before .before .before .before .before .before .before .args .location)
-    (c .before .before .before .before .before .before .before .before .before .before .before .before .before .before .before .args .asked)
-    (c .before .before .before .before .before .before .before .before .before .before .before .before .before .before .before .args .records .now)
-    (c .before .before .before .before .before .before .before .before .before .before .before .before .before .before .before .args .numbers .now)
-    (c .before .before .before .before .before .before .before .before .before .before .before .before .before .before .before .args .marks .now)
-    (length (c .before .before .before .before .before .before .before .before .before .before .before .before .before .before .before .args .hits .now)) _ _
-    (c .before .before .before .before .before .before .before .find-marked .ensures)) (ap toldFound (c .before .before .before .found .given .1)) in (
-      c .before .before .before .before .before .before .before .before .before .before .before .before .before .before .before .pre,
+tell-requires c κs = let args = at-start (c .before .before .before .before .before) .args in
+    let g = gave (Matching (length (args .hits .now)) _) (matchedMarked (args .file .now) (args .head) (args .location) (args .asked) (args .records .now)
+    (args .numbers .now) (args .marks .now) (length (args .hits .now) / width)) (marked-agrees (args .file .now) (args .head) (args .location) (args .asked)
+    (args .records .now) (args .numbers .now) (args .marks .now) (length (args .hits .now)) _ _ (c .before .before .before .before .before .before .before .find-marked .ensures))
+    (ap toldFound (c .before .before .before .found .given .1)) in (
+      at-start (c .before .before .before .before .before) .pre,
       matches-room (g .fits)
           (omega (arith, c .before .before .before .before .before .before .hits .given)),
     )
 
 returns-2 : tie.Need-returns-2
 unfolding zonesMarked
-returns-2 c =
-    let g = gave
-    (Matching (length (c .before .before .before .before .before .before .before .before .before .before .before .before .before .before .before .before .before .before .args .hits .now)) _)
-    (matchedMarked (c .before .before .before .before .before .before .before .before .before .before .before .before .before .before .before .before .before .before .args .file .now)
-    (c .before .before .before .before .before .before .before .before .before .before .before .before .before .before .before .before .before .before .args .head)
-    (c .before .before .before .before .before .before .before .before .before .before .before .before .before .before .before .before .before .before .args .location)
-    (c .before .before .before .before .before .before .before .before .before .before .before .before .before .before .before .before .before .before .args .asked)
-    (c .before .before .before .before .before .before .before .before .before .before .before .before .before .before .before .before .before .before .args .records .now)
-    (c .before .before .before .before .before .before .before .before .before .before .before .before .before .before .before .before .before .before .args .numbers .now)
-    (c .before .before .before .before .before .before .before .before .before .before .before .before .before .before .before .before .before .before .args .marks .now)
-    (length (c .before .before .before .before .before .before .before .before .before .before .before .before .before .before .before .before .before .before .args .hits .now) / width))
-    (marked-agrees (c .before .before .before .before .before .before .before .before .before .before .before .before .before .before .before .before .before .before .args .file .now)
-    (c .before .before .before .before .before .before .before .before .before .before .before .before .before .before .before .before .before .before .args .head)
-    (c .before .before .before .before .before .before .before .before .before .before .before .before .before .before .before .before .before .before .args .location)
-    (c .before .before .before .before .before .before .before .before .before .before .before .before .before .before .before .before .before .before .args .asked)
-    (c .before .before .before .before .before .before .before .before .before .before .before .before .before .before .before .before .before .before .args .records .now)
-    (c .before .before .before .before .before .before .before .before .before .before .before .before .before .before .before .before .before .before .args .numbers .now)
-    (c .before .before .before .before .before .before .before .before .before .before .before .before .before .before .before .before .before .before .args .marks .now)
-    (length (c .before .before .before .before .before .before .before .before .before .before .before .before .before .before .before .before .before .before .args .hits .now)) _ _
-    (c .before .before .before .before .before .before .before .before .before .before .find-marked .ensures)) (ap toldFound (c .before .before .before .before .before .before .found .given .1)) in
-    looked (c .before .before .before .before .before .before .before .before .before .before .before .before .before .before .before .before .before .before .args .file .now)
-    (c .before .before .before .before .before .before .before .before .before .before .before .before .before .before .before .before .before .before .args .head)
-    (c .before .before .before .before .before .before .before .before .before .before .before .before .before .before .before .before .before .before .args .asked)
-    (length (c .before .before .before .before .before .before .before .before .before .before .before .before .before .before .before .before .before .before .args .hits .now))
-    (length (c .before .before .before .before .before .before .before .before .before .before .before .before .before .before .before .before .before .before .args .text .now))
-    (matchedMarked (c .before .before .before .before .before .before .before .before .before .before .before .before .before .before .before .before .before .before .args .file .now)
-    (c .before .before .before .before .before .before .before .before .before .before .before .before .before .before .before .before .before .before .args .head)
-    (c .before .before .before .before .before .before .before .before .before .before .before .before .before .before .before .before .before .before .args .location)
-    (c .before .before .before .before .before .before .before .before .before .before .before .before .before .before .before .before .before .before .args .asked)
-    (c .before .before .before .before .before .before .before .before .before .before .before .before .before .before .before .before .before .before .args .records .now)
-    (c .before .before .before .before .before .before .before .before .before .before .before .before .before .before .before .before .before .before .args .numbers .now)
-    (c .before .before .before .before .before .before .before .before .before .before .before .before .before .before .before .before .before .before .args .marks .now)
-    (length (c .before .before .before .before .before .before .before .before .before .before .before .before .before .before .before .before .before .before .args .hits .now) / width)) g _
+returns-2 c = let args = at-start (at-slice-known3 c) .args in
+    let g = gave (Matching (length (args .hits .now)) _) (matchedMarked (args .file .now) (args .head) (args .location) (args .asked) (args .records .now)
+    (args .numbers .now) (args .marks .now) (length (args .hits .now) / width)) (marked-agrees (args .file .now) (args .head) (args .location) (args .asked)
+    (args .records .now) (args .numbers .now) (args .marks .now) (length (args .hits .now)) _ _ (at-slice-known3 c .before .before .find-marked .ensures))
+    (ap toldFound (c .before .before .before .before .before .before .found .given .1)) in
+    looked (args .file .now) (args .head) (args .asked) (length (args .hits .now)) (length (args .text .now)) (matchedMarked (args .file .now) (args .head)
+    (args .location) (args .asked) (args .records .now) (args .numbers .now) (args .marks .now) (length (args .hits .now) / width)) g _
     (toldLooked (c .before .before .tell .result)) (c .before .before .tell .ensures)
 
 pub look-marked-spec : {M : Type 1} → statement M

@@ -16,6 +16,10 @@ Inv-loop file start preamble sections strict names blame index₀ name₀ place�
 abbrev μ-loop : tie.MeasureT-loop
 μ-loop file start preamble sections strict names blame index₀ name₀ place₀ last₀ index name place last = names - index
 
+-- ---- the places that the answers speak of
+abbrev at-in-loop : tie.After-known-told3 Inv-loop μ-loop → tie.In-loop Inv-loop μ-loop
+at-in-loop c = c .before .before .before .before .before .before .before .before
+
 returns : tie.Need-returns Inv-loop μ-loop
 returns c = let loop = c .before .before .before .before .before .loop in let loop-test = c .before .before .before .before .loop-test in
     let why = c .before .why in
@@ -30,20 +34,17 @@ returns-2 c = let loop = c .before .before .before .before .before .before .befo
     no-value _ _ _ _ _ _ _ (loop .inv .0) (loop-test .taken) (sym (ap toldRead (called .given .1)) ∙ read-header-text .ensures) (sym (ap toldRead (why2 .given .1)) ∙ read-text .ensures)
 
 part-of-requires : tie.Need-part-of-requires Inv-loop μ-loop
-part-of-requires c κs = let loop = c .before .before .before .before .before .before .before .before .before .loop in
-    let loop-test = c .before .before .before .before .before .before .before .before .loop-test in
-    let called = c .before .before .before .before .before .called in
+part-of-requires c κs = let loop = at-in-loop c .before .loop in let called = c .before .before .before .before .before .called in
     let read-header-text = c .before .before .before .before .before .before .before .read-header-text in
-    name-inside _ _ _ _ _ _ _ (loop .inv .0) (loop-test .taken) (sym (ap toldRead (called .given .1)) ∙ read-header-text .ensures)
+    name-inside _ _ _ _ _ _ _ (loop .inv .0) (at-in-loop c .loop-test .taken) (sym (ap toldRead (called .given .1)) ∙ read-header-text .ensures)
 
 add-index : tie.Need-add-index Inv-loop μ-loop
-add-index c = let loop-test = c .before .before .before .before .before .before .before .before .before .before .loop-test in
-    let struct-known = c .before .before .before .before .before .before .before .before .before .before .before .before .before .struct-known in
-    omega (arith, loop-test .taken, struct-known .given)
+add-index c = let loop-test = at-in-loop (c .before .before) .loop-test in
+    let struct-known = at-in-loop (c .before .before) .before .before .before .struct-known in omega (arith, loop-test .taken, struct-known .given)
 
 loop-again : tie.Need-loop-again Inv-loop μ-loop
-loop-again c = let loop = c .before .before .before .before .before .before .before .before .before .before .before .loop in
-    let loop-test = c .before .before .before .before .before .before .before .before .before .before .loop-test in
+loop-again c = let loop = at-in-loop (c .before .before) .before .loop in
+    let loop-test = at-in-loop (c .before .before) .loop-test in
     let called = c .before .before .before .before .before .before .before .called in
     let read-header-text = c .before .before .before .before .before .before .before .before .before .read-header-text in
     let value = c .before .before .before .value in let read-text = c .before .before .before .before .before .read-text in let part-of = c .before .part-of in (
@@ -55,5 +56,5 @@ loop-again c = let loop = c .before .before .before .before .before .before .bef
 pub pick-spec : {M : Type 1} → statement M
 pick-spec = tie.close (tie.spec Inv-loop μ-loop (λ c. omega arith) (λ c κs. tt) (λ c. (starts _ _ _ _ (c .begun .ensures), omega arith)) (λ c κs. tt)
     (λ c. omega arith) (λ c. omega arith) returns (λ c κs. tt) (λ c. omega arith) (λ c. omega arith) returns-2 part-of-requires (λ c κs. tt) add-index
-    (λ c. omega (arith, c .before .before .before .before .before .before .before .before .before .before .loop-test .taken)) loop-again
+    (λ c. omega (arith, at-in-loop (c .before .before) .loop-test .taken)) loop-again
     (λ c. all-picked _ _ _ _ _ _ _ (c .before .loop .inv .0) (c .loop-test .left)))
