@@ -1,4 +1,4 @@
--- The page of promises: the questions of README in its order, each with the theorem that answers it, over what the entry points promise. A statement stands here in full, so that a reader looks up
+-- The page of promises: the questions of README in its order, all but the last, each with the theorem that answers it, over what the entry points promise. A statement stands here in full, so that a reader looks up
 -- definitions alone (`tools/floor` lists them); its proof is the law of the crate where it belongs.
 use Prim.Native.Nat.{ℕ, _+_, _*_, _-_, _<_, _≤_}
 use lib.{Dec.{eqb}, Ieee.{Float}, IntN.{ℤ}, ListN.{length, getD, take}, Signed.{mag, ltZ}}
@@ -12,7 +12,7 @@ use Rattle.bundle.specs.{Bundle.{findOf}, First.{FoundAt}, declared.find.File.{
 use Rattle.bundle.specs.Told as B
 use Rattle.bundle.specs.declared.find.Found.the-variants as F
 use Rattle.calendar.specs.{Calendar.{daysOfYears}, Civil.{CivilOf}, Epoch.{forwards, backwards}, declared.civil.Civil.{Civil}}
-use Rattle.draft.specs.Held.{Builder.{Builder, finish, holding}, Sound.{Sound, roomFor}, Space.{Space}, Totals.{totalsOf}}
+use Rattle.draft.specs.{Held.{Builder.{Builder, finish, holding}, Sound.{Sound, roomFor}, Space.{Space}, Totals.{totalsOf}}, Summed.Ends.{Files, Finishes, spaceOf}, declared.held.room.Rooms.{Rooms}}
 use Rattle.header.specs.{Header.{headBy, headOf}, declared.header.Head.{Head}}
 use Rattle.index.specs.{Index.{indexed, indexedOf, toldBuilt}, Own.{isIndexOf}, Through.{lookedIndexed}, Tied.{toldTied}, declared.{build.Built.{Built}, tied.Tied.{Tied}}}
 use Rattle.localtime.specs.{Found.{foundOf}, Local.{rulesIn, localTime}}
@@ -31,7 +31,7 @@ use Rattle.tzif.specs.{Check.{correctionAt}, Local.{typeBehind, named}, Number.
 use Rattle.tzif.specs.Last.{Octets, transitionTime, LastNotAfter}
 use Rattle.tzif.specs.Reply as T
 use Rattle.tzrule.specs.{Ask.{corrected, inYears, clockAt}, Summer.{isSummer, IsSummer, IsRule}, declared.rule.{Rule.{Rule}, Tz.{Tz}}}
-use Rattle.office.specs.Calls.{Shelf, Called, Made, TotalsIn}
+use Rattle.office.specs.{Calls.{Shelf, Called, Made, TotalsIn}, Draft.{Ends}}
 use Rattle.uskelzar.specs.{Slips.{Printed, slipSpoken}, Spoken.{zonesValues, foundSpoken}}
 use Rattle.verdict.specs.{Stretch.{Stretch}, Verdict.{after, judge, judgedAt}, declared.step.Tally.{Tally}}
 use Rattle.writer.specs.WrittenAt.{WrittenAt}
@@ -182,6 +182,12 @@ refused-changes-nothing = calls.refused-changes-nothing
 pub finish-builds : (b : Builder) → Sound (b .plan) (b .room) → b .totals ≡ totalsOf (b .plan) → (out : ℕ) (space : Space)
     → finish b out space ≡ builtOf (b .plan) (roomFor out (record { bytes = out; lists = space .lists }))
 finish-builds b sound fresh out space = draft.finish-builds b sound fresh out space
+
+-- What the end leaves after every sequence of exported calls is what building the yards gives that were added and not taken away, with names and notice as they were begun.
+pub finish-made : (plan : Plan) (room : ℕ) (yards : List Yard) (s : Shelf) → Made plan room yards s → (rooms : Rooms) (size : ℕ) (out : List ℕ) (number : ℕ) (words : List ℕ)
+    → Ends (λ h. Files h rooms (s .lists) size out) (s .state) number words
+    → Ends (λ h. Finishes (builtOf (holding plan yards) (roomFor size (record { bytes = size; lists = spaceOf h rooms .lists }))) size out) (s .state) number words
+finish-made = calls.finish-made
 
 -- ---- What is left of a damaged file?
 -- The file that was written opens strictly, and its table is that of the old file's whole entries, in the old order, each as it was.
