@@ -285,13 +285,13 @@ pub slip-at-short : (fix : Fix) (map atlas zones : List ℕ) (n room size : ℕ)
     → Z.replied (given stamped) hs ts os ≡ slippedAt fix map atlas zones n room size → Short fix map zones n stamped hs
 slip-at-short = slip.slip-at-short
 
--- In C: what a call of `uskelzar_slip`, or of `uskelzar_slip_atlas` with the map's atlas, left which returned 0 is such a slip, and its length, matches and offset are the reply's words;
-pub returned-slip : (request map atlas zones : List ℕ) → NoneOrAtlas map atlas → (n room size : ℕ) {number : ℕ} {words hits text out : List ℕ}
+-- In C: what a call of `uskelzar_slip`, or of `uskelzar_slip_atlas` with any words, left which returned 0 is a stamped slip, and its length, matches and offset are the reply's words;
+pub returned-slip : (request map atlas zones : List ℕ) (n room size : ℕ) {number : ℕ} {words hits text out : List ℕ}
     → spoken number words (hits ∷ text ∷ out ∷ []) ≡ slipSpoken (slipped request map atlas zones n room size) → number ≡ 0 → Printed (slipped request map atlas zones n room size) words hits text out
 returned-slip = printed.returned-slip
 
 -- and so of `uskelzar_slip_at` and `uskelzar_slip_at_atlas`.
-pub returned-slip-at : (fix : Fix) (map atlas zones : List ℕ) → NoneOrAtlas map atlas → (n room size : ℕ) {number : ℕ} {words hits text out : List ℕ}
+pub returned-slip-at : (fix : Fix) (map atlas zones : List ℕ) (n room size : ℕ) {number : ℕ} {words hits text out : List ℕ}
     → spoken number words (hits ∷ text ∷ out ∷ []) ≡ slipSpoken (slippedAt fix map atlas zones n room size) → number ≡ 0 → Printed (slippedAt fix map atlas zones n room size) words hits text out
 returned-slip-at = printed.returned-slip-at
 

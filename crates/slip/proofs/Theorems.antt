@@ -1,11 +1,13 @@
 -- What the slip promises, by name. Assumes nothing.
-use Rattle.numbers.proofs.Prelude.{ℕ, _+_, _-_, _^_, _≤_, _<_, ℤ, length, take, length-append, take-at, mag, true, false, List, [], _∷_, _++_, inl, inr, _≡_, refl, sym, ap, subst, _∙_, arith}
+use Rattle.numbers.proofs.Prelude.{ℕ, _+_, _-_, _^_, _≤_, _<_, eqb, ℤ, length, take, length-append, take-at, mag, true, false, _||_, List, [], _∷_, _++_, inl, inr, _≡_}
+use Rattle.numbers.proofs.Prelude.{refl, sym, ap, subst, _∙_, arith}
 use Rattle.numbers.{proofs.Replies.{NumberedReply, number-of, onward}, specs.{Lists.{zeros, padded}, Reply.{Reply, given, refused, plain, demand, _>>=_, _>>_}, declared.refusal.Refusal.{Refusal}}}
 use Rattle.atlas.{proofs.{AtlasIsPlain.{alike-from}, BesideIsPlain.{zones-beside-is-plain}}, specs.{Atlas.{isAtlasOf}, Beside.{NoneOrAtlas}}}
 use Rattle.calendar.{proofs.{Laws.{weekday-closed}, Months.{month-short}}, specs.{Calendar.{isLeap, dayNumber}, Civil.{Shows}, declared.civil.Reading.{Reading}}}
 use Rattle.header.specs.Header.{headOf}
 use Rattle.request.specs.{Request.{requestOf}, declared.read.Fix.{Fix}}
-use Rattle.slip.proofs.{Clocks.{Fitting, read-back}, Making.{afterLookup, made, behind, meant, each-says, first, first-hourly}, Numbered.{slip-at-told, slip-told}}
+use Rattle.slip.proofs.{Clocks.{Fitting, read-back}, Making.{afterLookup, made, behind, meant, each-says, first, first-hourly}}
+use Rattle.slip.proofs.Numbered.{slip-at-told, slip-at-beside-told, slip-told, slip-beside-told}
 use Rattle.slip.proofs.Shortness.{Named, names-short, clock-short, zones-all}
 use Rattle.slip.specs.{Hour.{Hour}, Line.{clockText, isAmong, between, zoneText, added, zonesFrom, lineOf}, ReadBack.{readBack}}
 use Rattle.slip.specs.Says.{Meant, Whole, AllSay, Agreed, Clocked, Short, isAtNumber, isSlipNumber, zonesMost}
@@ -192,6 +194,19 @@ pub slip-refusals : (request map atlas zones : List ℕ) → NoneOrAtlas map atl
 unfolding slipped
 slip-refusals request map atlas zones so n room size why hs ts os e =
     refused-of n room size (slipOf request map atlas zones n room size) why hs ts os e (slip-told request map atlas zones so n room size)
+
+-- With any words at all the number is one of these, or 36.
+pub slip-at-beside-refusals : (fix : Fix) (map atlas zones : List ℕ) (n room size : ℕ) (why : Refusal) (hs ts os : List ℕ)
+    → replied (refused why) hs ts os ≡ slippedAt fix map atlas zones n room size → (isAtNumber (why .number) || eqb (why .number) 36) ≡ true
+unfolding slippedAt
+slip-at-beside-refusals fix map atlas zones n room size why hs ts os e =
+    refused-of n room size (slipAt fix map atlas zones n room size) why hs ts os e (slip-at-beside-told fix map atlas zones n room size)
+
+pub slip-beside-refusals : (request map atlas zones : List ℕ) (n room size : ℕ) (why : Refusal) (hs ts os : List ℕ)
+    → replied (refused why) hs ts os ≡ slipped request map atlas zones n room size → (isSlipNumber (why .number) || eqb (why .number) 36) ≡ true
+unfolding slipped
+slip-beside-refusals request map atlas zones n room size why hs ts os e =
+    refused-of n room size (slipOf request map atlas zones n room size) why hs ts os e (slip-beside-told request map atlas zones n room size)
 
 -- ---- the longest line
 -- Where it is stamped, the line has at most 36 bytes and for each different zone 43 and its abbreviation: with one name 79 bytes and the abbreviation.
