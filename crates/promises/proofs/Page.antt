@@ -258,7 +258,7 @@ pub slip-at-whole : (fix : Fix) (map atlas zones : List ℕ) → NoneOrAtlas map
     → Z.replied (given stamped) hs ts os ≡ slippedAt fix map atlas zones n room size → Whole fix map n room hs ts
 slip-at-whole = slip.slip-at-whole
 
--- each match's zone has a TZif file under its joined name, whose local time at the instant has the printed offset, and the line begins with the one civil reading of instant and offset;
+-- there is a match; each one's zone has a TZif file that counts UNIX time and has the printed offset there; the line is the one civil reading and the zones of these matches, which the reply counts;
 pub slip-agrees : (request map atlas zones : List ℕ) (n room size : ℕ) (stamped : Stamped) (hs ts os : List ℕ)
     → Z.replied (given stamped) hs ts os ≡ slipped request map atlas zones n room size → Meant request (λ fix. Agreed fix map zones n size stamped hs os)
 slip-agrees = slip.slip-agrees
