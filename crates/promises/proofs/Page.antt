@@ -82,16 +82,16 @@ pub many-is-one-by-one : (file : List ℕ) (lats lons : List Float) (asked : Boo
 many-is-one-by-one = batch.many-is-one-by-one
 
 -- ---- Does an index or an atlas beside the file change an answer?
--- `is_index` says 0 of words exactly where building, lent as many, gives and leaves these for this file, whoever wrote them,
+-- By the definition of `isIndexOf`: 0 exactly where building, lent as many, gives and leaves these words for this file. Proved is the contract of `uskelzar_is_index`, that it returns this;
 pub is-index-exactly : (file words : List ℕ) → (isIndexOf file words ≡ given tt) ↔ ((used : ℕ) × (indexedOf file (length words) ≡ indexed (given used) words))
 is-index-exactly = index.is-index-exactly
 
--- and where it says 0 a lookup through them is the plain one.
+-- where it says 0 a lookup through them is the plain one.
 pub is-index-is-plain : (file words : List ℕ) → isIndexOf file words ≡ given tt → (location : Location) (asked : Bool) (n room : ℕ)
     → lookedIndexed file words location asked n room ≡ lookedUp file location asked n room
 is-index-is-plain file words e location asked n room = index.is-index-is-plain file words e location asked n room
 
--- `is_atlas` says 0 of words exactly where building an atlas, lent as many, gives and leaves these for this file, whoever wrote them,
+-- By the definition of `isAtlasOf`: 0 exactly where building, lent as many, gives and leaves these words for this file. Proved is the contract of `uskelzar_is_atlas`, that it returns this,
 pub is-atlas-exactly : (file words : List ℕ) → (isAtlasOf file words ≡ given tt) ↔ ((used : ℕ) × (atlasMade file (length words) ≡ indexed (given used) words))
 is-atlas-exactly = atlas.is-atlas-exactly
 
@@ -99,7 +99,7 @@ is-atlas-exactly = atlas.is-atlas-exactly
 pub built-is-atlas : (file : List ℕ) (n : ℕ) {used : ℕ} → atlasMade file n .reply ≡ given used → isAtlasOf file (atlasMade file n .words) ≡ given tt
 built-is-atlas = theorems.built-is-atlas
 
--- and nothing else is;
+-- and, again by the definition, nothing else is;
 pub atlas-is-built : (file words : List ℕ) → isAtlasOf file words ≡ given tt → (used : ℕ) × (atlasMade file (length words) ≡ indexed (given used) words)
 atlas-is-built = theorems.atlas-is-built
 
