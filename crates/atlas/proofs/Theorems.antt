@@ -68,9 +68,9 @@ module _ (file words : List ℕ) (location : Location) (asked : Bool) (n room : 
 
 -- ---- what the promises fix
 -- Two replies that a promise permits are equal, with all lent output: of `lookup_atlas`,
-pub same-atlas : (file words : List ℕ) (location : Location) (asked : Bool) (n room : ℕ) (r r′ : Looked) (hs hs′ ts ts′ : List ℕ)
+pub atlas-one-reply : (file words : List ℕ) (location : Location) (asked : Bool) (n room : ℕ) (r r′ : Looked) (hs hs′ ts ts′ : List ℕ)
     → replied (toldLooked r) hs ts ≡ lookedAtlas file words location asked n room → replied (toldLooked r′) hs′ ts′ ≡ lookedAtlas file words location asked n room → (r ≡ r′) × (hs ≡ hs′) × (ts ≡ ts′)
-same-atlas = atlas-safe
+atlas-one-reply = atlas-safe
 
 -- of `build_atlas`,
 pub same-atlas-built : (file : List ℕ) (n : ℕ) (r r′ : Built) (ws ws′ : List ℕ) → indexed (toldBuilt r) ws ≡ atlasMade file n → indexed (toldBuilt r′) ws′ ≡ atlasMade file n → (r ≡ r′) × (ws ≡ ws′)
