@@ -1,5 +1,5 @@
--- The page of promises: the questions of README in its order, all but the last, each with the theorem that answers it, over what the entry points promise. A statement stands here in full, so that a reader looks up
--- definitions alone (`tools/floor` lists them); its proof is the law of the crate where it belongs.
+-- The page of promises: the questions of README in its order, all but the last, each with the theorem that answers it, over what the entry points promise. A statement stands here in full, so that
+-- a reader looks up definitions alone (`tools/floor` lists them); its proof is the law of the crate where it belongs.
 use Prim.Native.Nat.{ℕ, _+_, _*_, _-_, _<_, _≤_}
 use lib.{Dec.{eqb}, Ieee.{Float}, IntN.{ℤ}, ListN.{length, getD, take}, Signed.{mag, ltZ}}
 use mathlib.Core.{Bool.{Bool, true, false, _||_}, List.{List, [], _∷_}, Logic.{_↔_, _⊎_}, Path.{_≡_}}

@@ -2,7 +2,8 @@
 -- Assumes nothing.
 use Rattle.numbers.{proofs.{Prelude.{_-_, _/_, needs, length, false, _≡_, refl, sym, ap, _∙_, arith}, Readings.{reading-grows}}, specs.{Answer.{found}, Varint.{readingOf}}}
 use Rattle.table.proofs.{TableRows.{at-end, at-row, at-unreadable, at-refused, row-less}, pass.Passing.{over-less}, rest.Remaining.{stopped-mark}}
-use Rattle.table.proofs.{rows.Entering.{row-read, row-failed, row-refused}, search.{Searching.{Going, starts, passed-on, early, stops, refuses, on, full, met}, SoFar.{kept-length}, Turns.{met-kind}}}
+use Rattle.table.proofs.rows.Entering.{row-read, row-failed, row-refused}
+use Rattle.table.proofs.search.{Searching.{Going, starts, passed-on, early, stops, refuses, on, full, met}, SoFar.{kept-length}, Turns.{met-kind}}
 use Rattle.table.proofs.search.search.Statement.{statement}
 use Rattle.table.specs.{Hits.{width}, Rows.{rowBy, rowsFrom, rowsIn}, Search.{judgeIn, searched}, Table.{isAbove, toldEntered}, declared.rows.Row.{Row}}
 use Rattle.table.proofs.search.Searching as S
