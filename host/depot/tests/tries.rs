@@ -135,6 +135,25 @@ fn damaged_files_are_not_in_order() {
     }
 }
 
+/// A file whose end cuts a number. `zone --strict` alone can be asked again without it.
+#[test]
+fn a_file_that_is_cut_inside_a_number() {
+    let folder = Folder::new("cut-number");
+    let (head, out) = (folder.with("head.plb", b"PLBT\x01\x10\0\0\x80"), folder.path("out"));
+    let refused = format!("depot: {head}: refusal 31: a number that the file's end cuts\n  the file was cut inside a number: copy it again");
+    for words in [&["check", &head][..], &["salvage", &head, "-o", &out], &["bundle", ZONEINFO, "-o", &out, "--map", &head]] {
+        let ran = depot(words);
+        assert_eq!((ran.status, ran.err), (1, format!("{refused}\n")), "{words:?}");
+    }
+    let ran = depot(&["zone", &head, "0", "0", "--strict"]);
+    assert_eq!((ran.status, ran.err), (1, format!("{refused}, or look it up without --strict\n")));
+    // a border's last number: it is the lookup that meets it
+    let border = folder.with("border.plb", b"PLBC\x01\x10\0\0\x06\0\x09\x04\x04\x14\x14\0\0\x30\x80\x02\x80\x04\x81\x02\0\x80");
+    said(&depot(&["zone", &border, "0.0137", "0.0275", "--strict"]), 1, &["border.plb: refusal 31", "copy it again, or look it up without --strict"]);
+    said(&depot(&["zone", &border, "0.0137", "0.0275"]), 0, &["search: whole"]);
+    assert_eq!(folder.names(), ["border.plb", "head.plb"]);
+}
+
 /// A zone, an entry above it, and behind that a hole of the zone.
 const OUT_OF_ORDER: [u8; 54] = [
     0x50, 0x4C, 0x42, 0x43, 0x01, 0x10, 0x01, 0x04, 0xCE, 0xE1, 0xED, 0xE5, 0x00, 0x12, 0x02, 0x12, 0x04, 0x04, 0x14, 0x14, 0x00, 0x00, 0x28, 0x28, 0x28, 0x28, 0x00, 0x00, 0x04, 0x04, 0x14, 0x14, 0x00, 0x09,
