@@ -202,7 +202,7 @@ fn indexes_that_are_none() {
     said(&depot(&["index", &folder.path("missing"), "-o", &out]), 2, &["No such file"]);
     said(&depot(&["index", &folder.with("picture.plb", "GIF89a.."), "-o", &out]), 1, &["refusal 3"]);
     said(&depot(&["index", &folder.with("order.plb", OUT_OF_ORDER), "-o", &out]), 1, &["refusal 34: a table that is not in order", "depot check names the entries"]);
-    said(&depot(&["index", WORLD, "-o", &folder.path("none/out.index")]), 2, &["nothing was written"]);
+    said(&depot(&["index", WORLD, "-o", &folder.path("none/out.index")]), 2, &["this file was not written"]);
     assert_eq!(folder.names(), ["odd", "order.plb", "picture.plb", "zeros"]);
 }
 
@@ -262,9 +262,9 @@ fn atlases_that_are_none() {
     said(&depot(&["atlas", &order, "-o", &out]), 1, &["refusal 34: a table that is not in order", "depot check names the entries", "without an index or an atlas"]);
     said(&depot(&["zone", &order, "1", "2", "--atlas", &whys[0].0]), 1, &["order.plb: refusal 34"]);
     said(&depot(&["atlas", &order, "-o", &order]), 1, &["refusal 34"]);
-    said(&depot(&["atlas", WORLD, "-o", &folder.path("none/out.atlas")]), 2, &["nothing was written"]);
+    said(&depot(&["atlas", WORLD, "-o", &folder.path("none/out.atlas")]), 2, &["this file was not written"]);
     let file = yards(&folder);
-    said(&depot(&["atlas", &file, "-o", &file]), 2, &["which is read: give another name with -o; nothing was written"]);
+    said(&depot(&["atlas", &file, "-o", &file]), 2, &["which is read: give another name with -o; this file was not written"]);
     said(&depot(&["atlas", &file, "-o", "/dev/null"]), 2, &["is there and is no file"]);
     assert_eq!(folder.names(), ["cut", "damaged", "odd", "order.plb", "picture.plb", "yards.plb", "zeros"]);
 }
@@ -322,7 +322,7 @@ fn stamps_that_are_not_run() {
     said(&depot(&["stamp", &unnamed, "-o", &out, WORLD, ZONEINFO]), 2, &["no column \"latitude\""]);
     said(&depot(&["stamp", DAY, "-o", &out, WORLD, &folder.path("none")]), 2, &["none: No such file", "give the folder", "/usr/share/zoneinfo"]);
     said(&depot(&["stamp", &folder.path("none.csv"), "-o", &out, WORLD, ZONEINFO]), 2, &["none.csv"]);
-    said(&depot(&["stamp", DAY, "-o", &folder.path("none/slips.csv"), WORLD, ZONEINFO]), 2, &["nothing was written"]);
+    said(&depot(&["stamp", DAY, "-o", &folder.path("none/slips.csv"), WORLD, ZONEINFO]), 2, &["this file was not written"]);
     assert_eq!(folder.names(), ["empty.csv", "unnamed.csv"]);
 }
 
@@ -378,7 +378,7 @@ fn what_is_built() {
 #[test]
 fn what_is_not_written() {
     let folder = Folder::new("not-written");
-    said(&depot(&["build", YARDS, "-o", &folder.path("none/yards.plb")]), 2, &["nothing was written"]);
+    said(&depot(&["build", YARDS, "-o", &folder.path("none/yards.plb")]), 2, &["this file was not written"]);
     said(&depot(&["build", YARDS, "-o", &folder.path("yards.plb"), "--precision", "12"]), 1, &["nothing of it is left on the grid"]);
     said(&depot(&["build", YARDS, "-o", &folder.path("yards.plb"), "--notice", &"n".repeat(256)]), 1, &["the notice has 256 bytes"]);
     assert!(folder.names().is_empty());
