@@ -1,4 +1,4 @@
-/* example FILE LAT LON: the zone that a slip would carry, how the search ended, and every field of the zones that hold the fix.
+/* example FILE LAT LON: the first zone's description, how the search ended, and every field of the zones that hold the fix.
  * Exit status: 0 answered, 1 refused, 2 not run, or answered with a number that uskelzar.h does not name. examples/slip.rs prints
  * the same. Every number that is read is checked: those of the call, and those of the library's answer that lead to a place in a buffer. */
 #define _POSIX_C_SOURCE 200809L

@@ -1,4 +1,4 @@
-//! slip [--strict] FILE LAT LON: the zone that a slip would carry, how the search ended, and every field of the zones that hold the fix.
+//! slip [--strict] FILE LAT LON: the first zone's description, how the search ended, and every field of the zones that hold the fix.
 //! With --strict a number that the file's end cuts is refused. Exit status: 0 answered, 1 refused, 2 not run, or answered with a number that the crate does not know. example.c prints the same.
 
 use std::process::ExitCode;
@@ -26,7 +26,7 @@ fn print(map: &Map<Vec<u8>>, lat: f32, lon: f32, strict: bool) -> Result<(), Err
         // where it is not refused it is the plain lookup
         map.lookup_strict(lat, lon)?;
     }
-    let slip = map.zone_for_slip(lat, lon)?;
+    let slip = map.whole_description(lat, lon)?;
     println!("slip: {}", slip.as_deref().unwrap_or("no zone"));
     let zones = map.lookup(lat, lon)?;
     println!(

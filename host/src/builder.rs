@@ -144,7 +144,7 @@ impl Builder {
     /// # use uskelzar::{Builder, Map, Table};
     /// let depot = [(0.10, 0.20), (0.50, 0.20), (0.50, 0.90), (0.10, 0.90), (0.10, 0.20)];
     /// let file = Builder::new(Table::Countries, 20, &["Name"]).yard_degrees(&depot, &["Depot"]).build()?;
-    /// assert_eq!(Map::open(file)?.zone_for_slip(0.3, 0.5)?.as_deref(), Some("Depot"));
+    /// assert_eq!(Map::open(file)?.whole_description(0.3, 0.5)?.as_deref(), Some("Depot"));
     /// # Ok::<(), Box<dyn std::error::Error>>(())
     /// ```
     pub fn yard_degrees(mut self, points: &[(f64, f64)], values: &[&str]) -> Builder {

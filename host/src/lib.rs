@@ -1,13 +1,12 @@
 //! Which zone holds a fix, by a PLB border file: the proved library behind typed values.
 //!
-//! ```no_run
-//! # fn main() -> Result<(), uskelzar::Error> {
-//! let map = uskelzar::Map::read("examples/world-9.plb")?;
-//! if let Some(zone) = map.zone_for_slip(52.52, 13.40)? {
-//!     println!("{zone}"); // Europe/Berlin, from a search that was whole
-//! }
-//! # Ok(())
-//! # }
+//! ```
+//! use uskelzar::{Bundle, Map, Printer};
+//!
+//! let printer = Printer::new(Map::read("../examples/world-9.plb")?, Bundle::read("../examples/zones.tzdata")?);
+//! let slip = printer.stamp(52.52, 13.40, 1_782_907_199)?;
+//! assert_eq!(slip.to_string(), "Wed 2026-07-01 13:59:59 +02:00 CEST Europe/Berlin");
+//! # Ok::<(), Box<dyn std::error::Error>>(())
 //! ```
 //!
 //! [`Printer`] has the whole question of a slip: the line that is printed for a receiver's sentence, or for a fix and an instant, or why there is none.

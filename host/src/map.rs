@@ -34,7 +34,7 @@ impl Default for Room {
 /// use uskelzar::{End, Map};
 ///
 /// let map = Map::read("../examples/world-9.plb")?;
-/// assert_eq!(map.zone_for_slip(52.52, 13.40)?.as_deref(), Some("Europe/Berlin"));
+/// assert_eq!(map.whole_description(52.52, 13.40)?.as_deref(), Some("Europe/Berlin"));
 /// let zones = map.lookup(41.88, -87.63)?;
 /// assert_eq!((zones.matches.len(), zones.end), (3, End::Whole)); // on the border of three zones
 /// # Ok::<(), uskelzar::Error>(())
@@ -222,10 +222,16 @@ impl<B: AsRef<[u8]>> Map<B> {
         })
     }
 
-    /// The zone to print on a slip: the description, only where the search for it was whole.
-    pub fn zone_for_slip(&self, lat: f32, lon: f32) -> Result<Option<String>, Error> {
+    /// The first match's description, where the search was whole; a slip asks more, see [`crate::Printer`].
+    pub fn whole_description(&self, lat: f32, lon: f32) -> Result<Option<String>, Error> {
         let found = self.simple_lookup(lat, lon)?;
         Ok(found.description.filter(|_| found.end == End::Whole))
+    }
+
+    /// The old name of [`Map::whole_description`].
+    #[deprecated(note = "no slip is stamped by it: a slip has all zones of a border, and is refused off the globe. `Printer` stamps slips; `whole_description` is this function")]
+    pub fn zone_for_slip(&self, lat: f32, lon: f32) -> Result<Option<String>, Error> {
+        self.whole_description(lat, lon)
     }
 
     /// The map's room so many times.

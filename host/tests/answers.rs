@@ -7,7 +7,7 @@ use common::files::{OUT_OF_ORDER, OUT_OF_ORDER_LAT, OUT_OF_ORDER_LON};
 use common::files::{TABLE_CUT, TABLE_CUT_LAT, TABLE_CUT_LON};
 use common::WORLD;
 use std::fs::{self, File};
-use uskelzar::{End, Error, Kind, Map, Mapping, Number, Room, Table};
+use uskelzar::{Bundle, End, Error, Kind, Map, Mapping, Number, Printer, Room, Table};
 
 fn world() -> Map<Vec<u8>> {
     Map::read(WORLD).unwrap()
@@ -81,7 +81,7 @@ fn some_cities_of_the_small_world() {
     let places = places(concat!(env!("CARGO_MANIFEST_DIR"), "/../examples/cities"));
     assert!(places.len() > 20);
     for (lat, lon, zone) in places {
-        let slip = map.zone_for_slip(lat, lon).unwrap();
+        let slip = map.whole_description(lat, lon).unwrap();
         assert_eq!(slip.as_deref().unwrap_or("none"), zone);
     }
 }
@@ -141,6 +141,20 @@ fn a_place_on_three_borders() {
     assert_eq!(chicago.safezone, 0.0);
 }
 
+/// A slip asks more than the first description: it has all zones of a border or is refused, and so is a place off the globe.
+#[test]
+#[allow(deprecated)]
+fn the_first_description_is_no_slip() {
+    let map = world();
+    for (lat, lon) in [(52.52, 13.40), (41.88, -87.63), (91.0, 13.40), (0.0, -30.0)] {
+        assert_eq!(map.zone_for_slip(lat, lon).unwrap(), map.whole_description(lat, lon).unwrap());
+    }
+    assert_eq!(map.whole_description(41.88, -87.63).unwrap().as_deref(), Some("America/Chicago"));
+    let printer = Printer::new(map, Bundle::read(concat!(env!("CARGO_MANIFEST_DIR"), "/../examples/zones.tzdata")).unwrap());
+    let refused = |lat, lon| printer.stamp(lat, lon, 1_782_907_199).unwrap_err().why.number;
+    assert_eq!([refused(41.88, -87.63), refused(91.0, 13.40)], [Number::HoursDiffer, Number::NoPlace]);
+}
+
 #[test]
 fn a_fix_that_is_no_number_counts_as_zero() {
     let map = world();
@@ -149,7 +163,7 @@ fn a_fix_that_is_no_number_counts_as_zero() {
         map.lookup(0.0, 0.0).unwrap()
     );
     assert_eq!(
-        map.zone_for_slip(f32::INFINITY, f32::NEG_INFINITY).unwrap(),
+        map.whole_description(f32::INFINITY, f32::NEG_INFINITY).unwrap(),
         None
     );
 }
@@ -162,7 +176,7 @@ fn no_slip_from_a_search_that_stopped() {
     assert_eq!(
         Map::open(file.clone())
             .unwrap()
-            .zone_for_slip(lat, lon)
+            .whole_description(lat, lon)
             .unwrap()
             .as_deref(),
         Some("Up/One")
@@ -175,7 +189,7 @@ fn no_slip_from_a_search_that_stopped() {
         (found.description.as_deref(), found.end),
         (Some("Up/One"), End::BorderFailed)
     );
-    assert_eq!(map.zone_for_slip(lat, lon).unwrap(), None);
+    assert_eq!(map.whole_description(lat, lon).unwrap(), None);
 }
 
 #[test]
@@ -194,7 +208,7 @@ fn no_slip_behind_an_entry_that_could_not_be_read() {
         (found.description.as_deref(), found.end),
         (Some("A"), End::TableUnreadable)
     );
-    assert_eq!(map.zone_for_slip(lat, lon).unwrap(), None);
+    assert_eq!(map.whole_description(lat, lon).unwrap(), None);
 }
 
 #[test]
@@ -210,7 +224,7 @@ fn no_slip_from_a_table_out_of_order() {
         (found.description.as_deref(), found.end),
         (Some("A"), End::OutOfOrder)
     );
-    assert_eq!(map.zone_for_slip(lat, lon).unwrap(), None);
+    assert_eq!(map.whole_description(lat, lon).unwrap(), None);
 }
 
 #[test]

@@ -245,7 +245,7 @@ fn what_is_not_read() {
     assert_eq!((zones.matches.len(), zones.end), (1, End::Whole));
     file.is_over.store(true, Ordering::Relaxed);
     assert_eq!(map.found(0.0, 0.0).unwrap(), zones);
-    assert_eq!(map.zone_for_slip(0.0, 0.0).unwrap().as_deref(), Some("A ring"));
+    assert_eq!(map.whole_description(0.0, 0.0).unwrap().as_deref(), Some("A ring"));
     assert!(Map::open(&file).unwrap().found(0.0, 0.0).is_err());
 }
 

@@ -79,13 +79,13 @@ fn the_largest_file_is_read_to_its_end() {
     assert_eq!(inside.matches[0].fields[0].value, "Far");
     assert_eq!(inside.end, End::Whole);
     assert_eq!(
-        map.zone_for_slip(5.1 * LAT_STEP, 5.1 * LON_STEP)
+        map.whole_description(5.1 * LAT_STEP, 5.1 * LON_STEP)
             .unwrap()
             .as_deref(),
         Some("Far")
     );
     assert_eq!(
-        map.zone_for_slip(11.1 * LAT_STEP, 5.1 * LON_STEP).unwrap(),
+        map.whole_description(11.1 * LAT_STEP, 5.1 * LON_STEP).unwrap(),
         None
     );
 }

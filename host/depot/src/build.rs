@@ -5,11 +5,10 @@ use crate::geojson::{self, Collection};
 use crate::grid::Grid;
 use crate::mend::mend;
 use crate::names::{self, Known};
-use crate::output::write_whole;
+use crate::output::{Filled, Output};
 use crate::plan::{plan, Form, Plan};
 use crate::words::{count, few, grouped, length};
 use crate::{fixes, geometry};
-use serde_json::Value;
 use std::fmt::Write;
 use std::path::{Path, PathBuf};
 use uskelzar::{Builder, NotBuilt, Place, Table};
@@ -35,9 +34,8 @@ pub struct Asked {
 
 /// Reads polygons, says what becomes of them on the grid, and writes the file if a place for it is given.
 pub fn run(input: &Path, output: Option<&Path>, form: Form, asked: &Asked) -> Result<Said, Fault> {
-    if asked.mend.is_some() && asked.mend.as_deref() == output {
-        return Err(Fault::NotRun("-o and --mend name one file: give two".into()));
-    }
+    let (to, mend_to) = (output.map(|path| Output { path, option: "-o" }), asked.mend.as_deref().map(|path| Output { path, option: "--mend" }));
+    to.zip(mend_to).map_or(Ok(()), |(to, mend_to)| to.check_apart(mend_to))?;
     let (mut drawing, collection) = geojson::read_with(input)?;
     let judged = judged(&collection, &form, asked).map_err(|fault| fault.of(input))?;
     let fixes = fixes::said(&collection, Grid { precision: form.precision });
@@ -48,32 +46,25 @@ pub fn run(input: &Path, output: Option<&Path>, form: Form, asked: &Asked) -> Re
     }
     plan.report.notes.extend(judged.into_iter().chain(fixes.notes));
     let mut said = report(&plan, &fixes.lines);
-    let file = output.map(|output| file_of(&plan).map(|file| (output, file))).transpose();
+    let file = to.map(|to| file_of(&plan).map(|file| (to, file))).transpose();
     let file = file.map_err(|why| Fault::No(format!("{said}{}", not_built(&plan, &why))))?;
-    let mut inputs: Vec<&Path> = [input].into_iter().chain(asked.zones.as_deref()).collect();
-    if let Some(to) = &asked.mend {
-        write_drawing(to, &inputs, &drawing)?;
+    let inputs: Vec<&Path> = [input].into_iter().chain(names::place(asked.zones.as_deref(), plan.form.table)).collect();
+    let filled_drawing = mend_to.map(|to| to.filled(&inputs, |out| writeln!(out, "{drawing}"))).transpose()?;
+    let filled_file = file.as_ref().map(|(to, file)| to.filled(&inputs, |out| out.write_all(file))).transpose()?;
+    filled_drawing.into_iter().chain(filled_file).try_for_each(Filled::put)?;
+    if let Some(to) = mend_to {
         mended.lines().iter().for_each(|line| said.push_str(&format!("mended: {line}\n")));
-        let _ = writeln!(said, "{}: the drawing{}", to.display(), if mended.is_empty() { ", in which nothing was to mend" } else { ", mended" });
+        let _ = writeln!(said, "{}: the drawing{}", to.path.display(), if mended.is_empty() { ", in which nothing was to mend" } else { ", mended" });
     }
-    if let Some((output, file)) = file {
-        inputs.extend(asked.mend.as_deref());
-        write_whole(output, &inputs, |out| out.write_all(&file))?;
-        let _ = writeln!(said, "{}: {}", output.display(), count(file.len(), "byte"));
+    if let Some((to, file)) = file {
+        let _ = writeln!(said, "{}: {}", to.path.display(), count(file.len(), "byte"));
     }
     Ok(Said::yes(said))
 }
 
-fn write_drawing(to: &Path, inputs: &[&Path], drawing: &Value) -> Result<(), Fault> {
-    write_whole(to, inputs, |out| {
-        serde_json::to_writer(&mut *out, drawing)?;
-        out.write_all(b"\n")
-    })
-}
-
 /// The faults of a drawing, which stop a build unless it is to be built as it is drawn; else what is said of it.
 fn judged(collection: &Collection, form: &Form, asked: &Asked) -> Result<Vec<String>, Faults> {
-    let known = if form.table == 'T' { Known::of(asked.zones.as_deref()).map_err(Faults::Other)? } else { None };
+    let known = Known::of(asked.zones.as_deref(), form.table).map_err(Faults::Other)?;
     let names = if form.table == 'T' { names::said(collection, known.as_ref()) } else { names::Said::default() };
     let faults = [geometry::as_drawn(collection), names.faults].concat();
     if !faults.is_empty() && !asked.as_drawn {

@@ -3,10 +3,10 @@
 use crate::fault::{Fault, Said};
 use crate::words::count;
 use crate::{output, source};
-use std::collections::BTreeSet;
+use std::collections::{BTreeSet, HashSet};
 use std::fmt::Write;
 use std::path::{Path, PathBuf};
-use uskelzar::{zone_name, Bundle, Bundled, Error, LeftOut, Map, Number, TimeZone};
+use uskelzar::{raw, zone_name, Bundle, Bundled, Error, LeftOut, Map, Number, Refusal, TimeZone};
 
 /// Writes the bundle of a folder's zones, or of those that maps name, where there are any.
 pub fn run(folder: &Path, output: &Path, maps: &[PathBuf]) -> Result<Said, Fault> {
@@ -20,7 +20,7 @@ pub fn run(folder: &Path, output: &Path, maps: &[PathBuf]) -> Result<Said, Fault
     if bundled.zones.is_empty() {
         return Err(Fault::No(format!("{}: no zone is left; nothing was written\n{}", folder.display(), told.trim_end())));
     }
-    let inputs: Vec<&Path> = maps.iter().map(PathBuf::as_path).collect();
+    let inputs: Vec<&Path> = [folder].into_iter().chain(maps.iter().map(PathBuf::as_path)).collect();
     output::write_whole(output, &inputs, |out| out.write_all(bundled.bundle.to_bytes()))?;
     // a map's zone that is missing will miss on a slip
     let yes = maps.is_empty() || bundled.left_out.is_empty();
@@ -36,25 +36,48 @@ pub fn opened(place: &Path) -> Result<(Bundle, Vec<LeftOut>), Fault> {
         return if zones.is_empty() { Err(Fault::file(place, format!("has no zone: {WANTED}"))) } else { Ok((bundle, left_out)) };
     }
     let bundle = Bundle::of_bytes(source::bytes(place).map_err(|fault| Fault::NotRun(format!("{fault}: {WANTED}")))?);
-    match bundle.find("") {
-        // a fault of the head is met by every name
-        Err(why) if why.number == Number::Bundle && bundle.find("x") == Err(why) => Err(Fault::No(format!("{}: {why}\n  this is no bundle of zones: {WANTED}", place.display()))),
-        _ => Ok((bundle, vec![])),
+    match head_fault(&bundle) {
+        Some(why) => Err(Fault::No(format!("{}: {why}\n  this is no bundle of zones: {WANTED}", place.display()))),
+        None => Ok((bundle, vec![])),
     }
 }
 
-/// The bytes of an entry, and of the name in it.
+/// The bytes of the head, of an entry, and of the name in it.
+const HEAD: usize = 24;
 const ENTRY: usize = 52;
 const NAME: usize = 40;
 
+/// What is wrong with a bundle's head, which every name meets; the fault of an entry has its place, behind the head.
+fn head_fault(bundle: &Bundle) -> Option<Refusal> {
+    bundle.find("").err().filter(|why| why.number == Number::Bundle && why.detail < HEAD as u64)
+}
+
 /// The names that slips can be stamped by: those of entries that the library finds, and whose files it reads.
+///
+/// The library seeks a name from the index's first entry on. So that a long index is not walked for each of its names, the index is told to begin at the entry that is asked for:
+/// where it is the first of its name, the answer is the same.
 pub fn names(bundle: &Bundle) -> BTreeSet<String> {
-    let bytes = bundle.to_bytes();
-    let place = |at: usize| bytes.get(at..at + 4).map_or(0, |four| u32::from_be_bytes([four[0], four[1], four[2], four[3]]) as usize);
-    let entries = bytes.get(place(12)..place(16)).unwrap_or_default();
-    let name = |entry: &[u8]| String::from_utf8(entry[..NAME].iter().copied().take_while(|byte| *byte != 0).collect()).ok();
-    let is_read = |name: &String| bundle.find(name).is_ok_and(|file| TimeZone::new(file).is_ok());
-    entries.chunks_exact(ENTRY).filter_map(name).filter(is_read).collect()
+    if head_fault(bundle).is_some() {
+        return BTreeSet::new();
+    }
+    let whole = bundle.to_bytes();
+    let place = |at: usize| u32::from_be_bytes([whole[at], whole[at + 1], whole[at + 2], whole[at + 3]]) as usize;
+    let field = |at: usize| &whole[at..at + NAME];
+    let (mut seen, mut bytes) = (HashSet::new(), whole.to_vec());
+    let first = (place(12)..place(16)).step_by(ENTRY).filter(|at| seen.insert(field(*at)));
+    let is_read = |at: usize| {
+        let name = name_in(field(at))?;
+        bytes[12..16].copy_from_slice(&(at as u32).to_be_bytes());
+        let [start, length, ..] = raw::bundle_find(&bytes, name.as_bytes()).ok()?;
+        TimeZone::new(&bytes[start as usize..][..length as usize]).is_ok().then_some(name)
+    };
+    first.filter_map(is_read).collect()
+}
+
+/// The name of an entry: a text, and zeros behind it.
+fn name_in(field: &[u8]) -> Option<String> {
+    let length = field.iter().rposition(|byte| *byte != 0).map_or(0, |last| last + 1);
+    String::from_utf8(field[..length].to_vec()).ok()
 }
 
 fn no_folder(folder: &Path, error: Error) -> Fault {

@@ -79,13 +79,22 @@ impl Reading {
 /// Reads a file, or standard input where the path is `-`.
 pub fn read(path: &Path) -> Result<Day, Fault> {
     let bytes = source::bytes(path)?;
-    let day = if is_log(path, &bytes) { log_of(&bytes) } else { day_of(&bytes) };
+    let day = if is_log(path, &bytes) { log_of(&bytes) } else { day_of(&bytes).map_err(|words| if is_like_log(&bytes) { LIKE_LOG.into() } else { words }) };
     day.map_err(|words| Fault::file(path, words))
 }
+
+const LIKE_LOG: &str = "this looks like a receiver's log: name it .nmea, or give it on standard input";
 
 /// Whether a file is a receiver's log of sentences, by its name; standard input, which has none, by its first byte.
 fn is_log(path: &Path, bytes: &[u8]) -> bool {
     path.extension().is_some_and(|kind| kind.eq_ignore_ascii_case("nmea")) || path == Path::new(STANDARD) && bytes.starts_with(b"$")
+}
+
+/// Whether what is no day of cells begins as a receiver's log does: with a sentence, and not with names of columns.
+fn is_like_log(bytes: &[u8]) -> bool {
+    let bytes = source::unmarked(bytes);
+    let mut cells = bytes.split(|byte| b"\r\n".contains(byte)).next().unwrap_or_default().split(|byte| b",;\t".contains(byte));
+    bytes.starts_with(b"$") && !cells.any(|cell| LATITUDE.contains(&String::from_utf8_lossy(cell).trim().to_lowercase().as_str()))
 }
 
 /// The requests of a receiver's log: what ends with LF or with the file, whole.
@@ -254,10 +263,13 @@ fn notes(reading: &Cells, lines: &[StringRecord]) -> Vec<String> {
         _ => None,
     };
     let parted = parted.map(|by| format!("cells are parted by {by}; a comma in a number is read as its point"));
-    let cut = lines.iter().filter(|line| line.get(reading.columns[2]).is_some_and(|word| word.contains('.'))).count();
-    let cut = (cut > 0).then(|| format!("{}: the second that has begun is taken", count(cut, "instant with parts of a second")));
+    let cut = lines.iter().filter(|line| reading.is_cut(line)).count();
+    let cut = (cut > 0).then(|| format!("{} with parts of a second: the second that has begun is taken", count(cut, "instant")));
     parted.into_iter().chain(cut).collect()
 }
+
+/// What the column of latitudes is called.
+const LATITUDE: [&str; 2] = ["latitude", "lat"];
 
 /// The columns that a first line names.
 fn columns_of(names: &StringRecord) -> Result<[usize; 3], String> {
@@ -265,7 +277,7 @@ fn columns_of(names: &StringRecord) -> Result<[usize; 3], String> {
         let place = names.iter().position(|name| known.contains(&name.to_lowercase().as_str()));
         place.ok_or_else(|| format!("its first line names no column {:?}; columns latitude, longitude, instant are wanted", known[0]))
     };
-    Ok([column(&["latitude", "lat"])?, column(&["longitude", "long", "lon", "lng"])?, column(&["instant", "time", "timestamp"])?])
+    Ok([column(&LATITUDE)?, column(&["longitude", "long", "lon", "lng"])?, column(&["instant", "time", "timestamp"])?])
 }
 
 impl Cells {
@@ -286,8 +298,18 @@ impl Cells {
             value.ok_or_else(|| format!("{what} {:?} is no number from -{most} to {most}", word(column)))
         };
         let [lat, lon, instant] = self.columns;
-        Ok(Request { lat: degrees(lat, 90.0, "latitude")?, lon: degrees(lon, 180.0, "longitude")?, instant: instant_of(word(instant))? })
+        Ok(Request { lat: degrees(lat, 90.0, "latitude")?, lon: degrees(lon, 180.0, "longitude")?, instant: instant_of(word(instant), self.separator)? })
     }
+
+    /// Whether a line is read, and its instant has parts of a second.
+    fn is_cut(&self, line: &StringRecord) -> bool {
+        line.get(self.columns[2]).is_some_and(|word| word.contains(point(self.separator))) && self.request(line).is_ok()
+    }
+}
+
+/// Whether a letter is the point of a number: the comma too, where it parts no cells.
+fn point(separator: u8) -> impl Fn(char) -> bool {
+    move |letter| letter == '.' || letter == ',' && separator != b','
 }
 
 /// Where a comma parts no cells it is a number's point.
@@ -298,18 +320,31 @@ fn number(word: &str, separator: u8) -> Option<f32> {
     word.parse().ok()
 }
 
-/// Seconds from 1970, or a date and time with its offset, such as 2026-07-01T11:59:59Z. Parts of a second are cut.
-fn instant_of(word: &str) -> Result<i64, String> {
-    if let Ok(seconds) = word.parse() {
+/// Seconds from 1970, or a date and time with its offset, such as 2026-07-01T11:59:59Z. With parts of a second it is the second that has begun.
+fn instant_of(word: &str, separator: u8) -> Result<i64, String> {
+    if let Some(seconds) = seconds_of(word, separator) {
         return Ok(seconds);
     }
     let (clock, offset) = offset_of(word)?;
-    let clock = clock.split_once('.').map_or(clock, |(whole, _)| whole);
+    let (clock, _) = parted(clock, separator).ok_or_else(|| no_instant(word))?;
     if clock.ends_with(":60") {
         return Err(format!("instant {word:?} is a leap second, which has no instant of its own: take the second before or behind it"));
     }
     let read = DateTime::parse_from_rfc3339(&format!("{}{offset}", clock.replacen(' ', "T", 1)));
     read.map(|time| time.timestamp()).map_err(|_| no_instant(word))
+}
+
+/// Before 1970 too the second that has begun is the lower one.
+fn seconds_of(word: &str, separator: u8) -> Option<i64> {
+    let (whole, parts) = parted(word, separator)?;
+    let below = whole.starts_with('-') && parts.bytes().any(|digit| digit != b'0');
+    whole.parse::<i64>().ok()?.checked_sub(below.into())
+}
+
+/// What stands before a point, and the digits behind it; all of a word that has none.
+fn parted(word: &str, separator: u8) -> Option<(&str, &str)> {
+    let Some((whole, parts)) = word.split_once(point(separator)) else { return Some((word, "")) };
+    (!parts.is_empty() && parts.bytes().all(|byte| byte.is_ascii_digit())).then_some((whole, parts))
 }
 
 fn no_instant(word: &str) -> String {
@@ -342,14 +377,43 @@ mod tests {
     #[test]
     fn instants() {
         for word in ["1782907199", "2026-07-01T11:59:59Z", "2026-07-01T13:59:59+02:00", "2026-07-01 13:59:59+0200", "2026-07-01T11:59:59.999Z", "2026-07-01 06:59:59.5-05:00"] {
-            assert_eq!(instant_of(word), Ok(1_782_907_199), "{word}");
+            assert_eq!(instant_of(word, b','), Ok(1_782_907_199), "{word}");
         }
-        assert!(instant_of("noon").unwrap_err().contains("like 2026"));
-        assert!(instant_of("2026-07-01T11:59:59").unwrap_err().contains("has no offset: add Z"));
-        assert!(instant_of("2016-12-31T23:59:60Z").unwrap_err().contains("leap second"));
+        assert!(instant_of("noon", b',').unwrap_err().contains("like 2026"));
+        assert!(instant_of("2026-07-01T11:59:59", b',').unwrap_err().contains("has no offset: add Z"));
+        assert!(instant_of("2016-12-31T23:59:60Z", b',').unwrap_err().contains("leap second"));
         for word in ["2026-07-01", "2026-02-30T00:00:00Z", "2026-07-01T11:59:59+2", "2026-07-01T11:59:59+02:00:00", "+", "\u{e9}\u{e9}\u{e9}\u{e9}\u{e9}\u{e9}+0200"] {
-            assert!(instant_of(word).is_err(), "{word}");
+            assert!(instant_of(word, b',').is_err(), "{word}");
         }
+    }
+
+    /// The second that has begun, on either side of 1970.
+    #[test]
+    fn parts_of_a_second() {
+        let known = [
+            ("1782907199.25", 1_782_907_199), ("1782907199.0", 1_782_907_199), ("+5.9", 5), ("0.999999999999", 0), ("-0.5", -1), ("-1.0", -1), ("-1.25", -2), ("-0.0", 0),
+            ("1969-12-31T23:59:59.5Z", -1), ("9223372036854775807.5", i64::MAX), ("-9223372036854775808.0", i64::MIN),
+        ];
+        for (word, instant) in known {
+            assert_eq!(instant_of(word, b','), Ok(instant), "{word}");
+            // a decimal comma, where it parts no cells
+            assert_eq!(instant_of(&word.replace('.', ","), b';'), Ok(instant), "{word}");
+        }
+        for word in ["1.", ".5", "-.5", "1.2.3", "1.5e3", "1.-5", "1,5", "0x1.8", "9223372036854775808.0", "-9223372036854775808.5", "2026-07-01T11:59:59.Z", "2026-07-01T11:59:59.xZ"] {
+            assert!(instant_of(word, b',').unwrap_err().contains("is neither seconds from 1970 nor like"), "{word}");
+        }
+    }
+
+    /// Only what was read has had its second taken.
+    #[test]
+    fn instants_with_parts_are_counted_where_they_are_read() {
+        let day = day_of(b"lat,lon,time\n1,2,3.5\n1,2,-3.5\n1,2,noon.5\n91,2,3.5\n1,2,3\n1,2,2026-07-01T11:59:59.5\n").unwrap();
+        assert_eq!(day.asked().iter().filter(|asked| asked.is_ok()).count(), 3);
+        assert_eq!(day.notes, ["2 instants with parts of a second: the second that has begun is taken"]);
+        let day = day_of(b"lat;lon;time\n1,5;2;3,5\n1,5;2;2026-07-01T11:59:59,5Z\n").unwrap();
+        assert_eq!(day.asked(), [fix(1.5, 2.0, 3), fix(1.5, 2.0, 1_782_907_199)]);
+        assert_eq!(day.notes[1], "2 instants with parts of a second: the second that has begun is taken");
+        assert!(day_of(b"lat,lon,time\n1,2,noon.5\n").unwrap().notes.is_empty());
     }
 
     fn line(number: usize, text: &str) -> Line {
@@ -439,6 +503,12 @@ mod tests {
         let lines: Vec<&[u8]> = sentences(log).collect();
         assert_eq!(lines, [&b"$GPGGA,1*00\r"[..], b"", b"$GPRMC,2\xff*00\r", b"$GPRMC"]);
         assert_eq!((sentences(b"").count(), sentences(b"\n").count(), sentences(b"\n\n").count()), (0, 1, 2));
+        for log in [&b"$GPGGA,115959.00,5231.2,N\r\n"[..], b"\xef\xbb\xbf$GPGGA", b"$GPTXT,\xff,latitude of"] {
+            assert!(is_like_log(log), "{log:?}");
+        }
+        for day in [&b"lat,lon,time\n$GPGGA,1"[..], b"", b"$price, Lat,lon", b"$;\"x\";latitude\n", b" $GPGGA,1"] {
+            assert!(!is_like_log(day), "{day:?}");
+        }
         assert!(is_log(Path::new("a/day.NMEA"), b"x") && !is_log(Path::new("nmea"), b"$") && !is_log(Path::new("-"), b"lat") && is_log(Path::new("-"), b"$GP"));
     }
 

@@ -44,7 +44,7 @@ fn advice(number: uskelzar::Number) -> &'static str {
     match number {
         TooShort | Magic => "\n  this is no PLB file: give the file of borders",
         LengthMismatch => "\n  the file is cut, or something was added: copy it again",
-        Incomplete => "\n  the file was cut inside a number: copy it again, or look it up without --strict",
+        Incomplete => "\n  the file was cut inside a number: copy it again",
         IndexTable => "\n  depot check names the entries; lookups without an index or an atlas are answered still",
         NothingLeft => "\n  no entry is whole: copy the file again",
         Precision => "\n  the file's precision must be 1 to 32 for a lookup",

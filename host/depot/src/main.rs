@@ -16,8 +16,8 @@ use std::process::ExitCode;
 
 /// Builds, shows, checks, salvages and draws files of yards, and stamps a day's slips by them.
 ///
-/// Exit status: 0 done, or answered yes; 1 answered no; 2 not run. What is written is written whole or not at all, and never over what is read; `-` is standard
-/// input and output.
+/// Exit status: 0 done, or answered yes; 1 answered no; 2 not run. A file is written whole or not at all, and never over one that is read or that stands in a folder
+/// that is read; `-` is standard input and output.
 #[derive(Parser)]
 #[command(name = "depot", version, arg_required_else_help = true)]
 struct Depot {

@@ -26,10 +26,15 @@ pub struct Said {
     pub notes: Vec<String>,
 }
 
+/// The folder or bundle that the names in a file of this type are held against: the one that was asked for, else the usual folder. Countries are held against none.
+pub fn place(asked: Option<&Path>, table: char) -> Option<&Path> {
+    (table == 'T').then(|| asked.unwrap_or(Path::new(USUAL)))
+}
+
 impl Known {
     /// Of the folder or bundle that was asked for; else of the usual folder, where it is there.
-    pub fn of(asked: Option<&Path>) -> Result<Option<Known>, Fault> {
-        let place = asked.unwrap_or(Path::new(USUAL));
+    pub fn of(asked: Option<&Path>, table: char) -> Result<Option<Known>, Fault> {
+        let Some(place) = place(asked, table) else { return Ok(None) };
         match bundle::opened(place) {
             Ok((bundle, left_out)) => Ok(Some(Known { place: place.to_path_buf(), names: bundle::names(&bundle), left_out })),
             Err(_) if asked.is_none() => Ok(None),
@@ -107,6 +112,13 @@ mod tests {
     use super::*;
     use crate::geojson::collect;
     use serde_json::{json, Value};
+
+    /// What names are held against is read, asked for or not, and so never written over.
+    #[test]
+    fn the_place_of_names() {
+        assert_eq!([place(None, 'T'), place(Some(Path::new("x")), 'T')], [USUAL, "x"].map(|known| Some(Path::new(known))));
+        assert_eq!([place(None, 'C'), place(Some(Path::new("x")), 'C')], [None, None]);
+    }
 
     fn known() -> Known {
         let names = ["Europe/Berlin", "Europe/Bern", "America/New_York", "America/Argentina/Salta", "UTC", "Etc/UTC", "Asia/Tokyo"];

@@ -3,7 +3,7 @@
 use crate::day::{self, unlike, Asked, Day};
 use crate::evidence::Basis;
 use crate::fault::{Fault, Said};
-use crate::output;
+use crate::output::{Filled, Output};
 use crate::slips::{told, Files, Opened, Reason, Slip};
 use crate::words::{count, grouped};
 use csv::Writer;
@@ -22,15 +22,15 @@ pub(crate) const NO_ZONE: &str = "no zone";
 
 /// Stamps every line of a file, and writes the slips; and what each of them rests on, where it is asked for.
 pub fn run(day: &Path, output: &Path, files: &Files, evidence: Option<&Path>) -> Result<Said, Fault> {
-    if evidence == Some(output) {
-        return Err(Fault::file(output, "is to be the slips' file and their evidence: give two names with -o and --evidence"));
-    }
+    let to = Output { path: output, option: "-o" };
+    let evidence = evidence.map(|path| Output { path, option: "--evidence" });
+    evidence.iter().try_for_each(|evidence| to.check_apart(*evidence))?;
     let read = day::read(day)?;
     let opened = files.open(read.lines.len())?;
     let slips = stamped(&opened, &read, evidence.is_some());
     let names = names(&read);
     let inputs: Vec<&Path> = [day].into_iter().chain(files.inputs()).collect();
-    output::write_whole(output, &inputs, |out| {
+    let filled_slips = to.filled(&inputs, |out| {
         let mut out = Writer::from_writer(out);
         out.write_record(&names)?;
         for (line, slip) in read.lines.iter().zip(&slips) {
@@ -38,10 +38,8 @@ pub fn run(day: &Path, output: &Path, files: &Files, evidence: Option<&Path>) ->
         }
         out.flush()
     })?;
-    if let Some(evidence) = evidence {
-        let inputs: Vec<&Path> = inputs.into_iter().chain([output]).collect();
-        output::write_whole(evidence, &inputs, |out| slips.iter().try_for_each(|slip| out.write_all(slip.evidence.as_bytes())))?;
-    }
+    let filled_evidence = evidence.map(|to| to.filled(&inputs, |out| slips.iter().try_for_each(|slip| out.write_all(slip.evidence.as_bytes())))).transpose()?;
+    [filled_slips].into_iter().chain(filled_evidence).try_for_each(Filled::put)?;
     Ok(summary(output, &opened, &read, &slips))
 }
 

@@ -4,7 +4,7 @@ use crate::fault::{Fault, Said};
 use crate::{index, source, words};
 use std::fmt::Write;
 use std::path::{Path, PathBuf};
-use uskelzar::{zone_name, End, Field, Map, Table};
+use uskelzar::{zone_name, End, Error, Field, Map, Number, Table};
 
 /// How a file is read.
 pub enum Way {
@@ -21,12 +21,12 @@ pub enum Way {
 pub fn run(path: &Path, lat: f32, lon: f32, way: Way, explain: bool) -> Result<Said, Fault> {
     let map = match &way {
         Way::Atlas(atlas) => source::open_with(path, atlas)?,
-        _ => source::open(path, matches!(way, Way::Strict))?,
+        Way::Strict => Map::open_strict(source::bytes(path)?).map_err(|error| strictly(path, error))?,
+        _ => source::open(path, false)?,
     };
-    let refused = |error| Fault::map(path, error);
     let zones = match way {
-        Way::Plain | Way::Atlas(_) => map.lookup(lat, lon).map_err(refused)?,
-        Way::Strict => map.lookup_strict(lat, lon).map_err(refused)?,
+        Way::Plain | Way::Atlas(_) => map.lookup(lat, lon).map_err(|error| Fault::map(path, error))?,
+        Way::Strict => map.lookup_strict(lat, lon).map_err(|error| strictly(path, error))?,
         Way::Through(index) => index::lookup(&index, (path, &map), (lat, lon))?,
     };
     let mut text = String::new();
@@ -50,6 +50,15 @@ pub fn run(path: &Path, lat: f32, lon: f32, way: Way, explain: bool) -> Result<S
         let _ = writeln!(text, "{distance}");
     }
     Ok(Said { text, yes: zones.end == End::Whole && !zones.matches.is_empty() })
+}
+
+/// A strict reading's error. Here alone a number that the file's end cuts need not be the end: no other verb has --strict.
+fn strictly(path: &Path, error: Error) -> Fault {
+    let cut = matches!(&error, Error::Refused(why) if why.number == Number::Incomplete);
+    match Fault::map(path, error) {
+        Fault::No(words) if cut => Fault::No(format!("{words}, or look it up without --strict")),
+        fault => fault,
+    }
 }
 
 fn behind(map: &Map<Vec<u8>>, place: u32) -> String {

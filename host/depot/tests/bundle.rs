@@ -3,7 +3,11 @@
 mod common;
 
 use common::{depot, Folder, DAY, WORLD, YARDS, ZONEINFO};
+use depot::bundle::names;
+use std::collections::BTreeSet;
 use std::fs;
+use std::time::Instant;
+use uskelzar::{Bundle, TimeZone};
 
 #[test]
 fn all_zones_of_a_folder() {
@@ -57,6 +61,58 @@ fn what_is_not_bundled() {
     let ran = depot(&["bundle", ZONEINFO, "-o", &out, "--map", &text]);
     assert!(ran.status == 1 && ran.err.contains("map.plb: refusal"), "{ran:?}");
     assert_eq!(folder.names(), ["empty", "map.plb"]);
+}
+
+/// The names of a bundle are those that the library finds and whose files it reads: where a name stands twice the first entry has it, whatever is wrong with that one.
+#[test]
+fn names_that_the_library_finds() {
+    let utc = fs::read(format!("{ZONEINFO}/UTC")).unwrap();
+    let good = |name: &[u8]| entry(name, 0, utc.len());
+    let entries = [good(b"B/Twice"), entry(b"B/Twice", 9_999, 9), entry(b"A/First damaged", 9_999, 9), good(b"A/First damaged"), entry(b"Cut", 0, utc.len() - 1), good(b"Z\0garbage"), good(b"Z"), good(b"no \xff text"), good(b"UTC"), good(b"")];
+    let bundle = bundle_of(&entries, &utc);
+    let by_find = |bundle: &Bundle, names: &[&str]| names.iter().filter(|name| bundle.find(name).is_ok_and(|file| TimeZone::new(file).is_ok())).map(|name| name.to_string()).collect::<BTreeSet<_>>();
+    let asked = ["", "A/First damaged", "B/Twice", "Cut", "UTC", "Z", "Z\0garbage"];
+    assert_eq!(names(&bundle), by_find(&bundle, &asked));
+    assert_eq!(names(&bundle), ["", "B/Twice", "UTC", "Z", "Z\0garbage"].map(String::from).into());
+    // a fault of the head is met by every name
+    for (at, byte) in [(0, b'x'), (11, 1), (12, 0x80), (15, 23), (19, 25), (20, 0x80)] {
+        let mut bytes = bundle.to_bytes().to_vec();
+        bytes[at] = byte;
+        assert!(names(&Bundle::of_bytes(bytes)).is_empty(), "{at}");
+    }
+    let real = Bundle::of_folder(ZONEINFO).unwrap();
+    assert_eq!(names(&real.bundle), real.zones.into_iter().collect());
+}
+
+/// The work grows with the entries, and not with their square: sixteen times as many take nowhere near 256 times as long.
+#[test]
+fn many_names() {
+    let utc = fs::read(format!("{ZONEINFO}/UTC")).unwrap();
+    let spent = |count: usize| {
+        let entries: Vec<Vec<u8>> = (0..count).map(|i| entry(format!("Yard/{i}").as_bytes(), 0, utc.len())).collect();
+        let bundle = bundle_of(&entries, &utc);
+        // the least of a few, as others may be at work too
+        let once = || {
+            let begun = Instant::now();
+            assert_eq!(names(&bundle).len(), count);
+            begun.elapsed()
+        };
+        (0..3).map(|_| once()).min().unwrap()
+    };
+    let (few, many) = (spent(4_000), spent(64_000));
+    assert!(many < few * 100, "{few:?}, {many:?}");
+}
+
+/// A bundle's entry, whatever it says.
+fn entry(name: &[u8], start: usize, length: usize) -> Vec<u8> {
+    let field = name.iter().copied().chain([0; 40]).take(40);
+    field.chain([start, length, 0].into_iter().flat_map(|number| (number as u32).to_be_bytes())).collect()
+}
+
+fn bundle_of(entries: &[Vec<u8>], data: &[u8]) -> Bundle {
+    let start = 24 + 52 * entries.len();
+    let head = [24, start, start + data.len()].into_iter().flat_map(|number| (number as u32).to_be_bytes());
+    Bundle::of_bytes(b"tzdata2026a\0".iter().copied().chain(head).chain(entries.concat()).chain(data.iter().copied()).collect())
 }
 
 /// The example has the zones of both example maps, and is what is made of the release that its page names.

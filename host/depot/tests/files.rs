@@ -2,7 +2,7 @@
 
 mod common;
 
-use common::{depot, depot_of, Folder, DAY, WORLD, YARDS, ZONEINFO};
+use common::{call, depot, depot_of, Folder, DAY, WORLD, YARDS, ZONEINFO};
 use std::fs;
 use std::os::unix::fs::{symlink, PermissionsExt};
 use std::process::Command;
@@ -42,9 +42,93 @@ fn no_input_is_written_over() {
     for output in [&drawing, &link] {
         let ran = depot(&["build", &drawing, "-o", output, "--precision", "25"]);
         assert_eq!(ran.status, 2, "{ran:?}");
-        assert!(ran.err.contains("which is read: give another name with -o; nothing was written"), "{ran:?}");
+        assert!(ran.err.contains("which is read: give another name with -o; this file was not written"), "{ran:?}");
     }
     assert_eq!(fs::read(&drawing).unwrap(), fs::read(YARDS).unwrap());
+}
+
+/// A folder that is read: so are the files in it, in folders in it, and behind its links.
+#[test]
+fn no_file_of_a_folder_is_written_over() {
+    let folder = Folder::new("over-folder");
+    let (zones, berlin, tokyo, link) = (folder.path("tz"), folder.path("tz/Europe/Berlin"), folder.path("tokyo"), folder.path("link"));
+    fs::create_dir_all(folder.0.join("tz/Europe")).unwrap();
+    fs::copy(format!("{ZONEINFO}/Europe/Berlin"), &berlin).unwrap();
+    fs::copy(format!("{ZONEINFO}/Asia/Tokyo"), &tokyo).unwrap();
+    symlink(&tokyo, folder.0.join("tz/Tokyo")).unwrap();
+    symlink(&berlin, &link).unwrap();
+    // a link to the folder itself
+    symlink(&zones, folder.0.join("tz/Europe/again")).unwrap();
+    let (before, new) = ([fs::read(&berlin).unwrap(), fs::read(&tokyo).unwrap()], folder.path("new"));
+    for output in [&berlin, &tokyo, &link] {
+        let calls: [(&[&str], &str); 5] = [
+            (&["bundle", &zones, "-o", output], "-o"),
+            (&["stamp", DAY, "-o", output, WORLD, &zones], "-o"),
+            (&["stamp", DAY, "-o", &new, WORLD, &zones, "--evidence", output], "--evidence"),
+            (&["build", YARDS, "-o", output, "--zones", &zones, "--as-drawn", "--precision", "25"], "-o"),
+            (&["build", YARDS, "-o", &new, "--zones", &zones, "--as-drawn", "--precision", "25", "--mend", output], "--mend"),
+        ];
+        for (words, option) in calls {
+            let ran = depot(words);
+            let said = format!("depot: {output}: is a file of {zones}, which is read: give another name with {option}; this file was not written\n");
+            assert!(ran.status == 2 && ran.err == said, "{words:?}: {ran:?}");
+        }
+    }
+    assert_eq!([fs::read(&berlin).unwrap(), fs::read(&tokyo).unwrap()], before);
+    assert_eq!(folder.names(), ["link", "tokyo", "tz"]);
+    // a new name in the folder is no file that is read
+    assert_eq!(depot(&["bundle", &zones, "-o", &folder.path("tz/new")]).status, 0);
+}
+
+/// Of two outputs neither is put in its place where the other can't be.
+#[test]
+fn both_outputs_or_none() {
+    let folder = Folder::new("both");
+    let (old, nowhere) = (folder.with("old", "old"), folder.path("none/new"));
+    let stamp = |slips: &str, evidence: &str| depot(&["stamp", DAY, "-o", slips, WORLD, ZONEINFO, "--evidence", evidence]);
+    let build = |file: &str, mend: &str| depot(&["build", YARDS, "--precision", "25", "-o", file, "--mend", mend]);
+    for ran in [stamp(&old, &nowhere), stamp(&nowhere, &old), stamp("-", &nowhere), build(&old, &nowhere), build(&nowhere, &old), build("-", &nowhere)] {
+        let said = format!("depot: {nowhere}: No such file or directory (os error 2); this file was not written\n");
+        assert_eq!((ran.status, ran.out.as_str(), ran.err), (2, "", said));
+        assert_eq!(fs::read(&old).unwrap(), b"old");
+    }
+    // the option that names what is read
+    for (ran, option) in [(stamp(&old, WORLD), "--evidence"), (stamp(WORLD, &old), "-o"), (build(&old, YARDS), "--mend"), (build(YARDS, &old), "-o")] {
+        assert!(ran.status == 2 && ran.err.contains(&format!(", which is read: give another name with {option}; this file was not written")), "{ran:?}");
+        assert_eq!(fs::read(&old).unwrap(), b"old");
+    }
+    assert_eq!(folder.names(), ["old"]);
+}
+
+/// Two outputs that are one file are told by both options, however they are spelt, and whether the file is there or not.
+#[test]
+fn two_names_of_one_file() {
+    let folder = Folder::new("two-names");
+    fs::create_dir(folder.path("in")).unwrap();
+    symlink(folder.path("in"), folder.path("link")).unwrap();
+    folder.with("there", "there");
+    symlink(folder.path("there"), folder.path("other")).unwrap();
+    for (one, other) in [("new", "./new"), ("new", "in/../new"), ("in/new", "link/new"), ("there", "in/../there"), ("there", "other"), ("-", "-")] {
+        for (words, option) in [(&["stamp", DAY, "-o", one, WORLD, ZONEINFO, "--evidence", other][..], "--evidence"), (&["build", YARDS, "--precision", "25", "-o", one, "--mend", other], "--mend")] {
+            let ran = call(words).current_dir(&folder.0).output().unwrap();
+            let said = format!("depot: {other}: -o and {option} name one file: give two names\n");
+            assert_eq!((ran.status.code(), String::from_utf8(ran.stderr).unwrap(), ran.stdout), (Some(2), said, vec![]));
+        }
+    }
+    assert_eq!(folder.names(), ["in", "link", "other", "there"]);
+    // standard output is no file of that name
+    let ran = call(&["stamp", DAY, "-o", "-", WORLD, ZONEINFO, "--evidence", "./-"]).current_dir(&folder.0).output().unwrap();
+    assert!(ran.status.code() == Some(1) && !ran.stdout.is_empty(), "{ran:?}");
+}
+
+/// Standard output that takes nothing: a short output too, which would stay in a buffer till the end.
+#[test]
+fn standard_output_that_is_full() {
+    for words in [&["build", YARDS, "-o", "-", "--precision", "25"][..], &["stamp", DAY, "-o", "-", WORLD, ZONEINFO], &["bundle", ZONEINFO, "-o", "-"]] {
+        let full = fs::File::options().write(true).open("/dev/full").unwrap();
+        let ran = call(words).stdout(full).output().unwrap();
+        assert_eq!((ran.status.code(), String::from_utf8(ran.stderr).unwrap().as_str()), (Some(2), "depot: -: No space left on device (os error 28); not all was written\n"));
+    }
 }
 
 #[test]

@@ -283,7 +283,7 @@ fn pages_that_are_not_written() {
         assert!(ran.err.contains(said), "{ran:?}");
     };
     refused(&[&folder.path("none.plb"), "-o", &out], 2, "No such file");
-    refused(&[WORLD, "-o", &folder.path("none/page.html"), "--columns", "20"], 2, "nothing was written");
+    refused(&[WORLD, "-o", &folder.path("none/page.html"), "--columns", "20"], 2, "this file was not written");
     refused(&[WORLD, "-o", &out, "--day", YARD_DAY], 2, "depot stamp");
     refused(&[WORLD, "-o", &out, "--day", &folder.path("none.csv")], 2, "none.csv");
     refused(&[WORLD, "-o", &out, "--drawn", &folder.with("x.geojson", "{}")], 2, "is no GeoJSON");

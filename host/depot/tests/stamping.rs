@@ -137,6 +137,13 @@ fn a_receivers_log() {
     assert!(ran.status == 0 && ran.err.contains("-: 1 line, 1 stamped\nnote: 1 other sentence passed over") && ran.out.contains("CEST Europe/Berlin"), "{ran:?}");
     let ran = depot(&["stamp", &folder.with("empty.nmea", ""), "-o", &out, WORLD, ZONEINFO]);
     assert!(ran.status == 2 && ran.err.contains("is empty"), "{ran:?}");
+    // under another name it is no CSV either, and that is said; names of columns may begin so
+    for log in [format!("{RMC}\r\n").into_bytes(), b"$GPTXT,\xff\r\n".to_vec(), b"$GPTXT,\"\r\n".to_vec()] {
+        let ran = depot(&["stamp", &folder.with("day.log", log), "-o", &out, WORLD, ZONEINFO]);
+        assert!(ran.status == 2 && ran.err.ends_with("day.log: this looks like a receiver's log: name it .nmea, or give it on standard input\n"), "{ran:?}");
+    }
+    let ran = depot(&["stamp", &folder.with("price.csv", "$,lat,lon,time\n5,52.52,13.40,1782907199.75\n"), "-o", &folder.path("price-slips.csv"), WORLD, ZONEINFO]);
+    assert!(ran.status == 0 && ran.out.contains("1 line, 1 stamped\nnote: 1 instant with parts of a second: the second that has begun is taken\n"), "{ran:?}");
     // its slips can be shown, those that have a place
     let ran = depot(&["page", WORLD, "-o", &folder.path("page.html"), "--day", &out, "--columns", "40"]);
     assert!(ran.status <= 1 && ran.out.contains(" 2 slips;"), "{ran:?}");

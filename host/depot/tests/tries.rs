@@ -135,6 +135,25 @@ fn damaged_files_are_not_in_order() {
     }
 }
 
+/// A file whose end cuts a number. `zone --strict` alone can be asked again without it.
+#[test]
+fn a_file_that_is_cut_inside_a_number() {
+    let folder = Folder::new("cut-number");
+    let (head, out) = (folder.with("head.plb", b"PLBT\x01\x10\0\0\x80"), folder.path("out"));
+    let refused = format!("depot: {head}: refusal 31: a number that the file's end cuts\n  the file was cut inside a number: copy it again");
+    for words in [&["check", &head][..], &["salvage", &head, "-o", &out], &["bundle", ZONEINFO, "-o", &out, "--map", &head]] {
+        let ran = depot(words);
+        assert_eq!((ran.status, ran.err), (1, format!("{refused}\n")), "{words:?}");
+    }
+    let ran = depot(&["zone", &head, "0", "0", "--strict"]);
+    assert_eq!((ran.status, ran.err), (1, format!("{refused}, or look it up without --strict\n")));
+    // a border's last number: it is the lookup that meets it
+    let border = folder.with("border.plb", b"PLBC\x01\x10\0\0\x06\0\x09\x04\x04\x14\x14\0\0\x30\x80\x02\x80\x04\x81\x02\0\x80");
+    said(&depot(&["zone", &border, "0.0137", "0.0275", "--strict"]), 1, &["border.plb: refusal 31", "copy it again, or look it up without --strict"]);
+    said(&depot(&["zone", &border, "0.0137", "0.0275"]), 0, &["search: whole"]);
+    assert_eq!(folder.names(), ["border.plb", "head.plb"]);
+}
+
 /// A zone, an entry above it, and behind that a hole of the zone.
 const OUT_OF_ORDER: [u8; 54] = [
     0x50, 0x4C, 0x42, 0x43, 0x01, 0x10, 0x01, 0x04, 0xCE, 0xE1, 0xED, 0xE5, 0x00, 0x12, 0x02, 0x12, 0x04, 0x04, 0x14, 0x14, 0x00, 0x00, 0x28, 0x28, 0x28, 0x28, 0x00, 0x00, 0x04, 0x04, 0x14, 0x14, 0x00, 0x09,
@@ -183,7 +202,7 @@ fn indexes_that_are_none() {
     said(&depot(&["index", &folder.path("missing"), "-o", &out]), 2, &["No such file"]);
     said(&depot(&["index", &folder.with("picture.plb", "GIF89a.."), "-o", &out]), 1, &["refusal 3"]);
     said(&depot(&["index", &folder.with("order.plb", OUT_OF_ORDER), "-o", &out]), 1, &["refusal 34: a table that is not in order", "depot check names the entries"]);
-    said(&depot(&["index", WORLD, "-o", &folder.path("none/out.index")]), 2, &["nothing was written"]);
+    said(&depot(&["index", WORLD, "-o", &folder.path("none/out.index")]), 2, &["this file was not written"]);
     assert_eq!(folder.names(), ["odd", "order.plb", "picture.plb", "zeros"]);
 }
 
@@ -243,9 +262,9 @@ fn atlases_that_are_none() {
     said(&depot(&["atlas", &order, "-o", &out]), 1, &["refusal 34: a table that is not in order", "depot check names the entries", "without an index or an atlas"]);
     said(&depot(&["zone", &order, "1", "2", "--atlas", &whys[0].0]), 1, &["order.plb: refusal 34"]);
     said(&depot(&["atlas", &order, "-o", &order]), 1, &["refusal 34"]);
-    said(&depot(&["atlas", WORLD, "-o", &folder.path("none/out.atlas")]), 2, &["nothing was written"]);
+    said(&depot(&["atlas", WORLD, "-o", &folder.path("none/out.atlas")]), 2, &["this file was not written"]);
     let file = yards(&folder);
-    said(&depot(&["atlas", &file, "-o", &file]), 2, &["which is read: give another name with -o; nothing was written"]);
+    said(&depot(&["atlas", &file, "-o", &file]), 2, &["which is read: give another name with -o; this file was not written"]);
     said(&depot(&["atlas", &file, "-o", "/dev/null"]), 2, &["is there and is no file"]);
     assert_eq!(folder.names(), ["cut", "damaged", "odd", "order.plb", "picture.plb", "yards.plb", "zeros"]);
 }
@@ -303,7 +322,7 @@ fn stamps_that_are_not_run() {
     said(&depot(&["stamp", &unnamed, "-o", &out, WORLD, ZONEINFO]), 2, &["no column \"latitude\""]);
     said(&depot(&["stamp", DAY, "-o", &out, WORLD, &folder.path("none")]), 2, &["none: No such file", "give the folder", "/usr/share/zoneinfo"]);
     said(&depot(&["stamp", &folder.path("none.csv"), "-o", &out, WORLD, ZONEINFO]), 2, &["none.csv"]);
-    said(&depot(&["stamp", DAY, "-o", &folder.path("none/slips.csv"), WORLD, ZONEINFO]), 2, &["nothing was written"]);
+    said(&depot(&["stamp", DAY, "-o", &folder.path("none/slips.csv"), WORLD, ZONEINFO]), 2, &["this file was not written"]);
     assert_eq!(folder.names(), ["empty.csv", "unnamed.csv"]);
 }
 
@@ -359,7 +378,7 @@ fn what_is_built() {
 #[test]
 fn what_is_not_written() {
     let folder = Folder::new("not-written");
-    said(&depot(&["build", YARDS, "-o", &folder.path("none/yards.plb")]), 2, &["nothing was written"]);
+    said(&depot(&["build", YARDS, "-o", &folder.path("none/yards.plb")]), 2, &["this file was not written"]);
     said(&depot(&["build", YARDS, "-o", &folder.path("yards.plb"), "--precision", "12"]), 1, &["nothing of it is left on the grid"]);
     said(&depot(&["build", YARDS, "-o", &folder.path("yards.plb"), "--notice", &"n".repeat(256)]), 1, &["the notice has 256 bytes"]);
     assert!(folder.names().is_empty());
