@@ -54,7 +54,7 @@ enum uskelzar_refusal {
     USKELZAR_OUT_OF_RANGE = 13,       /* an integer step leaves its range */
     USKELZAR_STRING_PAST_END = 14,    /* string byte past the end */
     USKELZAR_FIELD_VALUE = 15,        /* bad field value; with a cause */
-    USKELZAR_PRECISION = 16,          /* precision 0 or above 32, at lookup only */
+    USKELZAR_PRECISION = 16,          /* precision 0 or above 32; not by opening */
     USKELZAR_TOO_MANY_HITS = 17,      /* more hits than slots */
     USKELZAR_TEXT_ROOM = 18,          /* text doesn't fit; a slip's line too, whose length is then in reply[1] */
     USKELZAR_BORDER_POINTS = 19,      /* no points, over 65,535, or the two lists differ in length */
@@ -72,9 +72,9 @@ enum uskelzar_refusal {
     USKELZAR_INCOMPLETE = 31,         /* a number that the file's end cuts; of the two strict functions and of salvage */
     USKELZAR_NOTHING_LEFT = 32,       /* salvage: no entry is left */
     USKELZAR_FIXES = 33,              /* many fixes: lists of unequal length, over 4,096 fixes, or `answers` too short */
-    USKELZAR_INDEX_TABLE = 34,        /* no index: the table is not in order, can't be read, or runs past the metadata start */
-    USKELZAR_INDEX_ROOM = 35,         /* index doesn't fit the lent words */
-    USKELZAR_OTHER_INDEX = 36,        /* index and file differ in length, header or table; a list, or an entry that it names, is outside the words; is_index: other words */
+    USKELZAR_INDEX_TABLE = 34,        /* no index or atlas: the table is not in order, can't be read, or runs past the metadata start */
+    USKELZAR_INDEX_ROOM = 35,         /* index or atlas doesn't fit the lent words */
+    USKELZAR_OTHER_INDEX = 36,        /* index or atlas and file do not go together, or a place in the words leads out of them; is_index, is_atlas: other words; is_atlas: a file that has none too */
     /* of a TZif file: the rule of RFC 8536 or 9636 that is broken; detail: a place in the file, that of .. */
     USKELZAR_TZIF_MAGIC = 40,         /* a header does not begin with "TZif": the header */
     USKELZAR_TZIF_VERSION = 41,       /* version missing, not 0, '2', '3' or '4', or the second not the first: the octet */
@@ -298,7 +298,7 @@ uint8_t uskelzar_lookup_indexed(const uint8_t *file, size_t file_length, const u
                                 uint64_t reply[USKELZAR_REPLY_WORDS]);
 
 /* uskelzar_lookup through an atlas: it answers, writes and refuses what uskelzar_lookup does, where uskelzar_is_atlas said 0 of the words and this file. It does not
- * ask that: any words are taken, and of other words the answer is theirs, and may miss a zone under end mark 1; nothing outside them is touched.
+ * ask that: any words are taken, and of other words the answer is theirs, and may miss a zone under end mark 1; nothing outside them is touched. No words are 36 here.
  * Refuses: what open refuses but for its 18; then 16; then 36 where the words do not go with the file or are cut; then as lookup, and 36 at a number or a place in
  *       the words that leads out of them. */
 uint8_t uskelzar_lookup_atlas(const uint8_t *file, size_t file_length, const uint32_t *atlas, size_t atlas_length, float lat,

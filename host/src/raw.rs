@@ -157,50 +157,29 @@ pub fn index_tied(file: &[u8], index: &[u32]) -> Result<Reply, Refusal> {
     answered(|reply| library::uskelzar_index_tied(file, index, reply))
 }
 
-/// Lookup through an index in the library, without a comparison of header and table or with one.
-type Through = fn(&[u8], &[u32], f32, f32, bool, &mut [u32], &mut [u8], &mut Reply) -> u8;
-
-fn through_by(
-    looking: Through,
-    (file, index): (&[u8], &[u32]),
-    (lat, lon, asked): (f32, f32, bool),
-    hits: &mut [u32],
-    text: &mut [u8],
-) -> Result<Reply, Refusal> {
-    answered(|reply| looking(file, index, lat, lon, asked, hits, text, reply))
+/// Lookups through words beside the file, each by its function of the library.
+macro_rules! lookups {
+    ($($(#[$said:meta])* $name:ident: $looks:ident;)*) => {$(
+        $(#[$said])*
+        pub fn $name(
+            file: &[u8],
+            words: &[u32],
+            (lat, lon, asked): (f32, f32, bool),
+            hits: &mut [u32],
+            text: &mut [u8],
+        ) -> Result<Reply, Refusal> {
+            answered(|reply| library::$looks(file, words, lat, lon, asked, hits, text, reply))
+        }
+    )*};
 }
 
-/// As `lookup`, through an index that `index_tied` answered for.
-pub fn lookup_through(
-    file: &[u8],
-    index: &[u32],
-    (lat, lon, asked): (f32, f32, bool),
-    hits: &mut [u32],
-    text: &mut [u8],
-) -> Result<Reply, Refusal> {
-    through_by(library::uskelzar_lookup_through, (file, index), (lat, lon, asked), hits, text)
-}
-
-/// As `lookup`, through an atlas that `is_atlas` answered for.
-pub fn lookup_atlas(
-    file: &[u8],
-    atlas: &[u32],
-    (lat, lon, asked): (f32, f32, bool),
-    hits: &mut [u32],
-    text: &mut [u8],
-) -> Result<Reply, Refusal> {
-    through_by(library::uskelzar_lookup_atlas, (file, atlas), (lat, lon, asked), hits, text)
-}
-
-/// `index_tied`, then `lookup_through`.
-pub fn lookup_indexed(
-    file: &[u8],
-    index: &[u32],
-    (lat, lon, asked): (f32, f32, bool),
-    hits: &mut [u32],
-    text: &mut [u8],
-) -> Result<Reply, Refusal> {
-    through_by(library::uskelzar_lookup_indexed, (file, index), (lat, lon, asked), hits, text)
+lookups! {
+    /// As `lookup`, through an index that `index_tied` answered for.
+    lookup_through: uskelzar_lookup_through;
+    /// As `lookup`, through an atlas that `is_atlas` answered for.
+    lookup_atlas: uskelzar_lookup_atlas;
+    /// `index_tied`, then `lookup_through`.
+    lookup_indexed: uskelzar_lookup_indexed;
 }
 
 /// Year, month, day, hour, minute, second, weekday (0 is Sunday) of an instant, so many seconds east of UT.

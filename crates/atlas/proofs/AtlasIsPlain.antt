@@ -6,7 +6,8 @@ use lib.Seq.{drop-append-add, getD-append-seam}
 use Rattle.border.specs.declared.place.Point.{Point}
 use Rattle.header.specs.{Header.{headOf}, declared.header.Head.{Head}}
 use Rattle.index.proofs.{LaidOut.{records-there, list-stands, list-of-tile}, Standing.{same-words, same-self, so-both}, Tabling.{records-length}, ThroughIsPlain.{same-matched}}
-use Rattle.index.specs.{Index.{recordsOf, listOf, tiles, recordsAt, indexOf, hasRoom, Indexed, indexed, indexedBy}, Table.{tableOf}, Through.{startOf, placeOf}, Tied.{wordAt}, Tiles.{tileOf}}
+use Rattle.index.specs.Index.{recordsOf, listOf, tiles, recordsAt, indexOf, hasRoom, builtWith, builtIn, Indexed, indexed, indexedBy}
+use Rattle.index.specs.{Table.{tableOf}, Through.{startOf, placeOf}, Tied.{wordAt}, Tiles.{tileOf}}
 use Rattle.marks.{proofs.{MarkedIsPlain.{marked-is-plain}, ReadBack.{At}}, specs.{Judging.{judgedBy}, Marks.{low}}}
 use Rattle.table.{proofs.MarkedAlike.{Right, matched-alike}, specs.{Find.{fixOf, isPrecision, matchedWith}, GivenRows.{recordWord}, Hits.{width}, MarkedRows.{encodingIn, judgeMarked, matchedMarked}}}
 use Rattle.table.specs.{Search.{judgeIn}, declared.{location.Location.{Location}, rows.Row.{Row}}}
@@ -144,7 +145,7 @@ pub record MadeFrom (file : List ℕ) (n : ℕ) (words : List ℕ) : Type 0 wher
   pub whole : words ≡ padded n (atlasOf file head rows)
 
 pub made-from : (file : List ℕ) (n : ℕ) {used : ℕ} → atlasMade file n .reply ≡ given used → MadeFrom file n (atlasMade file n .words)
-unfolding atlasMade indexedBy atlasIn atlasWith
+unfolding atlasMade indexedBy builtIn builtWith
 made-from file n {used} e = go (atlasIn file n) refl e where
   go : (reply : Reply (List ℕ)) → reply ≡ atlasIn file n → indexedBy n reply .reply ≡ given used → MadeFrom file n (indexedBy n reply .words)
   go (given words) w e = let h = given-from (headOf file) (λ (head : Head). atlasWith file head n) w in

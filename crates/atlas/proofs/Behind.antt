@@ -6,14 +6,15 @@ use Rattle.numbers.specs.{Lists.{zeros, padded}, Reply.{Reply, given, refused, 
 use lib.Seq.{drop-append-add}
 use Rattle.border.specs.declared.reader.{Encoding.{Encoding}, Reader.{Reader}}
 use Rattle.header.specs.{Header.{headOf}, declared.header.Head.{Head}}
-use Rattle.index.{proofs.{Sides.{and-first}, Standing.{so-both, and-not}, Stores.{set-before, sets-before, read-below, same-word}}, specs.Index.{joined, recordsAt, indexOf, hasRoom, indexWith}}
-use Rattle.index.specs.{Index.{indexIn, Indexed, indexed, indexedBy, indexedOf, toldBuilt}, Table.{tableOf}, Tied.{wordAt}, declared.build.Built.{Built}}
+use Rattle.index.{proofs.{Sides.{and-first}, Standing.{so-both, and-not}, Stores.{set-before, sets-before, read-below, same-word}}, specs.Index.{joined, recordsAt, indexOf, hasRoom}}
+use Rattle.index.specs.{Index.{builtWith, builtIn, indexWith, indexIn, Indexed, indexed, indexedBy, indexedOf, toldBuilt}, Table.{tableOf}, Tied.{wordAt}, declared.build.Built.{Built}}
 use Rattle.marks.{proofs.Marked.{marks-length}, specs.Marks.{low, marksAt, marksFrom, stretchEdges, groupEdges, groupsOf, levelsFrom, counted}}
 use Rattle.table.specs.{Find.{isPrecision}, MarkedRows.{encodingIn}, declared.rows.Row.{Row}}
 use Rattle.atlas.proofs.Beside.{entries-length, index-long, rows-there, marks-by-words}
 use Rattle.atlas.specs.{Atlas.{marksFor, marksIn, entryOf, entriesFrom, besideOf, atlasOf, atlasWith, atlasIn, atlasMade}, declared.course.Course.{Course}}
 use Rattle.atlas.specs.inner.{Building.{marksAtRecord, marksBy, behindBy, behindOf, sizeOf, entryFor, PutOne}, Marking.{marksOf}}
 use Rattle.writer.specs.inner.Stored.{Stored}
+use Rattle.index.proofs.Whole as W
 use Rattle.index.specs.declared.build.Built.the-variants as T
 
 -- ---- the word of an entry
@@ -200,7 +201,7 @@ module _ (file : List ℕ) (n : ℕ) where
   made e u z = (λ i. indexed (given (u i)) (z i)) ∙ ap (indexedBy n) e
 
   pub unopened : {why : Refusal} → refused why ≡ headOf file → refused why ≡ atlasIn file n
-  unfolding atlasIn
+  unfolding builtIn
   unopened e = carried e _
 
   -- a room that has none for fewer words has none for more
@@ -233,7 +234,7 @@ module _ (file : List ℕ) (n : ℕ) where
 
     -- where there is no index there is no atlas
     pub no-index : {why : Refusal} → refused why ≡ indexIn file n → refused why ≡ atlasIn file n
-    unfolding indexIn indexWith atlasIn atlasWith
+    unfolding builtIn builtWith
     no-index {why} e = by-precision (isPrecision (head .preamble .precision)) refl (e ∙ sym (onward opened (λ (h : Head). indexWith file h n))) ∙ onward opened (λ (h : Head). atlasWith file h n)
       where
         by-precision : (b : Bool) → isPrecision (head .preamble .precision) ≡ b → refused why ≡ (demand b (plain 16) >> indexFrom (tableOf file head))
@@ -256,12 +257,12 @@ module _ (file : List ℕ) (n : ℕ) where
 
     module _ (precise : isPrecision (head .preamble .precision) ≡ true) {rows : List Row} (listed : given rows ≡ tableOf file head) where
       pub with-room : hasRoom n (length (atlasOf file head rows)) ≡ true → given (atlasOf file head rows) ≡ atlasIn file n
-      unfolding atlasIn atlasWith
-      with-room h = met h (plain 35) _ ∙ onward listed _ ∙ met precise (plain 16) _ ∙ onward opened (λ (h : Head). atlasWith file h n)
+      unfolding builtIn builtWith
+      with-room h = W.with-room atlasOf file head n precise listed h ∙ onward opened (λ (h : Head). atlasWith file h n)
 
       pub without-room : hasRoom n (length (atlasOf file head rows)) ≡ false → refused (plain 35) ≡ atlasIn file n
-      unfolding atlasIn atlasWith
-      without-room h = unmet h (plain 35) _ ∙ onward listed _ ∙ met precise (plain 16) _ ∙ onward opened (λ (h : Head). atlasWith file h n)
+      unfolding builtIn builtWith
+      without-room h = W.without atlasOf file head n precise listed h ∙ onward opened (λ (h : Head). atlasWith file h n)
 
 -- ---- an index that was given, with zeros behind it
 pub record IndexMade (file : List ℕ) (n : ℕ) (used : ℕ) (ws : List ℕ) (head : Head) : Type 0 where
@@ -274,7 +275,7 @@ pub record IndexMade (file : List ℕ) (n : ℕ) (used : ℕ) (ws : List ℕ) (h
   pub whole : ws ≡ padded n (indexOf file head rows)
 
 pub index-made : (file : List ℕ) (n : ℕ) {used : ℕ} {ws : List ℕ} {head : Head} → given head ≡ headOf file → indexed (given used) ws ≡ indexedOf file n → IndexMade file n used ws head
-unfolding indexedOf indexedBy indexIn indexWith
+unfolding indexedOf indexedBy builtIn builtWith
 index-made file n {used} {ws} {head} opened e = go (indexIn file n) refl e where
   go : (reply : Reply (List ℕ)) → reply ≡ indexIn file n → indexed (given used) ws ≡ indexedBy n reply → IndexMade file n used ws head
   go (given words) w e = let here : given words ≡ indexWith file head n = w ∙ sym (onward opened (λ (h : Head). indexWith file h n)) in

@@ -5,7 +5,7 @@ use Rattle.numbers.{proofs.{Replies.{onward, met, unmet, given-one}, Tests.{bot
 use Rattle.numbers.specs.declared.refusal.Refusal.{Refusal}
 use Rattle.header.specs.{Header.{headOf}, declared.header.Head.{Head}}
 use Rattle.index.{proofs.{Owned.{is-index-exactly}, Sides.{and-first, and-rest}, Standing.{at-append, at-here, at-inside, at-rest, so-both, and-not}}, specs.Index.{joined, recordsAt, indexOf}}
-use Rattle.index.specs.{Index.{indexWith, indexIn, Indexed, indexed, indexedBy, indexedOf}, Own.{isIndexOf}, Tied.{wordAt}, inner.Own.{isWord, isAt, standsFrom, isEmptyFrom}}
+use Rattle.index.specs.{Index.{builtWith, builtIn, indexWith, indexIn, Indexed, indexed, indexedBy, indexedOf}, Own.{isIndexOf}, Tied.{wordAt}, inner.Own.{isWord, isAt, standsFrom, isEmptyFrom}}
 use Rattle.marks.specs.Marks.{low}
 use Rattle.table.specs.declared.rows.Row.{Row}
 use Rattle.atlas.proofs.{AtlasIsPlain.{MadeFrom, made-from, is-atlas-exactly}, Behind.{by-length, by-next, by-done, IndexMade, index-made, made, with-room}}
@@ -254,7 +254,7 @@ module _ (file words : List ℕ) (m : MadeFrom file (length words) words) where
   front-in = (λ i. take (end-in i) (words-are i)) ∙ take-append-seam index-in (behind-in ++ zeros-in)
 
   index-given : given index-in ≡ indexIn file (length index-in)
-  unfolding indexIn indexWith
+  unfolding builtIn builtWith
   index-given =
       let room = so-both (leb (length index-in) (length index-in)) (ltb (length index-in) (2 ^ 32)) (le-leb (length index-in) (length index-in) (omega arith))
       (lt-ltb (length index-in) (2 ^ 32) (omega (arith, room-in .1, long-in))) in

@@ -1,15 +1,15 @@
 -- What document 04's A-3 asks, over what the functions write; `atlas-is-plain` and `atlas-refusals` stand in their own files. Assumes nothing.
-use Rattle.numbers.proofs.Prelude.{ℕ, _-_, leb-true, ltb, leb, length, length-append, length-replicate, Bool, true, false, List, [], _∷_, _≡_, refl, sym, ap, _∙_, arith}
-use Rattle.numbers.{proofs.{Refusals.{Listed, still-listed}, Replies.{NumberedReply, answers, then-reply, and-then, demands, number-of}, Tests.{both, differ}}, specs.Lists.{zeros}}
+use Rattle.numbers.proofs.Prelude.{ℕ, _-_, leb-true, ltb, leb, length, length-append, length-replicate, Bool, true, false, List, [], _∷_, _≡_, sym, ap, _∙_, arith}
+use Rattle.numbers.{proofs.{Refusals.{Listed, still-listed}, Replies.{then-reply, number-of}, Tests.{both, differ}}, specs.Lists.{zeros}}
 use Rattle.numbers.specs.{Reply.{Reply, given, refused, plain, demand, _>>=_}, declared.refusal.Refusal.{Refusal}}
-use Rattle.header.{proofs.Numbered.{headerNumbers, head-numbered}, specs.{Header.{headOf}, declared.header.Head.{Head}}}
-use Rattle.index.{proofs.{Refusing.{buildingNumbers, table-numbered, replied-numbered, no-words}, Same.{same-built, same-tie}}, specs.{Index.{hasRoom, indexed, toldBuilt}, Table.{bottom, tableOf}}}
+use Rattle.header.{proofs.Numbered.{headerNumbers, head-numbered}, specs.Header.{headOf}}
+use Rattle.index.{proofs.{Refusing.{buildingNumbers, words-numbered, replied-numbered, no-words}, Same.{same-built, same-tie}}, specs.Index.{indexed, toldBuilt, builtIn}}
 use Rattle.index.specs.{Tied.{toldTied}, declared.{build.Built.{Built}, tied.Tied.{Tied}}}
-use Rattle.table.specs.{Find.{isPrecision}, Rows.{rowsIn}, declared.location.Location.{Location}}
+use Rattle.table.specs.declared.location.Location.{Location}
 use Rattle.zones.{proofs.{NumberedLookup.{lookupNumbers, lookup-refusals}, RefusalZeroes.{both-zero}, SameLookup.{same-looked}}, specs.{Lent.{Replied, replied}, Lookup.{toldLooked}}}
 use Rattle.zones.specs.declared.lookup.{Looked.{Looked}, Zones.{Zones}}
 use Rattle.atlas.proofs.AtlasIsPlain.{made-from, is-atlas-exactly, atlas-is-plain}
-use Rattle.atlas.specs.{Atlas.{atlasOf, atlasWith, atlasIn, atlasMade, isMade, isAtlasOf}, Looked.{zonesAtlas, lookedAtlas}}
+use Rattle.atlas.specs.{Atlas.{atlasOf, atlasIn, atlasMade, isMade, isAtlasOf}, Looked.{zonesAtlas, lookedAtlas}}
 
 -- ---- is_atlas is exact
 made-long : (file : List ℕ) (n : ℕ) {used : ℕ} → atlasMade file n .reply ≡ given used → length (atlasMade file n .words) ≡ n
@@ -39,17 +39,11 @@ else-36 file words why = go (isMade words (atlasMade file (length words) .reply)
   go false e = sym (ap numberOf e)
 
 -- ---- which numbers, and zeros
-atlas-numbered : (file : List ℕ) (head : Head) (room : ℕ) → NumberedReply (Listed buildingNumbers) (atlasWith file head room)
-unfolding atlasWith tableOf
-atlas-numbered file head room =
-    and-then (demands (isPrecision (head .preamble .precision)) (plain 16) refl) (then-reply (table-numbered (head .sections .metadata) bottom (rowsIn file head))
-    (λ rows. and-then (demands (hasRoom room (length (atlasOf file head rows))) (plain 35) refl) answers))
-
 -- A building that is not answered is refused with one of the index's numbers,
 pub building-refusals : (file : List ℕ) (n : ℕ) (why : Refusal) → atlasMade file n .reply ≡ refused why → Listed buildingNumbers (why .number)
-unfolding atlasMade atlasIn
+unfolding atlasMade builtIn
 building-refusals file n why =
-    number-of (replied-numbered n (then-reply (head-numbered (still-listed headerNumbers (16 ∷ 34 ∷ 35 ∷ [])) false differ file) (λ head. atlas-numbered file head n)))
+    number-of (replied-numbered n (then-reply (head-numbered (still-listed headerNumbers (16 ∷ 34 ∷ 35 ∷ [])) false differ file) (λ head. words-numbered atlasOf file head n)))
 
 -- and leaves every word zero.
 pub building-refusal-zeroes : (file : List ℕ) (n : ℕ) (why : Refusal) → atlasMade file n .reply ≡ refused why → atlasMade file n .words ≡ zeros n
@@ -74,9 +68,9 @@ module _ (file words : List ℕ) (location : Location) (asked : Bool) (n room : 
 
 -- ---- what the promises fix
 -- Two replies that a promise permits are equal, with all lent output: of `lookup_atlas`,
-pub same-atlas : (file words : List ℕ) (location : Location) (asked : Bool) (n room : ℕ) (r r′ : Looked) (hs hs′ ts ts′ : List ℕ)
+pub atlas-one-reply : (file words : List ℕ) (location : Location) (asked : Bool) (n room : ℕ) (r r′ : Looked) (hs hs′ ts ts′ : List ℕ)
     → replied (toldLooked r) hs ts ≡ lookedAtlas file words location asked n room → replied (toldLooked r′) hs′ ts′ ≡ lookedAtlas file words location asked n room → (r ≡ r′) × (hs ≡ hs′) × (ts ≡ ts′)
-same-atlas = atlas-safe
+atlas-one-reply = atlas-safe
 
 -- of `build_atlas`,
 pub same-atlas-built : (file : List ℕ) (n : ℕ) (r r′ : Built) (ws ws′ : List ℕ) → indexed (toldBuilt r) ws ≡ atlasMade file n → indexed (toldBuilt r′) ws′ ≡ atlasMade file n → (r ≡ r′) × (ws ≡ ws′)

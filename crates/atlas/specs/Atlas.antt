@@ -1,10 +1,10 @@
 -- The atlas of a file, as document 04's A-1 has it with one level of groups and without boxes over lists: the words of the index, the length of all words, for each entry where its
 -- border's marks stand, and the marks.
-use Rattle.numbers.specs.{Prelude.{ℕ, _+_, _%_, _^_, length, Bool, false, List, [], _∷_, _++_}, Reply.{Reply, given, refused, plain, demand, _>>=_, _>>_}}
-use Rattle.header.specs.{Header.{headOf}, declared.header.Head.{Head}}
-use Rattle.index.specs.{Index.{joined, hasRoom, indexOf, Indexed, indexedBy}, Own.{isSame}, Table.{tableOf}}
+use Rattle.numbers.specs.{Prelude.{ℕ, _+_, _%_, _^_, length, Bool, false, List, [], _∷_, _++_}, Reply.{Reply, given, refused, plain, demand}}
+use Rattle.header.specs.declared.header.Head.{Head}
+use Rattle.index.specs.{Index.{joined, indexOf, builtWith, builtIn, Indexed, indexedBy}, Own.{isSame}}
 use Rattle.marks.specs.Marks.{low, marksAt}
-use Rattle.table.specs.{Find.{isPrecision}, MarkedRows.{encodingIn}, declared.rows.Row.{Row}}
+use Rattle.table.specs.{MarkedRows.{encodingIn}, declared.rows.Row.{Row}}
 
 -- the marks of the border at a place of the data
 abbrev pub marksFor : List ℕ → Head → ℕ → List ℕ
@@ -37,18 +37,12 @@ wholeOf index beside = index ++ (low (length index + 1 + length beside) ∷ besi
 unfoldable pub atlasOf : List ℕ → Head → List Row → List ℕ
 atlasOf file head rows = wholeOf (indexOf file head rows) (besideOf (marksIn file head rows))
 
--- opening's refusals, 16, 34, and 35 last
-unfoldable pub atlasWith : List ℕ → Head → ℕ → Reply (List ℕ)
-atlasWith file head room = do
-  demand (isPrecision (head .preamble .precision)) (plain 16)
-  rows ← tableOf file head
-  demand (hasRoom room (length (atlasOf file head rows))) (plain 35)
-  given (atlasOf file head rows)
+-- opening's refusals, 16, 34, and 35 last, as of the index
+abbrev pub atlasWith : List ℕ → Head → ℕ → Reply (List ℕ)
+atlasWith = builtWith atlasOf
 
-unfoldable pub atlasIn : List ℕ → ℕ → Reply (List ℕ)
-atlasIn file room = do
-  head ← headOf file
-  atlasWith file head room
+abbrev pub atlasIn : List ℕ → ℕ → Reply (List ℕ)
+atlasIn = builtIn atlasOf
 
 -- how many words are used, and all lent words: zeros behind the atlas, and all zeros where it is refused
 unfoldable pub atlasMade : List ℕ → ℕ → Indexed

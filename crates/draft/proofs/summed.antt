@@ -8,3 +8,4 @@ pub mod Reached
 pub mod Wholes
 pub mod Filed
 pub mod Finishing
+pub mod Resting

@@ -29,16 +29,31 @@ abbrev pub zeroed : ℕ → List ℕ → List ℕ
 zeroed i d = take i (zeros (length d)) ++ drop i d
 
 module _ (d : List ℕ) (i : ℕ) where
-  pub zeroed-suc : i < length d → set (zeroed i d) i 0 ≡ zeroed (i + 1) d
+  zeroed-suc : i < length d → set (zeroed i d) i 0 ≡ zeroed (i + 1) d
   zeroed-suc h = ap (set (zeroed i d) i) (sym (getD-replicate (length d) i 0 0 h)) ∙ copied-suc (zeros (length d)) d i (rw length-replicate h) h
 
-  pub zeroed-length : i ≤ length d → length (zeroed i d) ≡ length d
+  zeroed-length : i ≤ length d → length (zeroed i d) ≡ length d
   zeroed-length h = copied-length (zeros (length d)) d i (rw length-replicate h) h
 
-  pub zeroed-all : i ≤ length d → length d ≤ i → zeroed i d ≡ zeros (length d)
+  zeroed-all : i ≤ length d → length d ≤ i → zeroed i d ≡ zeros (length d)
   zeroed-all le ge =
       copied-all (zeros (length d)) d i (rw length-replicate le) (rw length-replicate ge) ∙ ap (λ (r : List ℕ). zeros (length d) ++ r)
       (ap (λ (k : ℕ). drop k d) (length-replicate (length d) 0) ∙ drop-length d) ∙ append-nil (zeros (length d))
+
+-- a loop that zeroes a buffer: before each turn i zeros stand over the front
+pub record Zeroing (d now : List ℕ) (i : ℕ) : Type 0 where
+  pub inside : i ≤ length d
+  pub is : now ≡ zeroed i d
+
+module _ {d now : List ℕ} {i : ℕ} (z : Zeroing d now i) where
+  pub zeroing-length : length now ≡ length d
+  zeroing-length = ap length (z .is) ∙ zeroed-length d i (z .inside)
+
+  pub zeroing-on : i < length now → Zeroing d (set now i 0) (i + 1)
+  zeroing-on h = let more : i < length d = omega (arith, zeroing-length) in record { inside = omega arith; is = rw (z .is) (zeroed-suc d i more) }
+
+  pub zeroing-done : length now ≤ i → now ≡ zeros (length d)
+  zeroing-done h = z .is ∙ zeroed-all d i (z .inside) (omega (arith, zeroing-length))
 
 pub of-length : (xs : List ℕ) (n : ℕ) → xs ≡ zeros n → length xs ≡ n
 of-length xs n e = ap length e ∙ length-replicate n 0

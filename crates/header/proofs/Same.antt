@@ -36,15 +36,15 @@ pub same-string : (strict : Bool) (file : List ℕ) (metadata place : ℕ) (r r�
 same-string strict file metadata place = one-answer toldText textBack text-same
 
 -- the reply and the whole text
-pub same-open-strict : (file : List ℕ) (room : ℕ) (r r′ : Opened) (text text′ : List ℕ) → replied r text ≡ openedStrictly file room → replied r′ text′ ≡ openedStrictly file room →
-    (r ≡ r′) × (text ≡ text′)
-same-open-strict file room r r′ text text′ e e′ = (
+same-opened : {promised : Replied} (r r′ : Opened) (text text′ : List ℕ) → replied r text ≡ promised → replied r′ text′ ≡ promised → (r ≡ r′) × (text ≡ text′)
+same-opened r r′ text text′ e e′ = (
   one-answer toldOpened openedBack opened-same r r′ (ap (λ (x : Replied). x .reply) e) (ap (λ (x : Replied). x .reply) e′),
   ap (λ (x : Replied). x .text) (e ∙ sym e′),
 )
 
+pub same-open-strict : (file : List ℕ) (room : ℕ) (r r′ : Opened) (text text′ : List ℕ) → replied r text ≡ openedStrictly file room → replied r′ text′ ≡ openedStrictly file room →
+    (r ≡ r′) × (text ≡ text′)
+same-open-strict file room = same-opened
+
 pub same-open : (file : List ℕ) (room : ℕ) (r r′ : Opened) (text text′ : List ℕ) → replied r text ≡ openedOf file room → replied r′ text′ ≡ openedOf file room → (r ≡ r′) × (text ≡ text′)
-same-open file room r r′ text text′ e e′ = (
-  one-answer toldOpened openedBack opened-same r r′ (ap (λ (x : Replied). x .reply) e) (ap (λ (x : Replied). x .reply) e′),
-  ap (λ (x : Replied). x .text) (e ∙ sym e′),
-)
+same-open file room = same-opened

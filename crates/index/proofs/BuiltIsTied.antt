@@ -5,7 +5,7 @@ use Rattle.numbers.{proofs.Replies.{given-from, demanded, given-one}, specs.{Li
 use Rattle.table.specs.{Find.{isPrecision}, declared.rows.Row.{Row}}
 use Rattle.header.specs.{Header.{preambleOf, contentsBy, headBy, headOf}, declared.header.Head.{Head}}
 use Rattle.index.proofs.{Keeping.{packed-length}, Sides.{and-rest}, Tabling.{records-length}, Tying.{end-decides, tied-so, tied-not}, Whole.{lists-length, starts-length}}
-use Rattle.index.specs.Index.{recordsOf, fourAt, packedFrom, wordsFor, keptOf, listsFrom, joined, startsFrom, tiles, recordsAt, listsAt, indexOf, hasRoom, indexWith, indexIn, indexedBy}
+use Rattle.index.specs.Index.{recordsOf, fourAt, packedFrom, wordsFor, keptOf, listsFrom, joined, startsFrom, tiles, recordsAt, listsAt, indexOf, hasRoom, indexIn, indexedBy, builtIn, builtWith}
 use Rattle.index.specs.{Index.{indexedOf}, Table.{tableOf}, Tied.{wordAt, isHeaded, keepsFrom, isTied, tiedOf}}
 
 -- ---- kept bytes
@@ -119,7 +119,7 @@ module _ (file : List ℕ) (head : Head) (rows : List Row) (rest : List ℕ) whe
 
 -- ---- what building gave
 words-tied : (file : List ℕ) (n : ℕ) {words : List ℕ} → given words ≡ indexIn file n → given tt ≡ tiedOf file (padded n words)
-unfolding indexIn indexWith
+unfolding builtIn builtWith
 words-tied file n {words} e = let opened = given-from (headOf file) _ e in let head = opened .it in
     let fine = demanded (isPrecision (head .preamble .precision)) (plain 16) (opened .onto) in let table = given-from (tableOf file head) _ (fine .1) in
     let room = demanded (hasRoom n (length (indexOf file head (table .it)))) (plain 35) (table .onto) in

@@ -6,8 +6,9 @@ use Rattle.table.{proofs.Agreeing.{Gave, gave, refused-so}, specs.{Find.{isPrec
 use Rattle.header.specs.{Header.{headOf}, declared.header.Head.{Head}}
 use Rattle.index.proofs.{Keeping.{packed-length}, Stores.{read-below, read-above, over-zeros}, Tabling.{records-length}}
 use Rattle.index.proofs.Whole.{read-stored, Holds, lists-of-rows, starts-length, lists-length, starts-fit, laid, index-length}
-use Rattle.index.specs.Index.{recordsOf, wordsFor, keptOf, listsFrom, joined, startsFrom, tiles, recordsAt, listsAt, indexOf, indexWith, indexIn, indexed, indexedBy, indexedOf}
-use Rattle.index.specs.{Table.{tableOf}, inner.Building.{listsIn, low, Listed, Recorded, Made}}
+use Rattle.index.specs.Index.{recordsOf, wordsFor, keptOf, listsFrom, joined, startsFrom, tiles, recordsAt, listsAt, indexOf, indexWith, indexIn, indexed, indexedBy, indexedOf, builtIn}
+use Rattle.index.specs.{Table.{tableOf}, inner.Building.{listsIn, low, Listed, Recorded}}
+use Rattle.zones.specs.Fields.{Wrote}
 
 pub precise : (precision : ℕ) → isPrecision precision ≡ true → (1 ≤ precision) × (precision ≤ 32)
 precise precision e = let h = both _ _ e in (leb-true _ _ (h .0), leb-true _ _ (h .1))
@@ -62,7 +63,7 @@ module _ (file : List ℕ) (head : Head) (i0 i1 i2 : List ℕ) (n begin : ℕ) (
           (map low (startsFrom begin (listsIn i3 (head .preamble .precision) n tiles 0))) ∙ length-sets i3 begin (joined (listsIn i3 (head .preamble .precision) n tiles 0))
           ∙ ap length h ∙ length-sets i2 0 (length file ∷ head .sections .metadata ∷ n ∷ []) ∙ length-two
 
-      pub made : i0 ≡ zeros (length i0) → used ≤ length i0 → used < 2 ^ 32 → Made (length i0) i4 words used
+      pub made : i0 ≡ zeros (length i0) → used ≤ length i0 → used < 2 ^ 32 → Wrote (length i0) i4 words used
       unfolding indexOf
       made z fits small = let size = head .sections .metadata in let front = length file ∷ size ∷ length rows ∷ [] in let counted = t .fits .counted in
           let starts = startsFrom begin lists in let fit = starts-fit begin lists (omega (arith, long, used-is)) in record {
@@ -97,25 +98,25 @@ module _ (file : List ℕ) (n : ℕ) where
   unfolding indexedOf indexedBy
   refused-index {why} e z = ap (indexed (refused why)) z ∙ ap (indexedBy n) e
 
-  given-index : {words ws : List ℕ} {used : ℕ} → given words ≡ indexIn file n → Made n ws words used → indexed (given used) ws ≡ indexedOf file n
+  given-index : {words ws : List ℕ} {used : ℕ} → given words ≡ indexIn file n → Wrote n ws words used → indexed (given used) ws ≡ indexedOf file n
   unfolding indexedOf indexedBy
   given-index e m = (λ i. indexed (given (m .said i)) (m .kept i)) ∙ ap (indexedBy n) e
 
   -- where the file is refused
   pub not-opened : {why : Refusal} {ws : List ℕ} → refused why ≡ headOf file → ws ≡ zeros n → indexed (refused why) ws ≡ indexedOf file n
-  unfolding indexIn
+  unfolding builtIn
   not-opened e z = refused-index (carried e (λ head. indexWith file head n)) z
 
-  module _ {head : Head} (e : given head ≡ headOf file) {n′ : ℕ} (same : n′ ≡ n) (reply : Reply ℕ) (ws : List ℕ) (agrees : Agrees (Made n′ ws) (indexWith file head n′) reply) where
-    settled : Agrees (Made n ws) (indexWith file head n) reply
-    settled = subst (λ (k : ℕ). Agrees (Made k ws) (indexWith file head k) reply) same agrees
+  module _ {head : Head} (e : given head ≡ headOf file) {n′ : ℕ} (same : n′ ≡ n) (reply : Reply ℕ) (ws : List ℕ) (agrees : Agrees (Wrote n′ ws) (indexWith file head n′) reply) where
+    settled : Agrees (Wrote n ws) (indexWith file head n) reply
+    settled = subst (λ (k : ℕ). Agrees (Wrote k ws) (indexWith file head k) reply) same agrees
 
     opened : indexWith file head n ≡ indexIn file n
-    unfolding indexIn
+    unfolding builtIn
     opened = onward e (λ head. indexWith file head n)
 
     pub built : {used : ℕ} → reply ≡ given used → indexed (given used) ws ≡ indexedOf file n
-    built r = let g = gave (Made n ws) (indexWith file head n) settled r in given-index (g .is ∙ opened) (g .fits)
+    built r = let g = gave (Wrote n ws) (indexWith file head n) settled r in given-index (g .is ∙ opened) (g .fits)
 
     pub not-built : {why : Refusal} {zs : List ℕ} → reply ≡ refused why → zs ≡ zeros n → indexed (refused why) zs ≡ indexedOf file n
-    not-built r z = refused-index (refused-so (Made n ws) (indexWith file head n) settled r ∙ opened) z
+    not-built r z = refused-index (refused-so (Wrote n ws) (indexWith file head n) settled r ∙ opened) z

@@ -6,7 +6,7 @@ use Rattle.table.specs.{Find.{isPrecision}, declared.{location.Location.{Locati
 use Rattle.header.{proofs.Numbered.{headerNumbers, head-numbered}, specs.{Header.{headOf}, declared.header.Head.{Head}}}
 use Rattle.zones.specs.Lookup.{lookedUp}
 use Rattle.index.proofs.{Owning.{Only, own-opened, own-unopened, rest-only}, SameIndex.{Settled, settled}, Standing.{same-words, same-self}, ThroughIsPlain.{own-through, own-indexed}}
-use Rattle.index.specs.{Index.{recordsOf, recordsAt, indexOf, hasRoom, indexWith, indexIn, Indexed, indexed, indexedBy, indexedOf}, Own.{isSame, heldAgainst, isIndexOf}}
+use Rattle.index.specs.{Index.{recordsOf, recordsAt, indexOf, hasRoom, indexWith, indexIn, Indexed, indexed, indexedBy, indexedOf, builtIn, builtWith}, Own.{isSame, heldAgainst, isIndexOf}}
 use Rattle.index.specs.{Table.{bottom, tableOf}, Through.{lookedThrough, lookedIndexed}, inner.Own.{isAt, comparedOf, ownWith}}
 use Rattle.index.proofs.Owning as O
 use Rattle.index.proofs.SameIndex as SI
@@ -35,7 +35,7 @@ words-long : (n : ℕ) (whole : List ℕ) → length whole ≤ n → length (pad
 words-long n whole h = omega (arith, length-append whole (zeros (n - length whole)), length-replicate {A = ℕ} (n - length whole) 0, h)
 
 built-long : (file : List ℕ) (n : ℕ) {used : ℕ} → indexedOf file n .reply ≡ given used → length (indexedOf file n .words) ≡ n
-unfolding indexedOf indexIn indexWith indexedBy
+unfolding indexedOf builtIn builtWith indexedBy
 built-long file n {used} e = go (indexIn file n) refl e where
   fits : {words : List ℕ} → given words ≡ indexIn file n → length words ≤ n
   fits {words} w = let h = given-from (headOf file) (λ (head : Head). indexWith file head n) w in

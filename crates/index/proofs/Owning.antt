@@ -1,14 +1,14 @@
 -- Words held against an index, part by part: `is_index` is what its definition says. Assumes nothing.
 use Rattle.numbers.proofs.Prelude.{ℕ, zero, suc, _+_, _-_, _*_, _^_, _≤_, _<_, lt-ltb, le-leb, le-ltb, leb-true, ltb-true, lt-leb, eqb-true, eqb, ltb, leb, length, take, length-append}
 use Rattle.numbers.proofs.Prelude.{length-replicate, Bool, true, false, _&&_, List, [], _∷_, _++_, _≡_, refl, sym, ap, subst, _∙_, add-zero, arith}
-use Rattle.numbers.{proofs.{Refusals.{Listed}, Replies.{given-from, carried, onward, met, unmet, demanded, number-of, given-one}, Tests.{differ, both}}, specs.Answer.{if_then_else_}}
+use Rattle.numbers.{proofs.{Refusals.{Listed}, Replies.{given-from, carried, onward, met, unmet, demanded, number-of, given-one, demand-met}, Tests.{differ, both}}, specs.Answer.{if_then_else_}}
 use Rattle.numbers.specs.{Lists.{zeros, padded}, Reply.{Reply, given, refused, plain, demand, _>>=_, _>>_}, declared.refusal.Refusal.{Refusal}}
 use Rattle.table.specs.{Find.{isPrecision}, declared.rows.Row.{Row}}
 use Rattle.header.{proofs.Numbered.{headerNumbers, head-numbered}, specs.{Header.{headOf}, declared.header.Head.{Head}}}
 use Rattle.index.proofs.{Comparing.{stands-place}, Keeping.{packed-length}, SameIndex.{Settled, settled}}
 use Rattle.index.proofs.{Standing.{so-both, at-append, at-read, at-inside, at-rest, at-here, same-words, same-self}, Tabling.{records-length}}
 use Rattle.index.proofs.Whole.{Holds, lists-of-rows, starts-length, lists-length, bad-precision, bad-table, index-length, with-room, without, has-room}
-use Rattle.index.specs.Index.{fourAt, packedFrom, wordsFor, keptOf, recordsOf, listsFrom, joined, startsFrom, tiles, recordsAt, listsAt, indexOf, hasRoom, indexWith, indexIn, indexedBy}
+use Rattle.index.specs.Index.{fourAt, packedFrom, wordsFor, keptOf, recordsOf, listsFrom, joined, startsFrom, tiles, recordsAt, listsAt, indexOf, hasRoom, indexWith, indexedBy, builtIn}
 use Rattle.index.specs.{Index.{indexedOf}, Own.{isSame, heldAgainst, isIndexOf}, Table.{bottom, tableOf}, Tied.{wordAt, keepsFrom}, inner.Building.{listsIn}}
 use Rattle.index.specs.inner.Own.{isWord, isAt, standsFrom, listsStand, isEmptyFrom, comparedOf, restOf, ownWith}
 use Rattle.index.proofs.SameIndex as SI
@@ -145,29 +145,26 @@ module _ (file : List ℕ) (head : Head) (words : List ℕ) where
     unfolding heldAgainst indexedBy
     held-only = by-room (hasRoom n (length whole)) refl where
       by-room : (h : Bool) → hasRoom n (length whole) ≡ h → Only (held (indexWith file head n))
-      by-room true h = subst (λ (x : Reply (List ℕ)). Only (held x)) (with-room file head n fine t h) (demand-only (isSame words (padded n whole))) where
+      by-room true h = subst (λ (x : Reply (List ℕ)). Only (held x)) (with-room indexOf file head n fine t h) (demand-only (isSame words (padded n whole))) where
         demand-only : (test : Bool) → Only (demand test (plain 36))
         demand-only true = gives
         demand-only false = other
-      by-room false h = subst (λ (x : Reply (List ℕ)). Only (held x)) (without file head n fine t h) other
+      by-room false h = subst (λ (x : Reply (List ℕ)). Only (held x)) (without indexOf file head n fine t h) other
 
     -- where the words hold, they are what building leaves
     held-so : given tt ≡ held (indexWith file head n) → (hasRoom n (length whole) ≡ true) × (words ≡ padded n whole)
     unfolding heldAgainst indexedBy
     held-so e = by-room (hasRoom n (length whole)) refl where
       by-room : (h : Bool) → hasRoom n (length whole) ≡ h → (hasRoom n (length whole) ≡ true) × (words ≡ padded n whole)
-      by-room true h = let d : given tt ≡ demand (isSame words (padded n whole)) (plain 36) = e ∙ ap held (sym (with-room file head n fine t h)) in
-          (h, same-words words (padded n whole) (tested (isSame words (padded n whole)) d)) where
-            tested : (test : Bool) → given tt ≡ demand test (plain 36) → test ≡ true
-            tested true e = refl
-            tested false e = let z : _≡_ {A = ℕ} 0 1 = cc in absurd (omega arith)
-      by-room false h = let d : given tt ≡ refused (plain 36) = e ∙ ap held (sym (without file head n fine t h)) in let z : _≡_ {A = ℕ} 0 1 = cc in
+      by-room true h = let d : given tt ≡ demand (isSame words (padded n whole)) (plain 36) = e ∙ ap held (sym (with-room indexOf file head n fine t h)) in
+          (h, same-words words (padded n whole) (demand-met (isSame words (padded n whole)) (plain 36) (sym d)))
+      by-room false h = let d : given tt ≡ refused (plain 36) = e ∙ ap held (sym (without indexOf file head n fine t h)) in let z : _≡_ {A = ℕ} 0 1 = cc in
           absurd (omega arith)
 
     so-held : length whole ≤ n → length whole < 2 ^ 32 → words ≡ padded n whole → given tt ≡ held (indexWith file head n)
     unfolding heldAgainst indexedBy
     so-held fits small e = let same : isSame words (padded n whole) ≡ true = ap (isSame words) (sym e) ∙ same-self words in
-        ap (λ (b : Bool). demand b (plain 36)) (sym same) ∙ ap held (has-room file head n fine t fits small)
+        ap (λ (b : Bool). demand b (plain 36)) (sym same) ∙ ap held (has-room indexOf file head n fine t fits small)
 
     -- all parts of words that building left
     all-there : words ≡ padded n whole → isAt words 0 (whole ++ zeros (n - length whole)) ≡ true
@@ -233,20 +230,20 @@ module _ (file : List ℕ) (head : Head) (words : List ℕ) where
   by-table : isPrecision precision ≡ true → (table : Reply (List Row)) → Settled table → table ≡ tableOf file head → ownWith file head words ≡ held (indexWith file head n)
   unfolding ownWith comparedOf heldAgainst indexedBy
   by-table fine (given rows) s t = rows-own fine t
-  by-table fine (refused why) SI.bad t = sym (carried (carried t _) _ ∙ met fine (plain 16) _) ∙ ap held (bad-table file head n fine t)
+  by-table fine (refused why) SI.bad t = sym (carried (carried t _) _ ∙ met fine (plain 16) _) ∙ ap held (bad-table indexOf file head n fine t)
 
   by-precision : (p : Bool) → isPrecision precision ≡ p → ownWith file head words ≡ held (indexWith file head n)
   unfolding ownWith heldAgainst indexedBy tableOf
   by-precision true p = by-table p (tableOf file head) (settled size bottom _) refl
-  by-precision false p = sym (unmet p (plain 16) _) ∙ ap held (bad-precision file head n p)
+  by-precision false p = sym (unmet p (plain 16) _) ∙ ap held (bad-precision indexOf file head n p)
 
   pub own-opened : given head ≡ headOf file → ownWith file head words ≡ isIndexOf file words
-  unfolding isIndexOf indexedOf indexIn
+  unfolding isIndexOf indexedOf builtIn
   own-opened e = by-precision (isPrecision precision) refl ∙ ap held (onward e (λ (h : Head). indexWith file h n))
 
 -- a file that is refused
 pub own-unopened : (file words : List ℕ) {why : Refusal} → refused why ≡ headOf file → refused why ≡ isIndexOf file words
-unfolding isIndexOf indexedOf indexIn heldAgainst indexedBy
+unfolding isIndexOf indexedOf builtIn heldAgainst indexedBy
 own-unopened file words {why} e =
     ap refused (chosen (eqb (why .number) 35) refl)
     ∙ ap (λ (x : Reply (List ℕ)). heldAgainst words (indexedBy (length words) x .reply) (indexedBy (length words) x .words)) (carried e (λ head. indexWith file head (length words))) where

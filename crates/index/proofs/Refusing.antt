@@ -2,8 +2,8 @@
 use Rattle.numbers.proofs.{Prelude.{ℕ, ℤ, length, false, List, [], _∷_, _++_, _≡_, refl, arith}, Refusals.{Listed, still-listed}, Replies.{NumberedReply, answers, refuses, then-reply, and-then}}
 use Rattle.numbers.{proofs.{Replies.{demands, number-of}, Tests.{differ}}, specs.{Lists.{zeros}, Reply.{Reply, given, refused, plain}, declared.refusal.Refusal.{Refusal}}}
 use Rattle.header.{proofs.Numbered.{headerNumbers, head-numbered}, specs.declared.header.Head.{Head}}
-use Rattle.table.specs.{Find.{isPrecision}, Ordered.{lowest}, Rows.{Rows, row, tableEnd, unreadable, rowsIn}}
-use Rattle.index.specs.{Index.{indexOf, hasRoom, indexWith, indexIn, indexedBy, indexedOf}, Table.{isNext, tableFrom, bottom, tableOf}, Tied.{isTied, tiedOf}}
+use Rattle.table.specs.{Find.{isPrecision}, Ordered.{lowest}, Rows.{Rows, row, tableEnd, unreadable, rowsIn}, declared.rows.Row.{Row}}
+use Rattle.index.specs.{Index.{indexOf, hasRoom, indexIn, indexedBy, indexedOf, builtIn, builtWith}, Table.{isNext, tableFrom, bottom, tableOf}, Tied.{isTied, tiedOf}}
 use Rattle.table.specs.Rows as T
 
 -- opening's, and: precision 16, table 34, room 35
@@ -22,11 +22,11 @@ table-numbered end floor tableEnd = answers
 table-numbered end floor unreadable = refuses refl
 table-numbered end floor (T.refused n) = refuses refl
 
-words-numbered : (file : List ℕ) (head : Head) (room : ℕ) → NumberedReply (Listed buildingNumbers) (indexWith file head room)
-unfolding indexWith tableOf
-words-numbered file head room =
+pub words-numbered : (wordsOf : List ℕ → Head → List Row → List ℕ) (file : List ℕ) (head : Head) (room : ℕ) → NumberedReply (Listed buildingNumbers) (builtWith wordsOf file head room)
+unfolding builtWith tableOf
+words-numbered wordsOf file head room =
     and-then (demands (isPrecision (head .preamble .precision)) (plain 16) refl) (then-reply (table-numbered (head .sections .metadata) bottom (rowsIn file head))
-    (λ rows. and-then (demands (hasRoom room (length (indexOf file head rows))) (plain 35) refl) answers))
+    (λ rows. and-then (demands (hasRoom room (length (wordsOf file head rows))) (plain 35) refl) answers))
 
 pub replied-numbered : (n : ℕ) {reply : Reply (List ℕ)} → NumberedReply (Listed buildingNumbers) reply → NumberedReply (Listed buildingNumbers) (indexedBy n reply .reply)
 unfolding indexedBy
@@ -35,9 +35,9 @@ replied-numbered n (refuses h) = refuses h
 
 -- A building that is not answered is refused with one of these.
 pub index-refusals : (file : List ℕ) (n : ℕ) (why : Refusal) → indexedOf file n .reply ≡ refused why → Listed buildingNumbers (why .number)
-unfolding indexedOf indexIn
+unfolding indexedOf builtIn
 index-refusals file n why =
-    number-of (replied-numbered n (then-reply (head-numbered (still-listed headerNumbers (16 ∷ 34 ∷ 35 ∷ [])) false differ file) (λ head. words-numbered file head n)))
+    number-of (replied-numbered n (then-reply (head-numbered (still-listed headerNumbers (16 ∷ 34 ∷ 35 ∷ [])) false differ file) (λ head. words-numbered indexOf file head n)))
 
 pub no-words : (n : ℕ) (reply : Reply (List ℕ)) (why : Refusal) → indexedBy n reply .reply ≡ refused why → indexedBy n reply .words ≡ zeros n
 unfolding indexedBy

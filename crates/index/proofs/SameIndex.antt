@@ -4,7 +4,7 @@ use Rattle.numbers.{proofs.{ReadAlike.{reading-alike}, Readings.{reading-grows}
 use Rattle.table.specs.{Find.{isPrecision}, Ordered.{lowest}, Rows.{Rows, row, tableEnd, unreadable, startAt, rowsFrom, rowsIn}, declared.rows.Row.{Row}}
 use Rattle.header.specs.{Header.{headOf}, declared.header.Head.{Head}}
 use Rattle.index.proofs.SameReading.{table-alike}
-use Rattle.index.specs.{Index.{indexOf, hasRoom, indexWith, indexIn, indexedBy, indexedOf}, Table.{isNext, tableFrom, bottom, tableOf}}
+use Rattle.index.specs.{Index.{indexOf, hasRoom, indexWith, indexedBy, indexedOf, builtIn, builtWith}, Table.{isNext, tableFrom, bottom, tableOf}}
 use Rattle.table.specs.Rows as T
 
 -- ---- a table is a list or 34
@@ -49,13 +49,13 @@ module _ (file file′ : List ℕ) (head : Head) (long : length file ≡ length 
   same-words rows = rw (long, bytes)
 
   same-with : (n : ℕ) → indexWith file head n ≡ indexWith file′ head n
-  unfolding indexWith
+  unfolding builtWith
   same-with n = let k : List ℕ → Reply (List ℕ) = λ words. demand (hasRoom n (length words)) (plain 35) >> given words in
       let precise : Reply (List ℕ) → Reply (List ℕ) = λ reply. demand (isPrecision (head .preamble .precision)) (plain 16) >> reply in
       ap (λ (table : Reply (List Row)). precise (table >>= λ rows. k (indexOf file head rows))) same-table ∙ ap precise (after (tableOf file′ head) (λ rows. ap k (same-words rows)))
 
   -- Two files that open with the same header, are of one length and have the same bytes up to the metadata have the same index, or the same refusal.
   pub same-index : given head ≡ headOf file → given head ≡ headOf file′ → (n : ℕ) → indexedOf file n ≡ indexedOf file′ n
-  unfolding indexedOf indexIn
+  unfolding indexedOf builtIn
   same-index e e′ n =
       ap (λ (reply : Reply (List ℕ)). indexedBy n reply) (sym (onward e (λ (h : Head). indexWith file h n)) ∙ same-with n ∙ onward e′ (λ (h : Head). indexWith file′ h n))

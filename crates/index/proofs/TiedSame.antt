@@ -1,16 +1,16 @@
 -- Words that building gave for one file are tied to another exactly where length, header and table are the same. Assumes nothing.
 use Rattle.numbers.proofs.Prelude.{ℕ, zero, suc, _+_, _-_, _*_, _^_, _≤_, _<_, leb-true, eqb-true, leb-false, eqb, leb, length, take, getD, length-take, Bool, true, false, _&&_, List, [], _∷_, _≡_}
 use Rattle.numbers.proofs.Prelude.{refl, sym, ap, subst, _∙_, arith}
-use Rattle.numbers.{proofs.{Replies.{given-from, demanded, given-one}, Tests.{both}}, specs.{Answer.{if_then_else_}, Lists.{padded}, Reply.{Reply, given, refused, plain, demand}}}
+use Rattle.numbers.{proofs.{Replies.{given-from, demanded, given-one, demand-met}, Tests.{both}}, specs.{Answer.{if_then_else_}, Lists.{padded}, Reply.{Reply, given, refused, plain}}}
 use Rattle.table.specs.Find.{isPrecision}
 use Rattle.header.{proofs.SameHead.{same-head}, specs.{Header.{headOf}, declared.header.Head.{Head}}}
 use Rattle.index.proofs.{BuiltIsTied.{built-is-tied}, SameIndex.{same-index}, Tying.{tied-so, tied-not}}
-use Rattle.index.specs.{Complete.{Bytes, BuiltFrom, SameFront}, Index.{fourAt, wordsFor, recordsAt, indexOf, hasRoom, indexWith, indexIn, Indexed, indexedBy, indexedOf}, Table.{tableOf}}
-use Rattle.index.specs.Tied.{wordAt, keepsFrom, isTied, tiedOf}
+use Rattle.index.specs.{Complete.{Bytes, BuiltFrom, SameFront}, Index.{fourAt, wordsFor, recordsAt, indexOf, hasRoom, builtWith, builtIn, indexIn, Indexed, indexedBy, indexedOf}}
+use Rattle.index.specs.{Table.{tableOf}, Tied.{wordAt, keepsFrom, isTied, tiedOf}}
 
 -- ---- what building gave came from a table
 words-from : (file : List ℕ) (n : ℕ) {words : List ℕ} → given words ≡ indexIn file n → BuiltFrom file n (padded n words)
-unfolding indexIn indexWith
+unfolding builtIn builtWith
 words-from file n {words} e = let opened = given-from (headOf file) _ e in let head = opened .it in
     let fine = demanded (isPrecision (head .preamble .precision)) (plain 16) (opened .onto) in let table = given-from (tableOf file head) _ (fine .1) in
     let room = demanded (hasRoom n (length (indexOf file head (table .it)))) (plain 35) (table .onto) in
@@ -110,10 +110,7 @@ unfolding tiedOf
 tied-yes file words {head} e t = let opened = given-from (headOf file) _ t in
     let fine = demanded (isPrecision (opened .it .preamble .precision)) (plain 16) (opened .onto) in
     let same : opened .it ≡ head = given-one (opened .is ∙ sym e) in
-    subst (λ (h : Head). isTied file h words ≡ true) same (yes-only (isTied file (opened .it) words) (fine .1)) where
-      yes-only : (test : Bool) → given tt ≡ demand test (plain 36) → test ≡ true
-      yes-only true e = refl
-      yes-only false e = let z : _≡_ {A = ℕ} 0 1 = cc in absurd (omega arith)
+    subst (λ (h : Head). isTied file h words ≡ true) same (demand-met (isTied file (opened .it) words) (plain 36) (sym (fine .1)))
 
 -- ---- exactly where they differ
 module _ (file file′ : List ℕ) (n : ℕ) {used : ℕ} (e : indexedOf file n .reply ≡ given used) {head head′ : Head} (opened : given head ≡ headOf file) (opened′ : given head′ ≡ headOf file′) where

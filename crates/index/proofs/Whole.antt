@@ -5,7 +5,7 @@ use Rattle.numbers.{proofs.{Lists.{sets-append}, Replies.{carried, onward, met,
 use Rattle.table.specs.{Find.{isPrecision}, declared.rows.Row.{Row}}
 use Rattle.header.specs.declared.header.Head.{Head}
 use Rattle.index.proofs.{Keeping.{packed-length}, Stores.{sets-before, read-below}, Tabling.{records-length}}
-use Rattle.index.specs.{Index.{recordOf, recordsOf, wordsFor, keptOf, listFrom, listsFrom, joined, startsFrom, tiles, recordsAt, listsAt, indexOf, hasRoom, indexWith}, Table.{tableOf}}
+use Rattle.index.specs.{Index.{recordOf, recordsOf, wordsFor, keptOf, listFrom, listsFrom, joined, startsFrom, tiles, recordsAt, listsAt, indexOf, hasRoom, builtWith}, Table.{tableOf}}
 use Rattle.index.specs.{Tiles.{wordOf, tileAt, meets}, declared.tiles.Tile.{Tile}, inner.Building.{isMetIn, listIn, listsIn, low}}
 use mathlib.Core.Bool.{and-false}
 
@@ -88,52 +88,57 @@ laid z a b c d e k l la lb lk ll = let cd = c ++ d in
     ap (λ (m : List ℕ). sets (sets (sets m 0 a) l e) 3 b) joint ∙ ap (λ (m : List ℕ). sets (sets m l e) 3 b) first ∙ ap (λ (m : List ℕ). sets m 3 b) last
     ∙ places ∙ ap (λ (m : List ℕ). sets m recordsAt (cd ++ e)) ab ∙ all ∙ ap (λ (x : List ℕ). sets z 0 x) shape
 
--- ---- the reply
-module _ (file : List ℕ) (head : Head) (room : ℕ) where
+-- ---- how long an index is
+module _ (file : List ℕ) (head : Head) (room : ℕ) (fine : isPrecision (head .preamble .precision) ≡ true) {rows : List Row} (t : given rows ≡ tableOf file head) where
+  abbrev lists : List (List ℕ)
+  lists = listsFrom (head .preamble .precision) rows tiles 0
+
+  abbrev begin : ℕ
+  begin = listsAt (length rows) (head .sections .metadata)
+
+  pub index-length : length (indexOf file head rows) ≡ begin + length (joined lists)
+  unfolding indexOf
+  index-length = let size = head .sections .metadata in let kept = keptOf file size in
+      omega (
+        arith,
+        length-append (startsFrom begin lists) (recordsOf rows ++ (kept ++ joined lists)),
+        length-append (recordsOf rows) (kept ++ joined lists),
+        length-append kept (joined lists),
+        starts-length begin lists,
+        lists-length (head .preamble .precision) rows tiles 0,
+        records-length rows,
+        packed-length (take size file) (wordsFor size) 0,
+      )
+
+-- ---- the reply of a building, whichever words it makes
+module _ (wordsOf : List ℕ → Head → List Row → List ℕ) (file : List ℕ) (head : Head) (room : ℕ) where
   -- where the precision is bad
-  pub bad-precision : isPrecision (head .preamble .precision) ≡ false → refused (plain 16) ≡ indexWith file head room
-  unfolding indexWith
+  pub bad-precision : isPrecision (head .preamble .precision) ≡ false → refused (plain 16) ≡ builtWith wordsOf file head room
+  unfolding builtWith
   bad-precision e = unmet e (plain 16) _
 
   module _ (fine : isPrecision (head .preamble .precision) ≡ true) where
-    pub bad-table : {why : Refusal} → refused why ≡ tableOf file head → refused why ≡ indexWith file head room
-    unfolding indexWith
+    pub bad-table : {why : Refusal} → refused why ≡ tableOf file head → refused why ≡ builtWith wordsOf file head room
+    unfolding builtWith
     bad-table t = carried t _ ∙ met fine (plain 16) _
 
     module _ {rows : List Row} (t : given rows ≡ tableOf file head) where
-      abbrev lists : List (List ℕ)
-      lists = listsFrom (head .preamble .precision) rows tiles 0
+      abbrev words : List ℕ
+      words = wordsOf file head rows
 
-      abbrev begin : ℕ
-      begin = listsAt (length rows) (head .sections .metadata)
-
-      pub index-length : length (indexOf file head rows) ≡ begin + length (joined lists)
-      unfolding indexOf
-      index-length = let size = head .sections .metadata in let kept = keptOf file size in
-          omega (
-            arith,
-            length-append (startsFrom begin lists) (recordsOf rows ++ (kept ++ joined lists)),
-            length-append (recordsOf rows) (kept ++ joined lists),
-            length-append kept (joined lists),
-            starts-length begin lists,
-            lists-length (head .preamble .precision) rows tiles 0,
-            records-length rows,
-            packed-length (take size file) (wordsFor size) 0,
-          )
-
-      pub with-room : hasRoom room (length (indexOf file head rows)) ≡ true → given (indexOf file head rows) ≡ indexWith file head room
-      unfolding indexWith
+      pub with-room : hasRoom room (length words) ≡ true → given words ≡ builtWith wordsOf file head room
+      unfolding builtWith
       with-room h = met h (plain 35) _ ∙ onward t _ ∙ met fine (plain 16) _
 
-      pub without : hasRoom room (length (indexOf file head rows)) ≡ false → refused (plain 35) ≡ indexWith file head room
-      unfolding indexWith
+      pub without : hasRoom room (length words) ≡ false → refused (plain 35) ≡ builtWith wordsOf file head room
+      unfolding builtWith
       without h = unmet h (plain 35) _ ∙ onward t _ ∙ met fine (plain 16) _
 
-      pub no-room : room < length (indexOf file head rows) → refused (plain 35) ≡ indexWith file head room
+      pub no-room : room < length words → refused (plain 35) ≡ builtWith wordsOf file head room
       no-room h = without (rw (lt-leb _ _ h))
 
-      pub too-large : 2 ^ 32 ≤ length (indexOf file head rows) → refused (plain 35) ≡ indexWith file head room
-      too-large h = without (ap (λ (t : Bool). leb (length (indexOf file head rows)) room && t) (le-ltb _ _ h) ∙ and-false (leb (length (indexOf file head rows)) room))
+      pub too-large : 2 ^ 32 ≤ length words → refused (plain 35) ≡ builtWith wordsOf file head room
+      too-large h = without (ap (λ (t : Bool). leb (length words) room && t) (le-ltb _ _ h) ∙ and-false (leb (length words) room))
 
-      pub has-room : length (indexOf file head rows) ≤ room → length (indexOf file head rows) < 2 ^ 32 → given (indexOf file head rows) ≡ indexWith file head room
+      pub has-room : length words ≤ room → length words < 2 ^ 32 → given words ≡ builtWith wordsOf file head room
       has-room h k = with-room (rw (le-leb _ _ h, lt-ltb _ _ k))

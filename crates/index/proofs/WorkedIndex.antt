@@ -8,7 +8,7 @@ use Rattle.header.specs.{Header.{preambleOf, textsFrom, sectionsFrom, sectionsA
 use Rattle.header.specs.{Utf8.{characters, startedBy, begunBy, followed, goesOn, isUtf8}, declared.header.Head.{Head}}
 use Rattle.zones.specs.{Lent.{Replied, repliedOf}, Lookup.{lookedUp}, declared.lookup.Zones.{Zones}}
 use Rattle.index.proofs.{Owned.{built-is-index}, Through.{through-opened, indexed-untied}, ThroughIsPlain.{indexed-is-plain, own-front}}
-use Rattle.index.specs.{Index.{recordsOf, packedFrom, listFrom, listOf, listsFrom, joined, startsFrom, indexOf, indexWith, indexIn, indexedBy, indexedOf}, Own.{isIndexOf}}
+use Rattle.index.specs.{Index.{recordsOf, packedFrom, listFrom, listOf, listsFrom, joined, startsFrom, indexOf, builtWith, builtIn, indexedBy, indexedOf}, Own.{isIndexOf}}
 use Rattle.index.specs.{Table.{tableFrom, tableOf}, Through.{placeOf, zonesThrough, lookedThrough, lookedIndexed}, Tied.{isTied}, Tiles.{spanOf, tileAlong, tileOf, meets}}
 
 abbrev pub printed : List ℕ
@@ -54,7 +54,7 @@ printed-lists = refl
 pub printed-index : indexedOf printed 2066 .reply ≡ given 2066
 unfolding readingOf forwardAt valueOf sizeOf tooLong signedOf preambleOf textsFrom sectionsFrom sectionsAt contentsBy headBy within remoteAt stringAt bytesOf
     textAt characters startedBy begunBy followed goesOn isUtf8 stepsBy entryBy rowsThen rowBy rowsWithin rowsFrom rowsIn tableFrom tableOf listsFrom listFrom
-    joined meets spanOf recordsOf packedFrom startsFrom indexOf indexWith indexIn indexedBy indexedOf
+    joined meets spanOf recordsOf packedFrom startsFrom indexOf builtWith builtIn indexedBy indexedOf
 printed-index = refl
 
 -- so `is_index` says 0 of them,

@@ -85,17 +85,23 @@ indexOf file head rows =
 abbrev pub hasRoom : ℕ → ℕ → Bool
 hasRoom room used = leb used room && ltb used (2 ^ 32)
 
-unfoldable pub indexWith : List ℕ → Head → ℕ → Reply (List ℕ)
-indexWith file head room = do
-  demand (isPrecision (head .preamble .precision)) (plain 16)
-  rows ← tableOf file head
-  demand (hasRoom room (length (indexOf file head rows))) (plain 35)
-  given (indexOf file head rows)
+-- the words that its rows give for a file: an index's, or an atlas's
+module _ (wordsOf : List ℕ → Head → List Row → List ℕ) (file : List ℕ) where
+  unfoldable pub builtWith : Head → ℕ → Reply (List ℕ)
+  builtWith head room = do
+    demand (isPrecision (head .preamble .precision)) (plain 16)
+    rows ← tableOf file head
+    demand (hasRoom room (length (wordsOf file head rows))) (plain 35)
+    given (wordsOf file head rows)
 
-unfoldable pub indexIn : List ℕ → ℕ → Reply (List ℕ)
-indexIn file room = do
-  head ← headOf file
-  indexWith file head room
+  unfoldable pub builtIn : ℕ → Reply (List ℕ)
+  builtIn room = headOf file >>= λ head. builtWith head room
+
+abbrev pub indexWith : List ℕ → Head → ℕ → Reply (List ℕ)
+indexWith = builtWith indexOf
+
+abbrev pub indexIn : List ℕ → ℕ → Reply (List ℕ)
+indexIn = builtIn indexOf
 
 -- how many words are used, and all lent words: zeros behind the index, and all zeros where it is refused
 pub record Indexed : Type 0 where

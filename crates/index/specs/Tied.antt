@@ -1,14 +1,11 @@
 -- When an index goes with a file, as request Q-11 has it: by length, and by a full comparison of header and table.
-use Rattle.numbers.specs.Prelude.{ℕ, zero, suc, _+_, _*_, eqb, leb, length, take, getD, Bool, true, false, _&&_, List}
+use Rattle.numbers.specs.Prelude.{ℕ, zero, suc, _+_, _*_, eqb, leb, length, take, Bool, true, false, _&&_, List}
 use Rattle.numbers.specs.{Answer.{if_then_else_}, Reply.{Reply, given, refused, plain, demand, _>>=_, _>>_}}
 use Rattle.table.specs.Find.{isPrecision}
+pub use Rattle.marks.specs.Words.{wordAt}
 use Rattle.header.specs.{Header.{headOf}, declared.header.Head.{Head}}
 use Rattle.index.specs.{Index.{fourAt, wordsFor, recordsAt, listsAt}, declared.tied.Tied.{Tied}}
 use Rattle.index.specs.declared.tied.Tied.the-variants as T
-
--- a word, 0 behind the last
-abbrev pub wordAt : List ℕ → ℕ → ℕ
-wordAt words i = getD words i 0
 
 -- the lists begin where they must: behind so many records and the kept bytes
 abbrev pub beginOf : List ℕ → ℕ → ℕ

@@ -1,11 +1,8 @@
 -- The tiles of the fixed grid, as request Q-11 has them: 32 by latitude, 64 by longitude, and which boxes meet them.
-use Rattle.numbers.specs.{Answer.{if_then_else_}, Prelude.{ℕ, _+_, _-_, _*_, _/_, _%_, _^_, min, eqb, ltb, leb, ℤ, Bool, _&&_, w32, ofZ}}
+use Rattle.numbers.specs.{Answer.{if_then_else_}, Prelude.{ℕ, _+_, _-_, _*_, _/_, _%_, _^_, min, eqb, ltb, leb, Bool, _&&_}}
 use Rattle.border.specs.declared.place.Point.{Point}
+pub use Rattle.marks.specs.Marks.{wordOf}
 use Rattle.index.specs.declared.tiles.{Span.{Span}, Tile.{Tile}}
-
--- a fixed coordinate as a word: its 32 bits
-abbrev pub wordOf : ℤ → ℕ
-wordOf z = ofZ w32 z
 
 -- a coordinate's word counted from the lowest coordinate up: -2 ^ 31 is 0, and order is kept (`lifted-order`)
 abbrev pub lift : ℕ → ℕ

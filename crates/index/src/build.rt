@@ -2,9 +2,10 @@
 ghost use mathlib.Core.{Path.{_≡_}, List.{[], _∷_}};
 ghost use Prim.Native.Nat.{_^_, _<_};
 ghost use lib.{ListN.{length}, Seq.{sets}};
-ghost use Rattle.index.specs.{inner.Building.{Made}, Index.{indexWith, indexed, indexedOf, toldBuilt}};
+ghost use Rattle.index.specs.Index.{indexWith, indexed, indexedOf, toldBuilt};
 ghost use Rattle.numbers.specs.Lists.{zeros};
 ghost use Rattle.table.specs.inner.Agreeing.{Agrees};
+ghost use Rattle.zones.specs.Fields.{Wrote};
 use crate::entries::put_table;
 use crate::kept::put_kept;
 use crate::lists::put_lists;
@@ -49,7 +50,7 @@ fn put_head(index: &mut [u32], length: u32, size: u32, n: u32)
 // In words that are zero.
 fn fill(file: &[u8], head: Head, index: &mut [u32]) -> Built
     requires { ⌜ (now index ≡ zeros (length (now index))) × (length (now file) < 2 ^ 32) ⌝ }
-    ensures { λ r. ⌜ Agrees (Made (length (now (index .entry))) (now (index .exit))) (indexWith (now (file .entry)) head (length (now (index .entry)))) (toldBuilt r) ⌝ }
+    ensures { λ r. ⌜ Agrees (Wrote (length (now (index .entry))) (now (index .exit))) (indexWith (now (file .entry)) head (length (now (index .entry)))) (toldBuilt r) ⌝ }
 {
     let preamble = head.preamble;
     let sections = head.sections;

@@ -1,16 +1,19 @@
 -- After exported calls, answered or refused, words 8 to 12 of a builder's state are the totals of the yards that were added and not taken away; a refused call changes nothing. Assumes nothing.
-use Rattle.numbers.proofs.Prelude.{ℕ, _-_, _^_, _<_, eq-eqb, ne-eqb, ltb, leb, length, take, getD, false, _&&_, List, [], _∷_, _++_, inl, inr, _↔_, _≡_, refl, sym, ap, subst, _∙_, w32, ofZ, arith}
-use Rattle.numbers.{proofs.{Replies.{demanded}, Saying.{Answered}}, specs.{Lists.{zeros}, Reply.{Reply, given, refused, plain}, Spoken.{saidOf}, declared.refusal.Refusal.{Refusal}}}
+use Rattle.numbers.proofs.Prelude.{ℕ, _-_, _^_, _<_, eq-eqb, ne-eqb, ltb, leb, length, take, getD, true, false, _&&_, List, [], _∷_, _++_, inl, inr, _↔_, _≡_, refl, sym, ap, subst, _∙_}
+use Rattle.numbers.proofs.Prelude.{w32, ofZ, arith}
+use Rattle.numbers.{proofs.{Replies.{demanded}, Saying.{Answered}, Tests.{both}}, specs.{Lists.{zeros}, Reply.{Reply, given, refused, plain}, Spoken.{saidOf}, declared.refusal.Refusal.{Refusal}}}
 use Rattle.numbers.specs.declared.said.Said.{Said}
 use Rattle.add.{proofs.growing.Wider.{noted-by-wider}, specs.{Adding.Adds.{spaceFor}, Growing.Notes.{Notes}, declared.{adding.room.NoteRooms.{NoteRooms}, growing.grow.Added.{Added}}}}
-use Rattle.builder.{proofs.drawing.Lending.{never-given}, specs.{Borders.{drawnOf}, File.{headOf, isText, known, readable, upTo}, Yards.{Plan, Text, Yard}}}
+use Rattle.builder.{proofs.drawing.Lending.{never-given}, specs.{Borders.{drawnOf}, File.{builtOf, headOf, isText, known, readable, upTo}, Yards.{Plan, Text, Yard}}}
 use Rattle.edit.specs.Changing.{Begun.{Begins, blank}, Dropped.{leftSpace}}
-use Rattle.draft.proofs.held.{Adds.{add-given}, Wider.{holds-wider}}
+use Rattle.draft.proofs.held.{Adds.{add-given}, Ends.{finish-builds}, Wider.{holds-wider}}
+use Rattle.writer.specs.Writer.{every}
 use Rattle.draft.specs.Held.{Builder.{Builder, Offered, add, begin, changedAt, clear, dropLast, fitting, holding, joined, replace, summed, withValue, yardOf}, Space.{Space, standing}}
-use Rattle.draft.specs.{Held.{State.{Answers, Lists, heldAs}, Totals.{dataOf, drawnOr, fileSize, totalsFor, totalsOf}}, declared.held.{room.Rooms.{Rooms}, state.{Changed.{Changed}, Held.{Held}}}}
+use Rattle.draft.specs.{Held.{Sound.{roomFor}, State.{Answers, Lists, heldAs}, Totals.{dataOf, drawnOr, fileSize, totalsFor, totalsOf}}, Summed.Ends.{Files, Finishes, spaceOf}}
+use Rattle.draft.specs.declared.held.{room.Rooms.{Rooms}, state.{Changed.{Changed}, Held.{Held}}}
 use Rattle.office.proofs.{NotedDrafts.{Lasts, LastsOn, add-lasts, kept-lasts, noted-back}, NumberedDrafts.{add-zero, begin-zero, drop-zero, replace-zero}}
 use Rattle.office.specs.Calls.{Called, Made, Shelf, TotalsIn, adds, begun, called, clears, drops, grown, replaces, yardsAfter}
-use Rattle.office.specs.Draft.{Kept, Speaks, Spoke, heldOf, notedIn, toldChanged, totalsValues, wordsOf}
+use Rattle.office.specs.Draft.{Ends, Kept, Speaks, Spoke, heldOf, notedIn, toldChanged, totalsValues, wordsOf}
 use Rattle.draft.specs.declared.held.state.Changed.the-variants as C
 use Rattle.edit.specs.Replacing.Replaced as Replacing
 
@@ -53,9 +56,47 @@ shelf-one one other state lists notes =
     ap (λ (x : List ℕ). record { state = x; lists = one .lists; notes = one .notes }) state ∙ (ap (λ (x : Lists). record { state = other .state; lists = x; notes = one .notes }) lists
     ∙ ap (λ (x : Notes). record { state = other .state; lists = other .lists; notes = x }) notes)
 
+-- the same type, version, precision, names and notice
+pub record Alike (one other : Plan) : Type 0 where
+  pub kind : one .kind ≡ other .kind
+  pub version : one .version ≡ other .version
+  pub precision : one .precision ≡ other .precision
+  pub names : one .names ≡ other .names
+  pub notice : one .notice ≡ other .notice
+
+alike-made : (next : Builder) (made plan : Plan) (room : ℕ) → next ≡ summed made room → Alike made plan → Alike (next .plan) plan
+unfolding summed
+alike-made next made plan room e a = subst (λ (x : Builder). Alike (x .plan) plan) (sym e) a
+
+held-alike : (plan : Plan) (yards : List Yard) → Alike (holding plan yards) plan
+held-alike plan yards = record { kind = refl; version = refl; precision = refl; names = refl; notice = refl }
+
+alike-held : (plan : Plan) (yards : List Yard) → Alike plan (holding plan yards)
+alike-held plan yards = record { kind = refl; version = refl; precision = refl; names = refl; notice = refl }
+
+joined-alike : (plan : Plan) (o : Offered) → Alike (joined plan o) plan
+unfolding joined
+joined-alike plan o = record { kind = refl; version = refl; precision = refl; names = refl; notice = refl }
+
+alike-on : {one two three : Plan} → Alike one two → Alike two three → Alike one three
+alike-on a b =
+    record { kind = a .kind ∙ b .kind; version = a .version ∙ b .version; precision = a .precision ∙ b .precision; names = a .names ∙ b .names; notice = a .notice ∙ b .notice }
+
+plan-one : (one other : Plan) → Alike one other → one .yards ≡ other .yards → one .numbered ≡ other .numbered → one .whole ≡ other .whole → one ≡ other
+plan-one one other a yards numbered whole = λ i. record {
+  kind = a .kind i;
+  version = a .version i;
+  precision = a .precision i;
+  names = a .names i;
+  notice = a .notice i;
+  yards = yards i;
+  numbered = numbered i;
+  whole = whole i;
+}
+
 -- it returned 0 and left another builder, with the yards that it makes of these; or it returned another number and left all as it was
 data Outcome (b : Builder) (found left : Shelf) (number : ℕ) (change : List Yard → List Yard) : Type 0 where
-  into : (next : Builder) → number ≡ 0 → Lasts next (left .state) (left .lists) (left .notes) → next .plan .version ≡ b .plan .version → next .plan .yards ≡ change (b .plan .yards)
+  into : (next : Builder) → number ≡ 0 → Lasts next (left .state) (left .lists) (left .notes) → Alike (next .plan) (b .plan) → next .plan .yards ≡ change (b .plan .yards)
       → Outcome b found left number change
   stays : (number ≡ 0 → ⊥) → left ≡ found → Outcome b found left number change
 
@@ -64,7 +105,7 @@ module _ (b : Builder) (found left : Shelf) (number : ℕ) (change : List Yard �
   never-both is answered = never-given _ _ (sym is ∙ answered .1)
 
   changed-outcome : (reply : Reply Builder) (changed : Changed) → Answers reply (found .lists) (left .lists) changed → Kept 0 (found .state) (left .state) changed → (number ≡ 0) ↔ Answered reply
-      → ((next : Builder) → reply ≡ given next → (next .plan .version ≡ b .plan .version) × (next .plan .yards ≡ change (b .plan .yards))) → left .notes ≡ found .notes
+      → ((next : Builder) → reply ≡ given next → Alike (next .plan) (b .plan) × (next .plan .yards ≡ change (b .plan .yards))) → left .notes ≡ found .notes
       → Outcome b found left number change
   unfolding Answers Kept
   changed-outcome reply (C.Into held) (next, (is, (holds, rooms))) kept zero gives notes =
@@ -77,7 +118,7 @@ add-outcome : (b : Builder) (o : Offered) (rooms : Rooms) (lent : NoteRooms) (ou
 unfolding summed joined
 add-outcome b o rooms lent out found left number zero (inl (next, (is, on))) =
     let made = add-given b o (spaceFor (heldOf (found .state)) rooms lent o out) next is .is in
-    into next (zero .1 (next, is)) on (ap (λ (x : Builder). x .plan .version) made) (ap (λ (x : Builder). x .plan .yards) made)
+    into next (zero .1 (next, is)) on (alike-made next (joined (b .plan) o) (b .plan) (b .room) made (joined-alike (b .plan) o)) (ap (λ (x : Builder). x .plan .yards) made)
 add-outcome b o rooms lent out found left number zero (inr (why, (is, (state, (lists, notes))))) = stays (λ z. never-given _ _ (sym is ∙ zero .0 z .1)) (shelf-one left found state lists notes)
 
 clear-zero : (b : Builder) (words : List ℕ) (number : ℕ) (lists lists′ : Lists) (changed : Changed) → Answers (given (clear b)) lists lists′ changed
@@ -95,14 +136,16 @@ module _ (b : Builder) (found left : Shelf) (number : ℕ) (lasts : Lasts b (fou
   outcome change (drops rooms words s notes) = let space : Space = leftSpace (heldOf (found .state)) rooms (found .lists .lengths) in
       changed-outcome b found left number change (dropLast b space) (s .changed) (s .promised .answers b (lasts .holds)) (s .spoke .kept)
       (drop-zero (found .state) rooms (found .lists) (left .lists) s b (lasts .holds))
-      (λ next e. let made = drop-gives b space next e in (ap (λ (x : Builder). x .plan .version) made, ap (λ (x : Builder). x .plan .yards) made)) notes
+      (λ next e. let made = drop-gives b space next e in let fewer : List Yard = take (length (b .plan .yards) - 1) (b .plan .yards) in
+      (alike-made next (holding (b .plan) fewer) (b .plan) (b .room) made (held-alike (b .plan) fewer), ap (λ (x : Builder). x .plan .yards) made)) notes
   outcome change (replaces rooms out yard field text words s notes) = let space : Space = Replacing.spaceFor rooms out (b .plan) yard field text in
       changed-outcome b found left number change (replace b yard field text space) (s .changed) (s .promised .answers b (lasts .holds)) (s .spoke .kept)
       (replace-zero (found .state) rooms out yard field text (found .lists) (left .lists) s b (lasts .holds))
-      (λ next e. let made = replace-gives b yard field text space next e in (ap (λ (x : Builder). x .plan .version) made, ap (λ (x : Builder). x .plan .yards) made)) notes
+      (λ next e. let made = replace-gives b yard field text space next e in let other : List Yard = changedAt yard (withValue field text) (b .plan .yards) in
+      (alike-made next (holding (b .plan) other) (b .plan) (b .room) made (held-alike (b .plan) other), ap (λ (x : Builder). x .plan .yards) made)) notes
   outcome change (clears rooms words s notes) = let answers = s .promised .answers b (lasts .holds) in
       changed-outcome b found left number change (given (clear b)) (s .changed) answers (s .spoke .kept) (clear-zero b words number (found .lists) (left .lists) (s .changed) answers (s .spoke .said))
-      (λ next e. let same : next ≡ clear b = cc in (ap (λ (x : Builder). x .plan .version) same, ap (λ (x : Builder). x .plan .yards) same)) notes
+      (λ next e. let same : next ≡ clear b = cc in (alike-made next (holding (b .plan) []) (b .plan) (b .room) same (held-alike (b .plan) []), ap (λ (x : Builder). x .plan .yards) same)) notes
 
   worded : (change : List Yard → List Yard) → Called found left number change → Worded (found .state) → Worded (left .state)
   worded change (adds o rooms lent out words s) w = words-stay (s .added .noted) (found .state) (left .state) (s .added .changed) (s .spoke .kept) w
@@ -115,8 +158,14 @@ pub record Reached (plan : Plan) (yards : List Yard) (s : Shelf) : Type 0 where
   pub b : Builder
   pub lasts : Lasts b (s .state) (s .lists) (s .notes)
   pub worded-is : Worded (s .state)
-  pub form : b .plan .version ≡ plan .version
+  pub form : Alike (b .plan) plan
+  pub numbered : plan .numbered ≡ true
+  pub whole : plan .whole ≡ true
   pub yards-are : b .plan .yards ≡ yards
+
+whole-read : (plan : Plan) → readable plan ≡ true → plan .whole ≡ true
+unfolding readable
+whole-read plan e = both (plan .whole) (every isText (plan .names) && (isText (plan .notice) && every (λ y. every isText (y .values)) (plan .yards))) e .0
 
 begun-reached : (plan : Plan) (room : ℕ) (space : Space) (before : Lists) (s : Shelf) (changed : Changed) → Begins plan room space before (s .lists) changed
     → Kept 0 (zeros 14) (s .state) changed → Answered (begin plan room space) → Reached plan [] s
@@ -125,7 +174,9 @@ begun-reached plan room space before s (C.Into held) (b, (is, (holds, rooms))) k
   b = b;
   lasts = kept-lasts b (zeros 14) (s .state) (s .lists) (s .notes) held kept holds;
   worded-is = kept .0 ∙ (ap (λ (h : Held). wordsOf h 0) (sym (kept .1)) ∙ ap (λ (n : ℕ). wordsOf (heldOf (s .state)) n) (sym (noted-back held 0 (s .state) (kept .0))));
-  form = ap (λ (x : Builder). x .plan .version) made;
+  form = alike-made b (holding plan []) plan room made (held-alike plan []);
+  numbered = sym (ap (λ (x : Builder). x .plan .numbered) made) ∙ holds .sound .numbered;
+  whole = sym (ap (λ (x : Builder). x .plan .whole) made) ∙ whole-read (b .plan) (holds .sound .texts);
   yards-are = ap (λ (x : Builder). x .plan .yards) made;
 }
 begun-reached plan room space before s (C.Refused why) (is, lists) kept answered = absurd (never-given _ _ (sym is ∙ answered .1))
@@ -141,10 +192,26 @@ other-after number changed yards e = rw (ne-eqb number 0 e) refl
 called-reached : (plan : Plan) (yards : List Yard) (found left : Shelf) (number : ℕ) (change : List Yard → List Yard) (r : Reached plan yards found)
     → Worded (left .state) → Outcome (r .b) found left number change → Reached plan (yardsAfter number (change yards) yards) left
 called-reached plan yards found left number change r w (into next zero lasts form changed) =
-    record { b = next; lasts = lasts; worded-is = w; form = form ∙ r .form; yards-are = changed ∙ (ap change (r .yards-are) ∙ zero-after number (change yards) yards zero) }
+    record {
+      b = next;
+      lasts = lasts;
+      worded-is = w;
+      form = alike-on form (r .form);
+      numbered = r .numbered;
+      whole = r .whole;
+      yards-are = changed ∙ (ap change (r .yards-are) ∙ zero-after number (change yards) yards zero);
+    }
 called-reached plan yards found left number change r w (stays other same) =
     subst (Reached plan (yardsAfter number (change yards) yards)) (sym same)
-    (record { b = r .b; lasts = r .lasts; worded-is = r .worded-is; form = r .form; yards-are = r .yards-are ∙ other-after number (change yards) yards other })
+    (record {
+      b = r .b;
+      lasts = r .lasts;
+      worded-is = r .worded-is;
+      form = r .form;
+      numbered = r .numbered;
+      whole = r .whole;
+      yards-are = r .yards-are ∙ other-after number (change yards) yards other;
+    })
 
 pub reached : (plan : Plan) (room : ℕ) (yards : List Yard) (s : Shelf) → Made plan room yards s → Reached plan yards s
 reached plan room yards s (begun space before words shelf speaks) =
@@ -159,6 +226,8 @@ reached plan room yards s (grown yards′ shelf more more-notes made) = let r = 
   };
   worded-is = r .worded-is;
   form = r .form;
+  numbered = r .numbered;
+  whole = r .whole;
   yards-are = r .yards-are;
 }
 
@@ -182,7 +251,28 @@ totals-in b state is w =
 -- After every sequence of calls, answered or refused, words 8 to 12 of the state are the totals of the yards that were added and not taken away.
 pub totals-fresh : (plan : Plan) (room : ℕ) (yards : List Yard) (s : Shelf) → Made plan room yards s → TotalsIn (s .state) (totalsOf (holding plan yards))
 totals-fresh plan room yards s made = let r = reached plan room yards s made in
-    subst (TotalsIn (s .state)) (r .lasts .holds .fresh ∙ totals-alike (r .b .plan) (holding plan yards) (r .form) (r .yards-are)) (totals-in (r .b) (s .state) (r .lasts .holds .is) (r .worded-is))
+    subst (TotalsIn (s .state)) (r .lasts .holds .fresh ∙ totals-alike (r .b .plan) (holding plan yards) (r .form .version) (r .yards-are))
+    (totals-in (r .b) (s .state) (r .lasts .holds .is) (r .worded-is))
+
+-- the plan that is held is the one that was begun, with the yards that it has now
+plan-held : (plan : Plan) (yards : List Yard) (s : Shelf) (r : Reached plan yards s) → r .b .plan ≡ holding plan yards
+plan-held plan yards s r = let sound = r .lasts .holds .sound in
+    plan-one (r .b .plan) (holding plan yards) (alike-on (r .form) (alike-held plan yards)) (r .yards-are) (sound .numbered ∙ sym (r .numbered))
+    (whole-read (r .b .plan) (sound .texts) ∙ sym (r .whole))
+
+-- After every sequence of calls, answered or refused, the end leaves what building the yards that are held gives, and is refused as that is.
+pub finish-made : (plan : Plan) (room : ℕ) (yards : List Yard) (s : Shelf) → Made plan room yards s → (rooms : Rooms) (size : ℕ) (out : List ℕ) (number : ℕ) (words : List ℕ)
+    → Ends (λ h. Files h rooms (s .lists) size out) (s .state) number words
+    → Ends (λ h. Finishes (builtOf (holding plan yards) (roomFor size (record { bytes = size; lists = spaceOf h rooms .lists }))) size out) (s .state) number words
+finish-made plan room yards s made rooms size out number words e = let r = reached plan room yards s made in let holds = r .lasts .holds in
+    let space : Space = spaceOf (heldOf (s .state)) rooms in
+    record {
+      built = e .built;
+      promised =
+          subst (λ (reply : Reply (List ℕ)). Finishes reply size out (e .built)) (finish-builds (r .b) (holds .sound) (holds .fresh) size space
+          ∙ ap (λ (p : Plan). builtOf p (roomFor size (record { bytes = size; lists = space .lists }))) (plan-held plan yards s r)) (e .promised .answers (r .b) holds);
+      said = e .said;
+    }
 
 stays-same : (b : Builder) (found left : Shelf) (number : ℕ) (change : List Yard → List Yard) → (number ≡ 0 → ⊥) → Outcome b found left number change → left ≡ found
 stays-same b found left number change other (into next zero lasts form changed) = absurd (other zero)

@@ -1,7 +1,8 @@
 -- What a returned 0 means to firmware: the call was answered, whatever it was given. Each exported function's contract fixes what it returns,
 -- the number said in `indexSpoken`, `writtenSpoken`, `builtSpoken` or `salvageSpoken`; here, that this number is 0 exactly where the definition gives an answer. Assumes nothing.
-use Rattle.numbers.proofs.Prelude.{ℕ, ℤ, List, _↔_, _≡_, arith}
+use Rattle.numbers.proofs.Prelude.{ℕ, ℤ, List, _↔_, _≡_, sym, ap, _∙_, arith}
 use Rattle.numbers.{proofs.Saying.{Answered, never-zero, zero-said}, specs.{Reply.{Reply, given, refused}, Spoken.{saidOf, noValues}, declared.refusal.Refusal.{Refusal}}}
+use Rattle.atlas.{proofs.Theorems.{else-36, building-refusals}, specs.Atlas.{atlasMade, isAtlasOf}}
 use Rattle.build.{proofs.Numbered.{buildNumbers, build-refusals}, specs.{Room.{roomOf}, declared.room.Work.{Work}}}
 use Rattle.builder.specs.{File.{builtOf}, Yards.{Lent, planOf}}
 use Rattle.writer.{proofs.NumberedWriter.{writerNumbers, writer-refusals}, specs.{Writer.{borderOf, fitted}, declared.write.Piece.{Piece}}}
@@ -18,6 +19,15 @@ build-index-zero file n = zero-said lengthValue (indexedOf file n .reply) (λ wh
 -- `uskelzar_is_index`
 pub is-index-zero : (file words : List ℕ) → (saidOf noValues (isIndexOf file words) .number ≡ 0) ↔ Answered (isIndexOf file words)
 is-index-zero file words = zero-said noValues (isIndexOf file words) (λ why is. never-zero owningNumbers (λ z. z) (why .number) (is-index-refusals file words why is))
+
+-- `uskelzar_build_atlas`
+pub build-atlas-zero : (file : List ℕ) (n : ℕ) → (indexSpoken (atlasMade file n) .said .number ≡ 0) ↔ Answered (atlasMade file n .reply)
+build-atlas-zero file n = zero-said lengthValue (atlasMade file n .reply) (λ why is. never-zero buildingNumbers (λ z. z) (why .number) (building-refusals file n why is))
+
+-- `uskelzar_is_atlas`
+pub is-atlas-zero : (file words : List ℕ) → (saidOf noValues (isAtlasOf file words) .number ≡ 0) ↔ Answered (isAtlasOf file words)
+is-atlas-zero file words =
+    zero-said noValues (isAtlasOf file words) (λ why is zero. let z : 36 ≡ 0 = sym (ap (λ (w : Refusal). w .number) (else-36 file words why is)) ∙ zero in omega (arith, z))
 
 -- `uskelzar_salvage`
 pub salvage-zero : (file : List ℕ) (words room : ℕ) → (salvageSpoken (salvaged file words room) .said .number ≡ 0) ↔ Answered (salvaged file words room .reply)

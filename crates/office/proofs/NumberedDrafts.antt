@@ -5,11 +5,11 @@ use Rattle.add.specs.{Adding.Adds.{Adds}, Growing.Notes.{Notes, NotedBy}, decla
 use Rattle.build.specs.{Whole.{toldBuilt}, declared.file.Built.{Built}}
 use Rattle.builder.{proofs.drawing.Lending.{never-given}, specs.{File.{Replied, fitted}, Yards.{Text, Plan}}}
 use Rattle.edit.specs.{Changing.{Begun.{Begins}, Dropped.{Drops, leftSpace}, Emptied.{Clears}}, Replacing.Replaced.{Replaces}}
-use Rattle.draft.specs.{Held.{Builder.{Builder, Offered, add, begin, clear, dropLast, finish, replace}, Space.{Space}, State.{Answers, Holds, Lists, heldAs}}, Summed.Ends.{Finishes, spaceOf}}
+use Rattle.draft.specs.{Held.{Builder.{Builder, Offered, add, begin, clear, dropLast, finish, replace}, Space.{Space}, State.{Answers, Holds, Lists, heldAs}}, Summed.Ends.{Files, Finishes, spaceOf}}
 use Rattle.draft.specs.declared.held.{room.Rooms.{Rooms}, state.{Changed.{Changed}, Held.{Held}}}
 use Rattle.office.proofs.NumberedCalls.{addNumbers, add-refusals, beginNumbers, begin-refusals, dropNumbers, drop-refusals, finishNumbers, finish-refusals, replaceNumbers, replace-refusals}
 use Rattle.office.proofs.SameCalls.{Told, ToldNoted}
-use Rattle.office.specs.{Draft.{Ends, Files, Speaks, SpeaksNoted, heldOf, notedIn, toldChanged, totalsValues}, Written.{lengthValue}}
+use Rattle.office.specs.{Draft.{Ends, Speaks, SpeaksNoted, heldOf, notedIn, toldChanged, totalsValues}, Written.{lengthValue}}
 use Rattle.add.specs.Adding.Adds as Adding
 use Rattle.draft.specs.declared.held.state.Changed.the-variants as C
 use Rattle.edit.specs.Replacing.Replaced as Replacing

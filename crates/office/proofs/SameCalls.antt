@@ -6,8 +6,8 @@ use Rattle.builder.{proofs.drawing.Lending.{never-given}, specs.{File.{Replied}
 use Rattle.edit.{proofs.changing.Cuts.{lists-same}, specs.{Changing.{Begun.{Begins, blank}, Dropped.{Drops, leftSpace}, Emptied.{Clears}}, Replacing.Replaced.{Replaces}}}
 use Rattle.notes.proofs.chains.Entering.{chained-one}
 use Rattle.draft.{proofs.held.Fronts.{front-one}, specs.Held.{Builder.{Builder, Offered, add, begin, clear, dropLast, finish, joined, replace}, Space.{Space, standing}}}
-use Rattle.draft.specs.{Held.State.{Answers, Holds, Idle, Lists, SameRooms}, Summed.Ends.{Finishes, spaceOf}, declared.held.{room.Rooms.{Rooms}, state.{Changed.{Changed}, Held.{Held}}}}
-use Rattle.office.specs.Draft.{Files}
+use Rattle.draft.specs.{Held.State.{Answers, Holds, Idle, Lists, SameRooms, Works, worksAs}, Summed.Ends.{Files, Finishes, spaceOf}}
+use Rattle.draft.specs.declared.held.{room.Rooms.{Rooms}, state.{Changed.{Changed}, Held.{Held}}}
 use Rattle.add.specs.Adding.Adds as Adding
 use Rattle.build.specs.declared.file.Built.the-variants as W
 use Rattle.draft.specs.declared.held.state.Changed.the-variants as C
@@ -176,17 +176,11 @@ same-finished held rooms lists (inl (b, holds)) {room} {out} {out′} {r} {r′}
 same-finished held rooms lists (inr broken) f f′ = (f .broken broken ∙ sym (f′ .broken broken), f .emptied (plain 28) (f .broken broken) ∙ sym (f′ .emptied (plain 28) (f′ .broken broken)))
 
 -- ---- the lists that were worked in
-module _ {starts keys spare kept held words places out starts₁ keys₁ spare₁ kept₁ held₁ words₁ places₁ out₁ starts₂ keys₂ spare₂ kept₂ held₂ words₂ places₂ out₂ : List ℕ} where
-  pub same-idle : Idle starts keys spare kept held words places out starts₁ keys₁ spare₁ kept₁ held₁ words₁ places₁ out₁ →
-      Idle starts keys spare kept held words places out starts₂ keys₂ spare₂ kept₂ held₂ words₂ places₂ out₂
-      → (starts₁ ≡ starts₂) × (keys₁ ≡ keys₂) × (spare₁ ≡ spare₂) × (kept₁ ≡ kept₂) × (held₁ ≡ held₂) × (words₁ ≡ words₂) × (places₁ ≡ places₂) × (out₁ ≡ out₂)
-  same-idle a b = (
-    a .starts-zero ∙ sym (b .starts-zero),
-    a .keys-zero ∙ sym (b .keys-zero),
-    a .spare-zero ∙ sym (b .spare-zero),
-    a .kept-zero ∙ sym (b .kept-zero),
-    a .held-zero ∙ sym (b .held-zero),
-    a .words-zero ∙ sym (b .words-zero),
-    a .places-zero ∙ sym (b .places-zero),
-    a .out-zero ∙ sym (b .out-zero),
-  )
+works-one : {one other : Works} → one .starts ≡ other .starts → one .keys ≡ other .keys → one .spare ≡ other .spare → one .kept ≡ other .kept → one .held ≡ other .held →
+    one .words ≡ other .words → one .places ≡ other .places → one ≡ other
+works-one a b c d e f g = λ i. worksAs (a i) (b i) (c i) (d i) (e i) (f i) (g i)
+
+pub same-idle : {lent one other : Works} → Idle lent one → Idle lent other → one ≡ other
+same-idle a b =
+    works-one (a .starts-zero ∙ sym (b .starts-zero)) (a .keys-zero ∙ sym (b .keys-zero)) (a .spare-zero ∙ sym (b .spare-zero)) (a .kept-zero ∙ sym (b .kept-zero))
+    (a .held-zero ∙ sym (b .held-zero)) (a .words-zero ∙ sym (b .words-zero)) (a .places-zero ∙ sym (b .places-zero))

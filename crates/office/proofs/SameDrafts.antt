@@ -5,9 +5,9 @@ use Rattle.add.specs.{Adding.Adds.{Adds}, Growing.Notes.{Notes}, declared.{addi
 use Rattle.build.specs.{Whole.{toldBuilt}, declared.file.Built.{Built}}
 use Rattle.builder.specs.Yards.{Text, Plan}
 use Rattle.edit.specs.{Changing.{Begun.{Begins}, Dropped.{Drops}, Emptied.{Clears}}, Replacing.Replaced.{Replaces}}
-use Rattle.draft.specs.{Held.{Builder.{Offered}, Space.{Space}, State.{Lists}}, declared.held.{room.Rooms.{Rooms}, state.{Changed.{Changed}, Held.{Held}}}}
+use Rattle.draft.specs.{Held.{Builder.{Offered}, Space.{Space}, State.{Lists}}, Summed.Ends.{Files}, declared.held.{room.Rooms.{Rooms}, state.{Changed.{Changed}, Held.{Held}}}}
 use Rattle.office.proofs.SameCalls.{Told, ToldNoted, same-added, same-begun, same-cleared, same-dropped, same-finished, same-replaced}
-use Rattle.office.specs.{Draft.{Ends, Files, Kept, Speaks, SpeaksNoted, Spoke, heldOf, notedIn, toldChanged, totalsValues}, Written.{lengthValue}}
+use Rattle.office.specs.{Draft.{Ends, Kept, Speaks, SpeaksNoted, Spoke, heldOf, notedIn, toldChanged, totalsValues}, Written.{lengthValue}}
 use Rattle.draft.specs.declared.held.state.Changed.the-variants as C
 
 -- two calls that make the same of a builder

@@ -1,13 +1,10 @@
 -- How a builder's numbers, and what its calls reply, go over to C.
-use Rattle.numbers.specs.Prelude.{ℕ, _%_, _^_, getD, false, List, [], _∷_, _≡_, w32, ofZ}
-use Rattle.numbers.specs.{Lists.{zeros}, Point.{readI32}, Reply.{Reply, given, refused, plain}, Spoken.{saidOf}, declared.refusal.Refusal.{Refusal}}
+use Rattle.numbers.specs.{Point.{readI32}, Prelude.{ℕ, _%_, _^_, getD, List, [], _∷_, _≡_, w32, ofZ}, Reply.{Reply, given, refused}, Spoken.{saidOf}}
 use Rattle.build.specs.{Whole.{toldBuilt}, declared.file.Built.{Built}}
 use Rattle.add.specs.declared.growing.grow.Added.{Added}
-use Rattle.draft.specs.{Held.{Builder.{Builder, finish}, Space.{standing}, State.{Holds, Lists}}, Summed.Ends.{Finishes, spaceOf}, declared.held.{room.Rooms.{Rooms}, state.Changed.{Changed}}}
-use Rattle.draft.specs.declared.held.state.Held.{Held}
+use Rattle.draft.specs.declared.held.state.{Changed.{Changed}, Held.{Held}}
 use Rattle.office.specs.Written.{lengthValue}
 use Rattle.draft.specs.declared.held.state.Changed.the-variants as C
-use Rattle.build.specs.declared.file.Built.the-variants as W
 
 -- of fourteen words thirteen, one for each number of a builder; of the first four and the thirteenth only the low bits count
 unfoldable pub heldOf : List ℕ → Held
@@ -86,9 +83,3 @@ pub record Ends (Promised : Held → Built → Type 0) (state : List ℕ) (numbe
   pub built : Built
   pub promised : Promised (heldOf state) built
   pub said : record { number = number; words = words } ≡ saidOf lengthValue (toldBuilt built)
-
--- the file of a builder that calls have made, in an output of this length; where its numbers do not fit its lists, 28; a refusal leaves zeros, whatever the state
-pub record Files (held : Held) (rooms : Rooms) (lists : Lists) (room : ℕ) (out : List ℕ) (built : Built) : Type 0 where
-  pub answers : (b : Builder) → Holds b held lists → Finishes (finish b room (spaceOf held rooms)) room out built
-  pub broken : standing held rooms ≡ false → built ≡ W.Refused (plain 28)
-  pub emptied : (why : Refusal) → built ≡ W.Refused why → out ≡ zeros room

@@ -1,17 +1,17 @@
 // A builder and its calls, for C.
-ghost use mathlib.Core.{Path.{_≡_}, List.{[]}};
+ghost use mathlib.Core.Path.{_≡_};
 ghost use lib.ListN.{length};
 ghost use mir.{Syntax.{w32}, Val.{SFits, ofZ}};
 ghost use Rattle.add.specs.Adding.Adds.{Adds, noteRooms, usedOut};
 ghost use Rattle.edit.specs.Changing.{Begun.{Begins, firstPlan, frontSpace}, Emptied.{Clears, ownRooms}, Dropped.{Drops}};
 ghost use Rattle.add.specs.Growing.Notes.{notesAs};
-ghost use Rattle.draft.specs.Held.{Space.{roomsOf}, State.{Idle, listsAs}};
+ghost use Rattle.draft.specs.{Held.State.{Idle, listsAs, roomsOf, worksAs}, Summed.Ends.{Files}};
 ghost use Rattle.add.specs.Joining.Joins.{Rests};
 ghost use Rattle.numbers.specs.Lists.{zeros};
 ghost use Rattle.add.specs.Offered.Offers.{offeredAs};
 ghost use Rattle.edit.specs.Replacing.Replaced.{Replaces};
 ghost use Rattle.numbers.specs.Spoken.{saidOf};
-ghost use Rattle.office.specs.Draft.{heldOf, notedIn, wordsOf, totalsValues, toldChanged, Kept, Spoke, Speaks, SpeaksNoted, Files, Ends};
+ghost use Rattle.office.specs.Draft.{heldOf, notedIn, wordsOf, totalsValues, toldChanged, Kept, Spoke, Speaks, SpeaksNoted, Ends};
 use crate::yards::say_built;
 use add::adding::add::add;
 use build::asked::Asked;
@@ -196,13 +196,15 @@ pub extern "C" fn uskelzar_add(
     out: &mut [u8],
     reply: &mut [u64; 5],
 ) -> u8
-    ensures { λ r. ⌜ SpeaksNoted (λ h noted. Adds h noted (offeredAs (now (lats .entry)) (now (lons .entry)) (now (pieces .entry)) (now (sizes .entry)) (now (values .entry)))
-        (roomsOf (length (now (boxes .entry))) (length (now (borders .entry))) (length (now (lengths .entry))) (length (now (texts .entry))) (length (now (bytes .entry))) (length (now (starts .entry))) (length (now (keys .entry))) (length (now (spare .entry))) (length (now (kept .entry))) (length (now (held .entry))) (length (now (words .entry))) (length (now (places .entry))))
-        (noteRooms (length (now (marks .entry))) (length (now (chains .entry))) (length (now (groups .entry))) (length (now (begins .entry)))) (length (now (out .entry)))
-        (listsAs (now (boxes .entry)) (now (borders .entry)) (now (lengths .entry)) (now (texts .entry)) (now (bytes .entry))) (listsAs (now (boxes .exit)) (now (borders .exit)) (now (lengths .exit)) (now (texts .exit)) (now (bytes .exit)))
-        (notesAs (now (marks .entry)) (now (chains .entry)) (now (groups .entry)) (now (begins .entry))) (notesAs (now (marks .exit)) (now (chains .exit)) (now (groups .exit)) (now (begins .exit)))) (now (state .entry)) (now (state .exit)) r (now (reply .exit))
-        × (Rests (now (starts .entry)) (now (keys .entry)) (now (spare .entry)) (now (kept .entry)) (now (held .entry)) (now (words .entry)) (now (places .entry)) (now (starts .exit)) (now (keys .exit)) (now (spare .exit)) (now (kept .exit)) (now (held .exit)) (now (words .exit)) (now (places .exit))
-        × (now (out .exit) ≡ usedOut (length (now (lats .entry))) (now (out .entry)))) ⌝ }
+    ensures { λ r. ⌜ (let own = listsAs (now (boxes .entry)) (now (borders .entry)) (now (lengths .entry)) (now (texts .entry)) (now (bytes .entry)) in
+        let work = worksAs (now (starts .entry)) (now (keys .entry)) (now (spare .entry)) (now (kept .entry)) (now (held .entry)) (now (words .entry)) (now (places .entry)) in
+        let notes = notesAs (now (marks .entry)) (now (chains .entry)) (now (groups .entry)) (now (begins .entry)) in
+        SpeaksNoted (λ h noted. Adds h noted (offeredAs (now (lats .entry)) (now (lons .entry)) (now (pieces .entry)) (now (sizes .entry)) (now (values .entry)))
+        (roomsOf own work) (noteRooms notes) (length (now (out .entry))) own
+        (listsAs (now (boxes .exit)) (now (borders .exit)) (now (lengths .exit)) (now (texts .exit)) (now (bytes .exit))) notes
+        (notesAs (now (marks .exit)) (now (chains .exit)) (now (groups .exit)) (now (begins .exit)))) (now (state .entry)) (now (state .exit)) r (now (reply .exit))
+        × (Rests work (worksAs (now (starts .exit)) (now (keys .exit)) (now (spare .exit)) (now (kept .exit)) (now (held .exit)) (now (words .exit)) (now (places .exit)))
+        × (now (out .exit) ≡ usedOut (length (now (lats .entry))) (now (out .entry))))) ⌝ }
 {
     let builder = state_of(*state);
     let noted = noted_of(*state);
@@ -254,11 +256,11 @@ pub extern "C" fn uskelzar_drop_last(
     places: &mut [u32],
     reply: &mut [u64; 5],
 ) -> u8
-    ensures { λ r. ⌜ Speaks (λ h. Drops h
-        (roomsOf (length (now (boxes .entry))) (length (now (borders .entry))) (length (now (lengths .entry))) (length (now (texts .entry))) (length (now (bytes .entry))) (length (now (starts .entry))) (length (now (keys .entry))) (length (now (spare .entry))) (length (now (kept .entry))) (length (now (held .entry))) (length (now (words .entry))) (length (now (places .entry))))
-        (listsAs (now (boxes .entry)) (now (borders .entry)) (now (lengths .entry)) (now (texts .entry)) (now (bytes .entry)))
+    ensures { λ r. ⌜ (let own = listsAs (now (boxes .entry)) (now (borders .entry)) (now (lengths .entry)) (now (texts .entry)) (now (bytes .entry)) in
+        let work = worksAs (now (starts .entry)) (now (keys .entry)) (now (spare .entry)) (now (kept .entry)) (now (held .entry)) (now (words .entry)) (now (places .entry)) in
+        Speaks (λ h. Drops h (roomsOf own work) own
         (listsAs (now (boxes .exit)) (now (borders .exit)) (now (lengths .exit)) (now (texts .exit)) (now (bytes .exit)))) (now (state .entry)) (now (state .exit)) r (now (reply .exit))
-        × Idle (now (starts .entry)) (now (keys .entry)) (now (spare .entry)) (now (kept .entry)) (now (held .entry)) (now (words .entry)) (now (places .entry)) [] (now (starts .exit)) (now (keys .exit)) (now (spare .exit)) (now (kept .exit)) (now (held .exit)) (now (words .exit)) (now (places .exit)) [] ⌝ }
+        × Idle work (worksAs (now (starts .exit)) (now (keys .exit)) (now (spare .exit)) (now (kept .exit)) (now (held .exit)) (now (words .exit)) (now (places .exit)))) ⌝ }
 {
     let builder = state_of(*state);
     let changed = drop_last(
@@ -301,12 +303,12 @@ pub extern "C" fn uskelzar_replace(
     out: &mut [u8],
     reply: &mut [u64; 5],
 ) -> u8
-    ensures { λ r. ⌜ Speaks (λ h. Replaces h
-        (roomsOf (length (now (boxes .entry))) (length (now (borders .entry))) (length (now (lengths .entry))) (length (now (texts .entry))) (length (now (bytes .entry))) (length (now (starts .entry))) (length (now (keys .entry))) (length (now (spare .entry))) (length (now (kept .entry))) (length (now (held .entry))) (length (now (words .entry))) (length (now (places .entry))))
-        (length (now (out .entry))) yard field (now (text .entry)) (listsAs (now (boxes .entry)) (now (borders .entry)) (now (lengths .entry)) (now (texts .entry)) (now (bytes .entry)))
+    ensures { λ r. ⌜ (let own = listsAs (now (boxes .entry)) (now (borders .entry)) (now (lengths .entry)) (now (texts .entry)) (now (bytes .entry)) in
+        let work = worksAs (now (starts .entry)) (now (keys .entry)) (now (spare .entry)) (now (kept .entry)) (now (held .entry)) (now (words .entry)) (now (places .entry)) in
+        Speaks (λ h. Replaces h (roomsOf own work) (length (now (out .entry))) yard field (now (text .entry)) own
         (listsAs (now (boxes .exit)) (now (borders .exit)) (now (lengths .exit)) (now (texts .exit)) (now (bytes .exit)))) (now (state .entry)) (now (state .exit)) r (now (reply .exit))
-        × Idle (now (starts .entry)) (now (keys .entry)) (now (spare .entry)) (now (kept .entry)) (now (held .entry)) (now (words .entry)) (now (places .entry)) (now (out .entry))
-        (now (starts .exit)) (now (keys .exit)) (now (spare .exit)) (now (kept .exit)) (now (held .exit)) (now (words .exit)) (now (places .exit)) (now (out .exit)) ⌝ }
+        × Idle work (worksAs (now (starts .exit)) (now (keys .exit)) (now (spare .exit)) (now (kept .exit)) (now (held .exit)) (now (words .exit)) (now (places .exit)))
+        × (now (out .exit) ≡ zeros (length (now (out .entry))))) ⌝ }
 {
     let builder = state_of(*state);
     let changed = replace(
@@ -342,9 +344,8 @@ pub extern "C" fn uskelzar_clear(
     bytes: &mut [u8],
     reply: &mut [u64; 5],
 ) -> u8
-    ensures { λ r. ⌜ Speaks (λ h. Clears h (ownRooms (length (now (boxes .entry))) (length (now (borders .entry))) (length (now (lengths .entry))) (length (now (texts .entry))) (length (now (bytes .entry))))
-        (listsAs (now (boxes .entry)) (now (borders .entry)) (now (lengths .entry)) (now (texts .entry)) (now (bytes .entry)))
-        (listsAs (now (boxes .exit)) (now (borders .exit)) (now (lengths .exit)) (now (texts .exit)) (now (bytes .exit)))) (now (state .entry)) (now (state .exit)) r (now (reply .exit)) ⌝ }
+    ensures { λ r. ⌜ (let own = listsAs (now (boxes .entry)) (now (borders .entry)) (now (lengths .entry)) (now (texts .entry)) (now (bytes .entry)) in
+        Speaks (λ h. Clears h (ownRooms own) own (listsAs (now (boxes .exit)) (now (borders .exit)) (now (lengths .exit)) (now (texts .exit)) (now (bytes .exit)))) (now (state .entry)) (now (state .exit)) r (now (reply .exit))) ⌝ }
 {
     let builder = state_of(*state);
     let changed = clear(builder, boxes, borders, lengths, texts, bytes);
@@ -370,10 +371,10 @@ pub extern "C" fn uskelzar_finish(
     out: &mut [u8],
     reply: &mut [u64; 5],
 ) -> u8
-    ensures { λ r. ⌜ Ends (λ h. Files h
-        (roomsOf (length (now (boxes .entry))) (length (now (borders .entry))) (length (now (lengths .entry))) (length (now (texts .entry))) (length (now (bytes .entry))) (length (now (starts .entry))) (length (now (keys .entry))) (length (now (spare .entry))) (length (now (kept .entry))) (length (now (held .entry))) (length (now (words .entry))) (length (now (places .entry))))
-        (listsAs (now (boxes .entry)) (now (borders .entry)) (now (lengths .entry)) (now (texts .entry)) (now (bytes .entry))) (length (now (out .entry))) (now (out .exit))) (now (state .entry)) r (now (reply .exit))
-        × Idle (now (starts .entry)) (now (keys .entry)) (now (spare .entry)) (now (kept .entry)) (now (held .entry)) (now (words .entry)) (now (places .entry)) [] (now (starts .exit)) (now (keys .exit)) (now (spare .exit)) (now (kept .exit)) (now (held .exit)) (now (words .exit)) (now (places .exit)) [] ⌝ }
+    ensures { λ r. ⌜ (let own = listsAs (now (boxes .entry)) (now (borders .entry)) (now (lengths .entry)) (now (texts .entry)) (now (bytes .entry)) in
+        let work = worksAs (now (starts .entry)) (now (keys .entry)) (now (spare .entry)) (now (kept .entry)) (now (held .entry)) (now (words .entry)) (now (places .entry)) in
+        Ends (λ h. Files h (roomsOf own work) own (length (now (out .entry))) (now (out .exit))) (now (state .entry)) r (now (reply .exit))
+        × Idle work (worksAs (now (starts .exit)) (now (keys .exit)) (now (spare .exit)) (now (kept .exit)) (now (held .exit)) (now (words .exit)) (now (places .exit)))) ⌝ }
 {
     let builder = state_of(*state);
     let built = finish(

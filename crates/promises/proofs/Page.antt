@@ -1,5 +1,5 @@
--- The page of promises: the questions of README in its order, each with the theorem that answers it, over what the entry points promise. A statement stands here in full, so that a reader looks up
--- definitions alone (`tools/floor` lists them); its proof is the law of the crate where it belongs.
+-- The page of promises: the questions of README in its order, all but the last, each with the theorem that answers it, over what the entry points promise. A statement stands here in full, so that
+-- a reader looks up definitions alone (`tools/floor` lists them); its proof is the law of the crate where it belongs.
 use Prim.Native.Nat.{ℕ, _+_, _*_, _-_, _<_, _≤_}
 use lib.{Dec.{eqb}, Ieee.{Float}, IntN.{ℤ}, ListN.{length, getD, take}, Signed.{mag, ltZ}}
 use mathlib.Core.{Bool.{Bool, true, false, _||_}, List.{List, [], _∷_}, Logic.{_↔_, _⊎_}, Path.{_≡_}}
@@ -12,7 +12,7 @@ use Rattle.bundle.specs.{Bundle.{findOf}, First.{FoundAt}, declared.find.File.{
 use Rattle.bundle.specs.Told as B
 use Rattle.bundle.specs.declared.find.Found.the-variants as F
 use Rattle.calendar.specs.{Calendar.{daysOfYears}, Civil.{CivilOf}, Epoch.{forwards, backwards}, declared.civil.Civil.{Civil}}
-use Rattle.draft.specs.Held.{Builder.{Builder, finish, holding}, Sound.{Sound, roomFor}, Space.{Space}, Totals.{totalsOf}}
+use Rattle.draft.specs.{Held.{Builder.{Builder, finish, holding}, Sound.{Sound, roomFor}, Space.{Space}, Totals.{totalsOf}}, Summed.Ends.{Files, Finishes, spaceOf}, declared.held.room.Rooms.{Rooms}}
 use Rattle.header.specs.{Header.{headBy, headOf}, declared.header.Head.{Head}}
 use Rattle.index.specs.{Index.{indexed, indexedOf, toldBuilt}, Own.{isIndexOf}, Through.{lookedIndexed}, Tied.{toldTied}, declared.{build.Built.{Built}, tied.Tied.{Tied}}}
 use Rattle.localtime.specs.{Found.{foundOf}, Local.{rulesIn, localTime}}
@@ -31,7 +31,7 @@ use Rattle.tzif.specs.{Check.{correctionAt}, Local.{typeBehind, named}, Number.
 use Rattle.tzif.specs.Last.{Octets, transitionTime, LastNotAfter}
 use Rattle.tzif.specs.Reply as T
 use Rattle.tzrule.specs.{Ask.{corrected, inYears, clockAt}, Summer.{isSummer, IsSummer, IsRule}, declared.rule.{Rule.{Rule}, Tz.{Tz}}}
-use Rattle.office.specs.Calls.{Shelf, Called, Made, TotalsIn}
+use Rattle.office.specs.{Calls.{Shelf, Called, Made, TotalsIn}, Draft.{Ends}}
 use Rattle.uskelzar.specs.{Slips.{Printed, slipSpoken}, Spoken.{zonesValues, foundSpoken}}
 use Rattle.verdict.specs.{Stretch.{Stretch}, Verdict.{after, judge, judgedAt}, declared.step.Tally.{Tally}}
 use Rattle.writer.specs.WrittenAt.{WrittenAt}
@@ -82,16 +82,16 @@ pub many-is-one-by-one : (file : List ℕ) (lats lons : List Float) (asked : Boo
 many-is-one-by-one = batch.many-is-one-by-one
 
 -- ---- Does an index or an atlas beside the file change an answer?
--- `is_index` says 0 of words exactly where building, lent as many, gives and leaves these for this file, whoever wrote them,
+-- By the definition of `isIndexOf`: 0 exactly where building, lent as many, gives and leaves these words for this file. Proved is the contract of `uskelzar_is_index`, that it returns this;
 pub is-index-exactly : (file words : List ℕ) → (isIndexOf file words ≡ given tt) ↔ ((used : ℕ) × (indexedOf file (length words) ≡ indexed (given used) words))
 is-index-exactly = index.is-index-exactly
 
--- and where it says 0 a lookup through them is the plain one.
+-- where it says 0 a lookup through them is the plain one.
 pub is-index-is-plain : (file words : List ℕ) → isIndexOf file words ≡ given tt → (location : Location) (asked : Bool) (n room : ℕ)
     → lookedIndexed file words location asked n room ≡ lookedUp file location asked n room
 is-index-is-plain file words e location asked n room = index.is-index-is-plain file words e location asked n room
 
--- `is_atlas` says 0 of words exactly where building an atlas, lent as many, gives and leaves these for this file, whoever wrote them,
+-- By the definition of `isAtlasOf`: 0 exactly where building, lent as many, gives and leaves these words for this file. Proved is the contract of `uskelzar_is_atlas`, that it returns this,
 pub is-atlas-exactly : (file words : List ℕ) → (isAtlasOf file words ≡ given tt) ↔ ((used : ℕ) × (atlasMade file (length words) ≡ indexed (given used) words))
 is-atlas-exactly = atlas.is-atlas-exactly
 
@@ -99,7 +99,7 @@ is-atlas-exactly = atlas.is-atlas-exactly
 pub built-is-atlas : (file : List ℕ) (n : ℕ) {used : ℕ} → atlasMade file n .reply ≡ given used → isAtlasOf file (atlasMade file n .words) ≡ given tt
 built-is-atlas = theorems.built-is-atlas
 
--- and nothing else is;
+-- and, again by the definition, nothing else is;
 pub atlas-is-built : (file words : List ℕ) → isAtlasOf file words ≡ given tt → (used : ℕ) × (atlasMade file (length words) ≡ indexed (given used) words)
 atlas-is-built = theorems.atlas-is-built
 
@@ -183,6 +183,12 @@ pub finish-builds : (b : Builder) → Sound (b .plan) (b .room) → b .totals �
     → finish b out space ≡ builtOf (b .plan) (roomFor out (record { bytes = out; lists = space .lists }))
 finish-builds b sound fresh out space = draft.finish-builds b sound fresh out space
 
+-- What the end leaves after every sequence of exported calls is what building the yards gives that were added and not taken away, with names and notice as they were begun.
+pub finish-made : (plan : Plan) (room : ℕ) (yards : List Yard) (s : Shelf) → Made plan room yards s → (rooms : Rooms) (size : ℕ) (out : List ℕ) (number : ℕ) (words : List ℕ)
+    → Ends (λ h. Files h rooms (s .lists) size out) (s .state) number words
+    → Ends (λ h. Finishes (builtOf (holding plan yards) (roomFor size (record { bytes = size; lists = spaceOf h rooms .lists }))) size out) (s .state) number words
+finish-made = calls.finish-made
+
 -- ---- What is left of a damaged file?
 -- The file that was written opens strictly, and its table is that of the old file's whole entries, in the old order, each as it was.
 pub salvage-kept : (file : List ℕ) (words room : ℕ) (counts : Counts) → salvaged file words room .reply ≡ given counts → (head : Head) → headBy true file ≡ given head
@@ -258,7 +264,7 @@ pub slip-at-whole : (fix : Fix) (map atlas zones : List ℕ) → NoneOrAtlas map
     → Z.replied (given stamped) hs ts os ≡ slippedAt fix map atlas zones n room size → Whole fix map n room hs ts
 slip-at-whole = slip.slip-at-whole
 
--- each match's zone has a TZif file under its joined name, whose local time at the instant has the printed offset, and the line begins with the one civil reading of instant and offset;
+-- there is a match; each one's zone has a TZif file that counts UNIX time and has the printed offset there; the line is the one civil reading and the zones of these matches, which the reply counts;
 pub slip-agrees : (request map atlas zones : List ℕ) (n room size : ℕ) (stamped : Stamped) (hs ts os : List ℕ)
     → Z.replied (given stamped) hs ts os ≡ slipped request map atlas zones n room size → Meant request (λ fix. Agreed fix map zones n size stamped hs os)
 slip-agrees = slip.slip-agrees
@@ -285,13 +291,13 @@ pub slip-at-short : (fix : Fix) (map atlas zones : List ℕ) (n room size : ℕ)
     → Z.replied (given stamped) hs ts os ≡ slippedAt fix map atlas zones n room size → Short fix map zones n stamped hs
 slip-at-short = slip.slip-at-short
 
--- In C: what a call of `uskelzar_slip`, or of `uskelzar_slip_atlas` with the map's atlas, left which returned 0 is such a slip, and its length, matches and offset are the reply's words;
-pub returned-slip : (request map atlas zones : List ℕ) → NoneOrAtlas map atlas → (n room size : ℕ) {number : ℕ} {words hits text out : List ℕ}
+-- In C: what a call of `uskelzar_slip`, or of `uskelzar_slip_atlas` with any words, left which returned 0 is a stamped slip, and its length, matches and offset are the reply's words;
+pub returned-slip : (request map atlas zones : List ℕ) (n room size : ℕ) {number : ℕ} {words hits text out : List ℕ}
     → spoken number words (hits ∷ text ∷ out ∷ []) ≡ slipSpoken (slipped request map atlas zones n room size) → number ≡ 0 → Printed (slipped request map atlas zones n room size) words hits text out
 returned-slip = printed.returned-slip
 
 -- and so of `uskelzar_slip_at` and `uskelzar_slip_at_atlas`.
-pub returned-slip-at : (fix : Fix) (map atlas zones : List ℕ) → NoneOrAtlas map atlas → (n room size : ℕ) {number : ℕ} {words hits text out : List ℕ}
+pub returned-slip-at : (fix : Fix) (map atlas zones : List ℕ) (n room size : ℕ) {number : ℕ} {words hits text out : List ℕ}
     → spoken number words (hits ∷ text ∷ out ∷ []) ≡ slipSpoken (slippedAt fix map atlas zones n room size) → number ≡ 0 → Printed (slippedAt fix map atlas zones n room size) words hits text out
 returned-slip-at = printed.returned-slip-at
 

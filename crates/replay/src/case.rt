@@ -199,6 +199,33 @@ fn run_fixes(
     judge_lists(record, got, words, slots, text, answers)
 }
 
+// Lends filled lists of these sizes to a record of many fixes.
+fn lend_fixes(
+    record: &[u8],
+    lats: usize,
+    lons: usize,
+    reply: usize,
+    count: usize,
+    room: usize,
+    third: usize,
+) -> Verdict
+    requires { ⌜ (lats ≤ 4097) × (lons ≤ 4097) × (30 + 4 * lats + 4 * lons ≤ reply) × (count ≤ 4096) × (room ≤ 16384) × (third ≤ 12291)
+        × (reply + 30 + 4 * count + 4 * third + room ≡ length (now «record»)) ⌝ }
+{
+    let mut slots = filled_slots();
+    let mut text = filled_text();
+    let mut answers = filled_answers();
+    run_fixes(
+        record,
+        lats,
+        lons,
+        reply,
+        &mut slots[..count],
+        &mut text[..room],
+        &mut answers[..third],
+    )
+}
+
 fn judge_many(record: &[u8]) -> Verdict {
     let lats = size_at(record, 6);
     let lons = size_at(record, 10);
@@ -228,18 +255,7 @@ fn judge_many(record: &[u8]) -> Verdict {
     if record.len() != reply + 30 + 4 * count + 4 * third + room {
         return Verdict::Skipped;
     }
-    let mut slots = filled_slots();
-    let mut text = filled_text();
-    let mut answers = filled_answers();
-    run_fixes(
-        record,
-        lats,
-        lons,
-        reply,
-        &mut slots[..count],
-        &mut text[..room],
-        &mut answers[..third],
-    )
+    lend_fixes(record, lats, lons, reply, count, room, third)
 }
 
 // A record of salvage: 17 bytes of sizes, the file, the reply's 34 bytes, the list, the output.
@@ -304,6 +320,19 @@ fn judge_salvage(record: &[u8]) -> Verdict {
     run_salvaged(record, 17 + size, &mut list[..count], &mut out[..room])
 }
 
+// A record of a build that asks for no more than there is room for: `size` bytes of texts, `room` of output.
+fn judge_asked(record: &[u8], asked: Asked, size: usize, room: usize) -> Verdict
+    requires { ⌜ (asked .yards ≤ 160) × (asked .lats ≤ 1024) × (asked .lons ≤ 1024) × (asked .pieces ≤ 160) × (asked .texts ≤ 1024) × (size ≤ 32768) × (room ≤ 32768) ⌝ }
+{
+    let bytes = texts_at(asked);
+    let reply = bytes + size;
+    if record.len() != reply + 34 + room {
+        return Verdict::Skipped;
+    }
+    let mut out = filled_file();
+    run_built(record, asked, bytes, reply, &mut out[..room])
+}
+
 fn judge_build(record: &[u8]) -> Verdict {
     let yards = size_at(record, 12);
     let lats = size_at(record, 16);
@@ -340,13 +369,7 @@ fn judge_build(record: &[u8]) -> Verdict {
         pieces: 5 * pieces,
         texts,
     };
-    let bytes = texts_at(asked);
-    let reply = bytes + size;
-    if record.len() != reply + 34 + room {
-        return Verdict::Skipped;
-    }
-    let mut out = filled_file();
-    run_built(record, asked, bytes, reply, &mut out[..room])
+    judge_asked(record, asked, size, room)
 }
 
 pub fn judge(record: &[u8]) -> Verdict {

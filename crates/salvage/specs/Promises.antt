@@ -1,4 +1,4 @@
--- What salvage promises, as statements: document 02, Q-7. docs/changes/Q-07.md says which of them are proved.
+-- What salvage promises, as statements: document 02, Q-7. Each is a theorem (docs/PROMISES.md).
 use Rattle.numbers.specs.Prelude.{ℕ, zero, suc, _+_, _≤_, _<_, length, Bool, true, false, List, [], _∷_, _≡_}
 use Rattle.numbers.specs.{Answer.{Answer, found, failed}, Reply.{Reply, given, refused, _>>=_}, Varint.{readingOf}, declared.refusal.Refusal.{Refusal}}
 use Rattle.verdict.specs.Verdict.{judgedAt}

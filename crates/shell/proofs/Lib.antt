@@ -4,6 +4,7 @@ pub mod Saying
 pub mod Answering
 pub mod Turns
 pub mod Streams
+pub mod Exits
 pub mod Whole
 pub mod Theorems
 pub mod Worked

@@ -1,6 +1,6 @@
--- The words of a refusal: the code's text has those of the table, and they are short. Assumes nothing.
-use Rattle.numbers.proofs.Prelude.{ℕ, zero, suc, _+_, _≤_, _<_, eq-eqb, ne-eqb, eqb, leb, T, length, drop, getD, drop-of-length-le, Bool, true, false, List, [], _∷_, _++_, append-assoc, append-nil}
-use Rattle.numbers.{proofs.Prelude.{_≡_, refl, sym, ap, _∙_, arith}, specs.Answer.{if_then_else_}}
+-- The words of a refusal: the code's texts have those of the table, and they are short. Assumes nothing.
+use Rattle.numbers.proofs.Prelude.{ℕ, zero, suc, _+_, _-_, _≤_, _<_, eq-eqb, ne-eqb, eqb, leb, T, length, drop, getD, drop-of-length-le, Bool, true, false, List, [], _∷_, _++_, append-assoc}
+use Rattle.numbers.{proofs.Prelude.{append-nil, _≡_, refl, sym, ap, _∙_, arith}, specs.Answer.{if_then_else_}}
 use Prim.Native.String.{String}
 use lib.Dec.{eqb→eq, leb→le}
 use Rattle.calendar.proofs.Below.{all, below}
@@ -83,7 +83,7 @@ module _ {before whole text out : List ℕ} {at next left i : ℕ} (s : Still be
   pub still-on : i < length text → (getD text i 0 ≡ 10 → ⊥) → (left ≡ 0 → ⊥) → Still before at whole text out next left (i + 1)
   still-on h n z = passed left h (line-on left (drop (i + 1) text) (getD text i 0) z n)
 
--- ---- the code's text and the table
+-- ---- the code's texts and the table
 abbrev same : List ℕ → List ℕ → Bool
 same [] [] = true
 same [] (y ∷ ys) = false
@@ -100,15 +100,18 @@ same-is [] (y ∷ ys) h = absurd h
 same-is (x ∷ xs) [] h = absurd h
 same-is (x ∷ xs) (y ∷ ys) h = same-if x y xs ys (eqb x y) (eqb→eq x y) (same-is xs ys) h
 
--- each line of the text has the table's words; computed for a text in the code
-abbrev pub says : List ℕ → Bool
-says text = all (λ number. same (lineAt number text) (bytes (wordsOf number))) 256
+-- so many lines of the text, from the first on, have the table's words; computed for a text in the code
+abbrev pub says : ℕ → ℕ → List ℕ → Bool
+says first count text = all (λ i. same (lineAt i text) (bytes (wordsOf (first + i)))) count
 
-said : (text : List ℕ) → T (says text) → (number : ℕ) → number < 256 → lineAt number text ≡ bytes (wordsOf number)
-said text t number h = same-is (lineAt number text) (bytes (wordsOf number)) (below (λ number. same (lineAt number text) (bytes (wordsOf number))) 256 t number h)
-
-pub says-all : (text : List ℕ) → T (says text) → Says text
-says-all text t = record { line = said text t }
+pub says-all : (first count : ℕ) (text : List ℕ) → T (says first count text) → (number : ℕ) → first ≤ number → number < first + count → Says text first number
+says-all first count text t number starts within = record {
+  starts = starts;
+  line =
+      same-is (lineAt (number - first) text) (bytes (wordsOf (first + (number - first))))
+      (below (λ i. same (lineAt i text) (bytes (wordsOf (first + i)))) count t (number - first) (omega arith))
+      ∙ ap (λ (n : ℕ). bytes (wordsOf n)) (omega arith);
+}
 
 -- ---- at most 80 bytes
 abbrev short : List (ℕ × String) → Bool

@@ -1,5 +1,5 @@
 -- The words of the refusals that a slip can meet; docs/FORMAT.md and docs/TZIF.md have the tables.
-use Rattle.numbers.specs.{Answer.{if_then_else_}, Prelude.{ℕ, zero, suc, _<_, eqb, List, [], _∷_, _≡_}}
+use Rattle.numbers.specs.{Answer.{if_then_else_}, Prelude.{ℕ, zero, suc, _-_, _≤_, eqb, List, [], _∷_, _≡_}}
 use Prim.Native.String.{String}
 use Rattle.shell.specs.Text.{bytes}
 
@@ -68,13 +68,14 @@ wordsIn ((known, words) ∷ more) number = if eqb number known then words else w
 unfoldable pub wordsOf : ℕ → String
 wordsOf number = wordsIn table number
 
--- ---- as the code keeps them: a text with a line for each number from 0 on
--- the line with this number, without its LF
+-- ---- as the code keeps them: texts with a line for each number from a first on
+-- the line with this number, from 0 on, without its LF
 unfoldable pub lineAt : ℕ → List ℕ → List ℕ
 lineAt number [] = []
 lineAt zero (byte ∷ text) = if eqb byte 10 then [] else (byte ∷ lineAt zero text)
 lineAt (suc number) (byte ∷ text) = if eqb byte 10 then lineAt number text else lineAt (suc number) text
 
--- its lines are the words of the table
-pub record Says (text : List ℕ) : Type 0 where
-  pub line : (number : ℕ) → number < 256 → lineAt number text ≡ bytes (wordsOf number)
+-- a text, whose first line has this number, has the table's words of another
+pub record Says (text : List ℕ) (first number : ℕ) : Type 0 where
+  pub starts : first ≤ number
+  pub line : lineAt (number - first) text ≡ bytes (wordsOf number)

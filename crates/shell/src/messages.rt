@@ -12,7 +12,7 @@ pub fn cannot(path: &[u8]) {
     os::fail(path);
     io::write_all(
         STDERR_FILENO,
-        b"stamp: that file cannot be read: see its path and who may read it, and run stamp MAP ZONES again\n",
+        b"stamp: that file cannot be read: see its path and who may read it; of a folder of zones depot bundle makes one file; then run stamp MAP ZONES again\n",
     );
 }
 

@@ -1,15 +1,16 @@
 // The words of a refusal.
+ghost use Prim.Native.Nat.{_≤_, _<_};
 ghost use Rattle.line.specs.Put.{Put};
 ghost use Rattle.shell.specs.{Text.{bytes}, Words.{wordsOf, Says}};
 use line::put::put;
 
-// The line with this number, from 0 on.
-fn put_line_of(out: &mut [u8], at: usize, text: &[u8], number: u8) -> usize
-    requires { ⌜ Says (now text) ⌝ }
+// The line with this number, in a text whose lines are numbered from a first on.
+fn put_line_of(out: &mut [u8], at: usize, text: &[u8], first: u8, number: u8) -> usize
+    requires { ⌜ Says (now text) first number ⌝ }
     ensures { λ r. ⌜ Put (now (out .entry)) at (bytes (wordsOf number)) (now (out .exit)) r ⌝ }
 {
     let mut next = at;
-    let mut left = number;
+    let mut left = number - first;
     let mut i = 0;
     while i < text.len() {
         let byte = text[i];
@@ -28,8 +29,9 @@ fn put_line_of(out: &mut [u8], at: usize, text: &[u8], number: u8) -> usize
     next
 }
 
-// A line for each number, empty for one that no slip meets.
-pub fn put_words(out: &mut [u8], at: usize, number: u8) -> usize
+// Those of a file of borders, as docs/FORMAT.md has them; none above 18.
+fn put_map_words(out: &mut [u8], at: usize, number: u8) -> usize
+    requires { ⌜ number < 40 ⌝ }
     ensures { λ r. ⌜ Put (now (out .entry)) at (bytes (wordsOf number)) (now (out .exit)) r ⌝ }
 {
     put_line_of(
@@ -54,8 +56,21 @@ pub fn put_words(out: &mut [u8], at: usize, number: u8) -> usize
         field value\n\
         precision 0 or above 32\n\
         more hits than slots\n\
-        text doesn't fit\n\
-        \n\n\n\n\n\n\n\n\n\n\n\n\n\n\n\n\n\n\n\n\n\
+        text doesn't fit\n",
+        0,
+        number,
+    )
+}
+
+// Those of a TZif file, as docs/TZIF.md has them; none above 61.
+fn put_zone_words(out: &mut [u8], at: usize, number: u8) -> usize
+    requires { ⌜ (40 ≤ number) × (number < 80) ⌝ }
+    ensures { λ r. ⌜ Put (now (out .entry)) at (bytes (wordsOf number)) (now (out .exit)) r ⌝ }
+{
+    put_line_of(
+        out,
+        at,
+        b"\
         a header does not begin with TZif\n\
         version missing, unknown, or the second header's not the first's\n\
         the file ends inside a header\n\
@@ -77,8 +92,21 @@ pub fn put_words(out: &mut [u8], at: usize, number: u8) -> usize
         a footer that is not newline, string, newline\n\
         bytes behind the end\n\
         no TZ string, or one that contradicts the last transition\n\
-        the rule's instant, or the clock, is outside the years 1 to 9999\n\
-        \n\n\n\n\n\n\n\n\n\n\n\n\n\n\n\n\n\n\
+        the rule's instant, or the clock, is outside the years 1 to 9999\n",
+        40,
+        number,
+    )
+}
+
+// A slip's own; none above 92.
+fn put_slip_words(out: &mut [u8], at: usize, number: u8) -> usize
+    requires { ⌜ 80 ≤ number ⌝ }
+    ensures { λ r. ⌜ Put (now (out .entry)) at (bytes (wordsOf number)) (now (out .exit)) r ⌝ }
+{
+    put_line_of(
+        out,
+        at,
+        b"\
         not a request\n\
         the receiver has no fix\n\
         the checksum is wrong\n\
@@ -92,6 +120,20 @@ pub fn put_words(out: &mut [u8], at: usize, number: u8) -> usize
         the local time is unknown\n\
         the zone's file counts leap seconds\n\
         the hours differ\n",
+        80,
         number,
     )
+}
+
+// None for a number that no slip meets.
+pub fn put_words(out: &mut [u8], at: usize, number: u8) -> usize
+    ensures { λ r. ⌜ Put (now (out .entry)) at (bytes (wordsOf number)) (now (out .exit)) r ⌝ }
+{
+    if number < 40 {
+        return put_map_words(out, at, number);
+    }
+    if number < 80 {
+        return put_zone_words(out, at, number);
+    }
+    put_slip_words(out, at, number)
 }

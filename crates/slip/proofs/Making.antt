@@ -1,23 +1,27 @@
 -- What a stamped slip was made of: the lookup, the hours of its matches, and the first of them. Assumes nothing.
-use Rattle.numbers.proofs.Prelude.{ℕ, _+_, _≤_, min, eqb-true, eqb, leb, ℤ, _+ℤ_, length, true, false, not, List, [], _∷_, _≡_, refl, sym, ap, subst, _∙_, w32, SFits, arith}
-use Rattle.numbers.{proofs.{Replies.{given-from, given-one, demanded}, Tests.{both}}, specs.{Lists.{padded}, Reply.{Reply, given, refused, refusal, plain, demand, _>>=_, _>>_}}}
+use Rattle.numbers.proofs.Prelude.{ℕ, suc, _+_, _≤_, min, eqb-true, eqb, leb, ℤ, _+ℤ_, length, Bool, true, false, not, List, [], _∷_, _≡_, refl, sym, ap, subst, _∙_, w32, SFits, arith}
+use Rattle.numbers.proofs.{Replies.{given-from, given-one, demanded}, Tests.{both}}
+use Rattle.numbers.specs.{Answer.{if_then_else_}, Lists.{padded}, Reply.{Reply, given, refused, refusal, plain, demand, _>>=_, _>>_}}
 use Rattle.atlas.specs.Beside.{zonesBeside}
 use Rattle.bundle.{proofs.Theorems.{found-first, entry-bytes}, specs.{Bundle.{findOf}, declared.find.File.{File}}}
 use Rattle.calendar.{proofs.CivilAt.{civil-at}, specs.{Civil.{civilAt, Shows, CivilOf}, declared.civil.{Civil.{Civil}, Reading.{Reading}}}}
 use Rattle.header.specs.{Header.{headOf}, declared.header.Head.{Head}}
 use Rattle.line.specs.Put.{far}
-use Rattle.localtime.{proofs.Offsets.{offset-fits}, specs.Local.{answerAt, scaleAt}}
+use Rattle.localtime.{proofs.Offsets.{offset-fits}, specs.{Local.{rulesIn, answerBy, answerAt, scaleIn, scaleOr, scaleBy, scaleAt}, declared.{rule.Rules.{Rules}, scale.Scale.{Scale}}}}
 use Rattle.request.specs.{Request.{requestOf}, declared.read.Fix.{Fix}}
 use Rattle.slip.proofs.Zones.{same-match}
 use Rattle.slip.specs.{Hour.{Hour, nameOf, plainly, known, localIn, shown, hourIn, hourOf, hoursFrom}, Line.{lineOf}, Says.{Meant, Says, EachSays}}
 use Rattle.slip.specs.{Slip.{Slip, placeOf, onGlobe, haveOffset, agreed, fitted, slipAt, slipOf, Replied, replied, repliedOf, slippedAt, slipped}, declared.slip.Stamped.{Stamped}}
 use Rattle.table.specs.{Hits.{words}, declared.hits.Hit.{Hit}}
-use Rattle.tzif.specs.{Header.{rfc9636}, Text.{slice}, declared.local.{Answer.{Answer}, Found.{Found}}}
+use Rattle.tzif.specs.{Header.{rfc9636}, Number.{lift}, Text.{slice}, Zone.{readZoneBy}, declared.{local.{Answer.{Answer}, Found.{Found}}, zone.Zone.{Zone}}}
 use Rattle.verdict.{proofs.Compared.{same-eq}, specs.Edge.{sameZ}}
 use Rattle.zones.specs.{Lent.{Outcome}, declared.lookup.Zones.{Zones}}
 use Rattle.calendar.specs.declared.civil.Civil.the-variants as C
 use Rattle.tzif.specs.declared.local.Answer.the-variants as A
 use Rattle.tzif.specs.Reply as Z
+
+abbrev unixScale : Scale
+unixScale = record { kind = 1; correction = 0 }
 
 -- ---- stamped: what it was made of
 abbrev slipWith : Outcome Zones → List Hour → Hour → List ℕ → Slip
@@ -131,6 +135,30 @@ local-fits file instant e =
     let a = given-from (plainly (answerAt rfc9636 file instant)) _ (demanded (not (eqb (scaleAt file instant .kind) 2)) (plain 91) e .1) in
     offset-fits rfc9636 file instant (ap Z.given (found-known (a .it) (a .onto)) ∙ said-plainly (answerAt rfc9636 file instant) (a .is))
 
+-- and its file counts UNIX time: it has a scale, since it answers, and this is not its own
+unix-kind : (none : Bool) (correction : ℕ) → not (eqb ((if none then unixScale else record { kind = 2; correction = correction }) .kind) 2) ≡ true
+    → (if none then unixScale else record { kind = 2; correction = correction }) .kind ≡ 1
+unix-kind true correction e = refl
+unix-kind false correction e = let z : _≡_ {A = ℕ} 0 1 = cc in absurd (omega arith)
+
+scale-there : (zone : Z.Reply Zone) (rules : Zone → Z.Reply Rules) (next : Zone → Rules → Z.Reply Answer) (scale : Zone → Scale) {answer : Answer}
+    → Z.given answer ≡ Z._>>=_ zone (λ z. Z._>>=_ (rules z) (next z)) → (z : Zone) × (scaleOr (Z._>>=_ zone (λ z. Z._>>=_ (rules z) (λ r. Z.given (scale z)))) ≡ scale z)
+unfolding scaleOr Z._>>=_
+scale-there (Z.given z) rules next scale {answer} e = (z, by-rules (rules z) (next z) e) where
+  by-rules : (rs : Z.Reply Rules) (onto : Rules → Z.Reply Answer) → Z.given answer ≡ Z._>>=_ rs onto → scaleOr (Z._>>=_ rs (λ r. Z.given (scale z))) ≡ scale z
+  by-rules (Z.given r) onto e = refl
+  by-rules (Z.refused why) onto e = let z : _≡_ {A = ℕ} 0 1 = cc in absurd (omega arith)
+scale-there (Z.refused why) rules next scale e = let z : _≡_ {A = ℕ} 0 1 = cc in absurd (omega arith)
+
+local-unix : (file : List ℕ) (instant : ℤ) {found : Found} → given found ≡ localIn file instant → scaleAt file instant .kind ≡ 1
+unfolding localIn answerAt scaleBy scaleIn
+local-unix file instant e =
+    let d = demanded (not (eqb (scaleAt file instant .kind) 2)) (plain 91) e in
+    let a = given-from (plainly (answerAt rfc9636 file instant)) _ (d .1) in
+    let s = scale-there (readZoneBy rfc9636 file) (λ zone. rulesIn file zone) (λ zone rules. answerBy file (zone .block) rules (lift instant))
+    (λ zone. scaleIn file (zone .block) (lift instant)) (said-plainly (answerAt rfc9636 file instant) (a .is)) in
+    ap (λ (x : Scale). x .kind) (s .1) ∙ unix-kind (eqb (s .0 .block .leapcnt) 0) _ (subst (λ (x : Scale). not (eqb (x .kind) 2) ≡ true) (s .1) (d .0))
+
 -- its name has an entry in the bundle
 name-fits : (zones name : List ℕ) {file : File} → given file ≡ findOf zones name → length name ≤ 40
 name-fits zones name e = let f = found-first zones name e in entry-bytes zones name (f .place) (f .first .has) .0
@@ -142,8 +170,8 @@ hourly map head zones instant number match {hour} e = let name = given-from (nam
     let file = given-from (findOf zones (name .it)) _ (same-match number _ (name .onto)) in
     let found = given-from (localIn (slice zones (file .it .start) (file .it .length)) instant) _ (file .onto) in
     let reading = given-from (shown (civilAt instant (found .it .offset))) _ (found .onto) in let is = given-one (reading .onto) in
-    let offset = ap (λ (h : Hour). h .offset) is in record {
-      says = record { name = name .it; named = sym (name .is); file = file .it; held = sym (file .is); found = found .it; local = sym (found .is); same = sym offset };
+    let offset = ap (λ (h : Hour). h .offset) is in let unix = local-unix _ instant (found .is) in record {
+      says = record { name = name .it; named = sym (name .is); file = file .it; held = sym (file .is); unix = unix; found = found .it; local = sym (found .is); same = sym offset };
       shows =
           subst (λ (r : Reading). Shows (instant +ℤ hour .offset) r) (sym (ap (λ (h : Hour). h .reading) is))
           (subst (λ (z : ℤ). Shows (instant +ℤ z) (reading .it)) (sym offset)
@@ -162,6 +190,15 @@ each-says map head zones instant number (match ∷ matches) hours offset e h = l
       subst (λ (z : ℤ). Says map head zones instant z match) (same-eq (hour .it .offset) offset (test .0)) (hourly map head zones instant number match (hour .is) .says),
       each-says map head zones instant (number + 1) matches (rest .it) offset (rest .is) (test .1),
     )
+
+-- each match has its hour
+pub hours-long : (map : List ℕ) (head : Head) (zones : List ℕ) (instant : ℤ) (number : ℕ) (matches : List Hit) (hours : List Hour)
+    → given hours ≡ hoursFrom map head zones instant number matches → length hours ≡ length matches
+unfolding hoursFrom
+hours-long map head zones instant number [] hours e = ap length (given-one e)
+hours-long map head zones instant number (match ∷ matches) hours e = let hour = given-from (hourOf map head zones instant number match) _ e in
+    let rest = given-from (hoursFrom map head zones instant (number + 1) matches) _ (hour .onto) in
+    ap length (given-one (rest .onto)) ∙ ap suc (hours-long map head zones instant (number + 1) matches (rest .it) (rest .is))
 
 -- they agree on the first one's
 pub record First (hours : List Hour) (hour : Hour) : Type 0 where

@@ -1,9 +1,9 @@
 -- Which numbers a slip can be refused with. Assumes nothing.
-use Rattle.numbers.proofs.Prelude.{ℕ, _+_, min, le-leb, leb-true, eqb, leb, ℤ, length, Bool, true, false, _&&_, _||_, not, List, [], _∷_, _≡_, refl, sym, ap, subst, _∙_, arith}
+use Rattle.numbers.proofs.Prelude.{ℕ, _+_, min, le-leb, leb-true, eqb, leb, ℤ, length, Bool, true, false, _&&_, _||_, not, List, [], _∷_, _++_, _≡_, refl, sym, ap, subst, _∙_, arith}
 use Rattle.numbers.proofs.{Refusals.{Listed, listed-so}, Replies.{NumberedReply, answers, refuses, then-reply, then-with, and-then, demands}, Tests.{both, differ}}
 use Rattle.numbers.specs.{Reply.{Reply, given, refused, refusal, plain, _>>=_}, declared.refusal.Refusal.{Refusal}}
 use mathlib.Core.Option.{Option, none, some}
-use Rattle.atlas.{proofs.BesideIsPlain.{zones-beside-is-plain}, specs.Beside.{NoneOrAtlas}}
+use Rattle.atlas.{proofs.{BesideIsPlain.{zones-beside-is-plain}, NumberedAtlas.{zones-beside-refusals}}, specs.Beside.{NoneOrAtlas, zonesBeside}}
 use Rattle.bundle.{proofs.Theorems.{found-refusals}, specs.Bundle.{findOf}}
 use Rattle.calendar.specs.{Civil.{civilAt}, declared.civil.Civil.{Civil}}
 use Rattle.header.{proofs.StrictHead.{head-strict}, specs.{Header.{headOf}, declared.header.Head.{Head}}}
@@ -109,15 +109,33 @@ fitted-told : (size : ℕ) (line : List ℕ) → Told (fitted size line)
 unfolding fitted isAtNumber
 fitted-told size line = and-then (demands (leb (length line) size) (refusal 18 0 (min (length line) far)) refl) answers
 
-pub slip-at-told : (fix : Fix) (map atlas zones : List ℕ) → NoneOrAtlas map atlas → (n room size : ℕ) → Told (slipAt fix map atlas zones n room size)
+-- by what the lookup can be refused with
+slip-at-by : {P : ℕ → Type 0} → ((m : ℕ) → Mine m → P m) → (fix : Fix) (map atlas zones : List ℕ) (n room size : ℕ)
+    → ((head : Head) → headOf map ≡ given head → NumberedReply P (zonesBeside map head atlas (placeOf fix) false n room)) → NumberedReply P (slipAt fix map atlas zones n room size)
 unfolding slipAt isAtNumber
+slip-at-by mine fix map atlas zones n room size looks =
+    and-then (wider mine (demands (onGlobe fix) (plain 84) refl)) (then-with (wider mine (head-told map (placeOf fix) n room)) (λ head o. then-reply (looks head o)
+    (λ looked. wider mine (and-then (demands (eqb (looked .answer .mark) 1) (refusal 85 0 (looked .answer .mark)) refl) (then-reply (hours-told map head zones
+    (fix .instant) 1 (looked .matches) o) (λ hours. then-reply (agreed-told hours) (λ hour. then-reply (fitted-told size (lineOf hour hours)) (λ line. answers))))))))
+
+pub slip-at-told : (fix : Fix) (map atlas zones : List ℕ) → NoneOrAtlas map atlas → (n room size : ℕ) → Told (slipAt fix map atlas zones n room size)
 slip-at-told fix map atlas zones so n room size =
-    and-then (demands (onGlobe fix) (plain 84) refl) (then-with (head-told map (placeOf fix) n room) (λ head o. then-reply (subst (λ (l : Reply (L.Outcome Zones)). Told l)
-    (sym (zones-beside-is-plain map atlas so (sym o) (placeOf fix) false n room)) (zones-told map (placeOf fix) n room head o)) (λ looked. and-then
-    (demands (eqb (looked .answer .mark) 1) (refusal 85 0 (looked .answer .mark)) refl) (then-reply (hours-told map head zones (fix .instant) 1 (looked .matches) o)
-    (λ hours. then-reply (agreed-told hours) (λ hour. then-reply (fitted-told size (lineOf hour hours)) (λ line. answers)))))))
+    slip-at-by (λ m h. h) fix map atlas zones n room size (λ head o. subst (λ (l : Reply (L.Outcome Zones)). Told l)
+    (sym (zones-beside-is-plain map atlas so (sym o) (placeOf fix) false n room)) (zones-told map (placeOf fix) n room head o))
+
+-- beside any words: 36 too
+pub slip-at-beside-told : (fix : Fix) (map atlas zones : List ℕ) (n room size : ℕ)
+    → NumberedReply (λ (m : ℕ). (isAtNumber m || eqb m 36) ≡ true) (slipAt fix map atlas zones n room size)
+unfolding isAtNumber
+slip-at-beside-told fix map atlas zones n room size =
+    slip-at-by (λ m h. ap (λ (t : Bool). t || eqb m 36) h) fix map atlas zones n room size (λ head o. by-refusal (zonesBeside map head atlas (placeOf fix) false n room)
+    (λ why e. listed-so (λ m. isAtNumber m || eqb m 36) (lookupNumbers ++ 36 ∷ []) (why .number) refl (zones-beside-refusals map o atlas (placeOf fix) false n room why (sym e))))
 
 -- ---- of a request
+either-last : (a b : Bool) → b ≡ true → (a || b) ≡ true
+either-last true b h = refl
+either-last false b h = h
+
 at-slip : (n : ℕ) → isAtNumber n ≡ true → isSlipNumber n ≡ true
 unfolding isAtNumber isSlipNumber
 at-slip n h = go (from 1 18 n) (from 40 61 n) (from 84 92 n) refl h where
@@ -134,3 +152,13 @@ pub slip-told : (request map atlas zones : List ℕ) → NoneOrAtlas map atlas �
 unfolding slipOf isSlipNumber
 slip-told request map atlas zones so n room size =
     then-reply (wider (λ n h. listed-so isSlipNumber fiveNumbers n refl h) (request-told request)) (λ fix. wider at-slip (slip-at-told fix map atlas zones so n room size))
+
+pub slip-beside-told : (request map atlas zones : List ℕ) (n room size : ℕ)
+    → NumberedReply (λ (m : ℕ). (isSlipNumber m || eqb m 36) ≡ true) (slipOf request map atlas zones n room size)
+unfolding slipOf isSlipNumber
+slip-beside-told request map atlas zones n room size =
+    then-reply (wider (λ m h. listed-so (λ k. isSlipNumber k || eqb k 36) fiveNumbers m refl h) (request-told request))
+    (λ fix. wider (λ m. go m (isAtNumber m) refl) (slip-at-beside-told fix map atlas zones n room size)) where
+      go : (m : ℕ) (t : Bool) → isAtNumber m ≡ t → (t || eqb m 36) ≡ true → (isSlipNumber m || eqb m 36) ≡ true
+      go m true e h = ap (λ (b : Bool). b || eqb m 36) (at-slip m e)
+      go m false e h = either-last (isSlipNumber m) (eqb m 36) h

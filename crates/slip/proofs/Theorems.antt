@@ -1,11 +1,13 @@
 -- What the slip promises, by name. Assumes nothing.
-use Rattle.numbers.proofs.Prelude.{ℕ, _+_, _-_, _^_, _≤_, _<_, ℤ, length, take, length-append, take-at, mag, true, false, List, [], _∷_, _++_, inl, inr, _≡_, refl, sym, ap, subst, _∙_, arith}
+use Rattle.numbers.proofs.Prelude.{ℕ, _+_, _-_, _^_, _≤_, _<_, eqb, ℤ, length, take, length-append, take-at, mag, true, false, _||_, List, [], _∷_, _++_, inl, inr, _≡_}
+use Rattle.numbers.proofs.Prelude.{refl, sym, ap, subst, _∙_, arith}
 use Rattle.numbers.{proofs.Replies.{NumberedReply, number-of, onward}, specs.{Lists.{zeros, padded}, Reply.{Reply, given, refused, plain, demand, _>>=_, _>>_}, declared.refusal.Refusal.{Refusal}}}
 use Rattle.atlas.{proofs.{AtlasIsPlain.{alike-from}, BesideIsPlain.{zones-beside-is-plain}}, specs.{Atlas.{isAtlasOf}, Beside.{NoneOrAtlas}}}
 use Rattle.calendar.{proofs.{Laws.{weekday-closed}, Months.{month-short}}, specs.{Calendar.{isLeap, dayNumber}, Civil.{Shows}, declared.civil.Reading.{Reading}}}
 use Rattle.header.specs.Header.{headOf}
 use Rattle.request.specs.{Request.{requestOf}, declared.read.Fix.{Fix}}
-use Rattle.slip.proofs.{Clocks.{Fitting, read-back}, Making.{afterLookup, made, behind, meant, each-says, first, first-hourly}, Numbered.{slip-at-told, slip-told}}
+use Rattle.slip.proofs.{Clocks.{Fitting, read-back}, Making.{afterLookup, made, behind, meant, each-says, hours-long, first, first-hourly}}
+use Rattle.slip.proofs.Numbered.{slip-at-told, slip-at-beside-told, slip-told, slip-beside-told}
 use Rattle.slip.proofs.Shortness.{Named, names-short, clock-short, zones-all}
 use Rattle.slip.specs.{Hour.{Hour}, Line.{clockText, isAmong, between, zoneText, added, zonesFrom, lineOf}, ReadBack.{readBack}}
 use Rattle.slip.specs.Says.{Meant, Whole, AllSay, Agreed, Clocked, Short, isAtNumber, isSlipNumber, zonesMost}
@@ -102,23 +104,24 @@ slip-whole request map atlas zones so n room size stamped hs ts os e = meant req
 
 says-all : (fix : Fix) (map atlas zones : List ℕ) (n room size : ℕ) (slip : Slip) → given slip ≡ slipAt fix map atlas zones n room size
     → AllSay map zones fix (slip .matches) (slip .stamped .offset) (slip .line)
-unfolding lineOf zonesFrom added isAmong between
+unfolding lineOf
 says-all fix map atlas zones n room size slip e =
     let m = made fix map atlas zones n room size e in
     let f = first (m .hours) (m .agree) in
     let says : AllSay map zones fix (m .looked .matches) (m .hour .offset) (lineOf (m .hour) (m .hours)) = record {
       head = m .head;
       opened = sym (m .opened);
+      some = omega (arith, ap length (f .are), hours-long map (m .head) zones (fix .instant) 1 (m .looked .matches) (m .hours) (m .said));
       each = each-says map (m .head) zones (fix .instant) 1 (m .looked .matches) (m .hours) (m .hour .offset) (m .said) (f .all);
       reading = m .hour .reading;
       shows = first-hourly map (m .head) zones (fix .instant) (m .looked .matches) (m .hours) (m .said) f .1 .shows;
-      rest = zoneText (m .hour) ++ zonesFrom (m .hour ∷ []) (f .rest);
-      printed = ap (λ (hs : List Hour). lineOf (m .hour) hs) (f .are);
+      hours = m .hours;
+      said = sym (m .said);
+      printed = refl;
     } in
     subst (λ (s : Slip). AllSay map zones fix (s .matches) (s .stamped .offset) (s .line)) (sym (m .is)) says
 
--- Where it is stamped, every match's zone has a TZif file under its joined name, whose local time at the instant has the printed offset; date and time are the one civil reading of instant
--- and offset, with which the line begins.
+-- Where it is stamped there is a match, each one's zone has a TZif file in UNIX time with the printed offset; the line is the one civil reading and the zones of these matches, which the reply counts.
 pub slip-at-agrees : (fix : Fix) (map atlas zones : List ℕ) (n room size : ℕ) (stamped : Stamped) (hs ts os : List ℕ) → replied (given stamped) hs ts os ≡ slippedAt fix map atlas zones n room size
     → Agreed fix map zones n size stamped hs os
 unfolding slippedAt
@@ -126,6 +129,9 @@ slip-at-agrees fix map atlas zones n room size stamped hs ts os e = let b = behi
     let m = made fix map atlas zones n room size (b .is) in record {
       matches = b .slip .matches;
       hits = b .hits;
+      counted =
+          ap (λ (s : Stamped). s .matches) (b .said) ∙ ap (λ (s : Slip). s .stamped .matches) (m .is)
+          ∙ hours-long map (m .head) zones (fix .instant) 1 (m .looked .matches) (m .hours) (m .said) ∙ sym (ap (λ (s : Slip). length (s .matches)) (m .is));
       line = b .slip .line;
       out = b .out;
       long = ap (λ (s : Stamped). s .length) (b .said) ∙ ap (λ (s : Slip). s .stamped .length) (m .is) ∙ sym (ap (λ (s : Slip). length (s .line)) (m .is));
@@ -150,6 +156,12 @@ shown-fits {reading = reading} s = let months = s .date .months in record {
   weekday = omega (arith, s .weekday, weekday-closed (dayNumber (reading .year) (reading .month) (reading .day)));
 }
 
+-- the zones' text begins with a space
+spaced : (hours : List Hour) → 0 < length hours → (rest : List ℕ) × (zonesFrom [] hours ≡ 32 ∷ rest)
+unfolding zonesFrom added isAmong between
+spaced [] some = absurd (omega (arith, some))
+spaced (hour ∷ hours) some = (zoneText hour ++ zonesFrom (hour ∷ []) hours, refl)
+
 -- Where it is stamped, the printed bytes, read back as weekday, date, time and offset, are the one civil reading of instant and offset, and the offset.
 pub slip-at-clock : (fix : Fix) (map atlas zones : List ℕ) (n room size : ℕ) (stamped : Stamped) (hs ts os : List ℕ) → replied (given stamped) hs ts os ≡ slippedAt fix map atlas zones n room size
     → Clocked fix stamped os
@@ -158,12 +170,14 @@ slip-at-clock fix map atlas zones n room size stamped hs ts os e = let b = behin
     let m = made fix map atlas zones n room size (b .is) in
     let f = first-hourly map (m .head) zones (fix .instant) (m .looked .matches) (m .hours) (m .said) (first (m .hours) (m .agree)) in
     let same : m .hour .offset ≡ stamped .offset = sym (ap (λ (s : Stamped). s .offset) (b .said) ∙ ap (λ (s : Slip). s .stamped .offset) (m .is)) in
-    let a = slip-at-agrees fix map atlas zones n room size stamped hs ts os e in let says = a .says in record {
+    let a = slip-at-agrees fix map atlas zones n room size stamped hs ts os e in let says = a .says in
+    let rest = spaced (says .hours) (omega (arith, says .some, hours-long map (says .head) zones (fix .instant) 1 (a .matches) (says .hours) (sym (says .said)))) in record {
       reading = says .reading;
       shows = says .shows;
       back =
-          ap readBack (ap (take (stamped .length)) (a .out) ∙ take-at (a .line) (zeros (size - length (a .line))) (stamped .length) (sym (a .long)) ∙ says .printed)
-          ∙ read-back (says .reading) (stamped .offset) (says .rest) (shown-fits (says .shows)) (subst (λ (z : ℤ). mag z < 2 ^ 31) same (f .1 .fits .sfits));
+          ap readBack (ap (take (stamped .length)) (a .out) ∙ take-at (a .line) (zeros (size - length (a .line))) (stamped .length) (sym (a .long)) ∙ says .printed
+          ∙ ap (λ (t : List ℕ). clockText (says .reading) (stamped .offset) ++ t) (rest .1))
+          ∙ read-back (says .reading) (stamped .offset) (rest .0) (shown-fits (says .shows)) (subst (λ (z : ℤ). mag z < 2 ^ 31) same (f .1 .fits .sfits));
     }
 
 pub slip-clock : (request map atlas zones : List ℕ) (n room size : ℕ) (stamped : Stamped) (hs ts os : List ℕ) → replied (given stamped) hs ts os ≡ slipped request map atlas zones n room size
@@ -192,6 +206,19 @@ pub slip-refusals : (request map atlas zones : List ℕ) → NoneOrAtlas map atl
 unfolding slipped
 slip-refusals request map atlas zones so n room size why hs ts os e =
     refused-of n room size (slipOf request map atlas zones n room size) why hs ts os e (slip-told request map atlas zones so n room size)
+
+-- With any words at all the number is one of these, or 36.
+pub slip-at-beside-refusals : (fix : Fix) (map atlas zones : List ℕ) (n room size : ℕ) (why : Refusal) (hs ts os : List ℕ)
+    → replied (refused why) hs ts os ≡ slippedAt fix map atlas zones n room size → (isAtNumber (why .number) || eqb (why .number) 36) ≡ true
+unfolding slippedAt
+slip-at-beside-refusals fix map atlas zones n room size why hs ts os e =
+    refused-of n room size (slipAt fix map atlas zones n room size) why hs ts os e (slip-at-beside-told fix map atlas zones n room size)
+
+pub slip-beside-refusals : (request map atlas zones : List ℕ) (n room size : ℕ) (why : Refusal) (hs ts os : List ℕ)
+    → replied (refused why) hs ts os ≡ slipped request map atlas zones n room size → (isSlipNumber (why .number) || eqb (why .number) 36) ≡ true
+unfolding slipped
+slip-beside-refusals request map atlas zones n room size why hs ts os e =
+    refused-of n room size (slipOf request map atlas zones n room size) why hs ts os e (slip-beside-told request map atlas zones n room size)
 
 -- ---- the longest line
 -- Where it is stamped, the line has at most 36 bytes and for each different zone 43 and its abbreviation: with one name 79 bytes and the abbreviation.

@@ -1,10 +1,11 @@
 -- What a stamped slip says of its search and of its matches: the words of its theorems.
-use Rattle.numbers.specs.{Answer.{found, if_then_else_}, Lists.{padded}, Prelude.{ℕ, _+_, _≤_, leb, ℤ, _+ℤ_, length, take, Bool, false, _&&_, _||_, List, [], _∷_, _++_, _≡_}, Reply.{given}}
+use Rattle.numbers.specs.{Answer.{found, if_then_else_}, Lists.{padded}, Prelude.{ℕ, _+_, _≤_, _<_, leb, ℤ, _+ℤ_, length, take, Bool, false, _&&_, _||_, List, [], _∷_, _++_, _≡_}, Reply.{given}}
 use Rattle.bundle.specs.{Bundle.{findOf}, declared.find.File.{File}}
 use Rattle.calendar.specs.{Civil.{Shows}, declared.civil.Reading.{Reading}}
 use Rattle.header.specs.{Header.{headOf}, declared.header.Head.{Head}}
+use Rattle.localtime.specs.Local.{scaleAt}
 use Rattle.request.specs.{Request.{requestOf}, declared.read.Fix.{Fix}}
-use Rattle.slip.specs.{Hour.{Hour, nameOf, localIn, hoursFrom}, Line.{clockText, isAmong}, ReadBack.{readBack}, Slip.{placeOf}, declared.slip.Stamped.{Stamped}}
+use Rattle.slip.specs.{Hour.{Hour, nameOf, localIn, hoursFrom}, Line.{clockText, isAmong, zonesFrom}, ReadBack.{readBack}, Slip.{placeOf}, declared.slip.Stamped.{Stamped}}
 use Rattle.table.specs.{Hits.{words}, declared.hits.Hit.{Hit}}
 use Rattle.tzif.specs.{Text.{slice}, declared.local.Found.{Found}}
 use Rattle.zones.specs.{Lent.{replied}, Lookup.{lookedUp}, Unstopped.{lookedThroughAll}, declared.lookup.Zones.{Zones}}
@@ -22,12 +23,13 @@ pub record Whole (fix : Fix) (map : List ℕ) (n room : ℕ) (hits text : List �
   pub mark : zones .mark ≡ 1
   pub whole : lookedUp map (placeOf fix) false n room ≡ lookedThroughAll map (placeOf fix) false n room
 
--- there is a TZif file under the match's joined name, and its local time at the instant has the offset
+-- there is a TZif file under the match's joined name, it counts UNIX time at the instant, and its local time there has the offset
 pub record Says (map : List ℕ) (head : Head) (zones : List ℕ) (instant offset : ℤ) (match : Hit) : Type 0 where
   pub name : List ℕ
   pub named : nameOf map head (match .metadata) ≡ given name
   pub file : File
   pub held : findOf zones name ≡ given file
+  pub unix : scaleAt (slice zones (file .start) (file .length)) instant .kind ≡ 1
   pub found : Found
   pub local : localIn (slice zones (file .start) (file .length)) instant ≡ given found
   pub same : found .offset ≡ offset
@@ -36,20 +38,23 @@ unfoldable pub EachSays : List ℕ → Head → List ℕ → ℤ → ℤ → Lis
 EachSays map head zones instant offset [] = Unit {0}
 EachSays map head zones instant offset (match ∷ matches) = Says map head zones instant offset match × EachSays map head zones instant offset matches
 
--- every match says the printed offset, and the line begins with the one civil reading of instant and offset, and a space behind it
+-- there is a match, every match says the printed offset, and the line is the one civil reading of instant and offset, and behind it the zones of the matches' hours
 pub record AllSay (map zones : List ℕ) (fix : Fix) (matches : List Hit) (offset : ℤ) (line : List ℕ) : Type 0 where
   pub head : Head
   pub opened : headOf map ≡ given head
+  pub some : 0 < length matches
   pub each : EachSays map head zones (fix .instant) offset matches
   pub reading : Reading
   pub shows : Shows (fix .instant +ℤ offset) reading
-  pub rest : List ℕ
-  pub printed : line ≡ clockText reading offset ++ (32 ∷ rest)
+  pub hours : List Hour
+  pub said : hoursFrom map head zones (fix .instant) 1 matches ≡ given hours
+  pub printed : line ≡ clockText reading offset ++ zonesFrom [] hours
 
--- the matches in the lent hits and the line in the lent output; and that all say so
+-- the matches in the lent hits, as many as the reply says, and the line in the lent output; and that all say so
 pub record Agreed (fix : Fix) (map zones : List ℕ) (n size : ℕ) (stamped : Stamped) (hs os : List ℕ) : Type 0 where
   pub matches : List Hit
   pub hits : hs ≡ padded n (words matches)
+  pub counted : stamped .matches ≡ length matches
   pub line : List ℕ
   pub out : os ≡ padded size line
   pub long : stamped .length ≡ length line

@@ -2,7 +2,7 @@
 use Rattle.numbers.proofs.Prelude.{ℕ, zero, suc, _-_, _≤_, lt-ltb, ltb, length, Bool, true, false, List, _≡_, refl, ap, arith}
 use Rattle.numbers.{proofs.Readings.{Strictly, cut, same, then-strictly, reading-strictly}, specs.{Answer.{Answer, found, failed, if_then_else_, _>>=_}, Varint.{readingOf}}}
 use Rattle.border.specs.declared.place.Point.{Point}
-use Rattle.table.proofs.Beside.{Beside, held, gone, none, entry-beside}
+use Rattle.table.proofs.{Beside.{Beside, held, gone, none, entry-beside}, rest.Remaining.{either-marked}}
 use Rattle.table.specs.{Rest.{restMark}, Rows.{Rows, tableEnd, unreadable, rowOf, after, rowsThen, rowBy, rowsWithin, rowsFrom}, Table.{stepsBy, entryBy, holds}, declared.rows.Cursor.{Cursor}}
 use Rattle.table.specs.declared.{rows.Row.{Row}, table.Entry.{Entry}}
 use Rattle.numbers.specs.Answer as A
@@ -40,15 +40,10 @@ module _ (file : List ℕ) (end : ℕ) (inside : end ≤ length file) (fix : Poi
   entry-marked more at rest (gone {plain = A.refused n} h) = refl
   entry-marked more at rest none = refl
 
-  either-marked : (test : Bool) (strict plain : Rows) → restMark end fix strict ≡ restMark end fix plain
-      → restMark end fix (if test then strict else tableEnd) ≡ restMark end fix (if test then plain else tableEnd)
-  either-marked true strict plain h = h
-  either-marked false strict plain h = refl
-
   marked : (more : ℕ) → Marked more
   unfolding rowsWithin rowBy readingOf
   marked zero at = refl
-  marked (suc more) at = either-marked (ltb (at .place) end) _ _ (entry-marked more at (marked more) (entry-beside file (at .place)))
+  marked (suc more) at = either-marked end fix (ltb (at .place) end) _ _ (entry-marked more at (marked more) (entry-beside file (at .place)))
 
   abbrev Same : ℕ → Type 0
   Same more = (at : Cursor) → StrictRows (restMark end fix) (rowsBy true more at) (rowsBy false more at)

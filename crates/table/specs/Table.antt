@@ -1,5 +1,5 @@
 -- The box table, as document 01 has it: an entry is six numbers, all read before any is tested.
-use Rattle.numbers.specs.{Answer.{Answer, found, failed, refused, _>>=_}, Point.{signedOf}, Prelude.{ℕ, ltZ, Bool}, Varint.{Numeral, told}, declared.varint.Varint.{Varint}}
+use Rattle.numbers.specs.{Answer.{Answer, found, failed, refused, _>>=_}, Point.{signedOf}, Prelude.{ℕ, ltZ, Bool}, Varint.{Numeral}}
 use Rattle.border.specs.{Box.{Box}, declared.place.Point.{Point}}
 use Rattle.table.specs.declared.table.{Bounds.{Bounds}, Entered.{Entered}, Entry.{Entry}}
 use Rattle.border.specs.Box as B
@@ -51,7 +51,3 @@ abbrev pub toldEntered : Entered → Answer Entry
 toldEntered (E.Entry entry) = found entry
 toldEntered E.Failed = failed
 toldEntered (E.Refused n) = refused n
-
--- a number with nothing to follow it
-abbrev pub stoppedBy : Varint → Answer Entry
-stoppedBy answer = told answer >>= λ number. failed

@@ -2,8 +2,9 @@
 ghost use mathlib.Core.Path.{_≡_};
 ghost use lib.Signed.{ltZ, leZ};
 ghost use Rattle.numbers.specs.Varint.{readingOf};
-ghost use Rattle.table.specs.Table.{toldEntered, stoppedBy, entryBy, stepsBy, boundsOf, isAbove, holds};
+ghost use Rattle.table.specs.Table.{toldEntered, entryBy, stepsBy, boundsOf, isAbove, holds};
 ghost use Rattle.border.specs.Box.{between};
+ghost use Rattle.header.specs.Text.{stoppedOf};
 use border::place::FixedLat;
 use border::place::FixedLon;
 use border::place::Point;
@@ -35,7 +36,7 @@ pub enum Entered {
 
 // A number that could not be read ends its entry.
 fn stopped(answer: Varint) -> Entered
-    ensures { λ r. ⌜ toldEntered r ≡ stoppedBy answer ⌝ }
+    ensures { λ r. ⌜ toldEntered r ≡ stoppedOf answer ⌝ }
 {
     match answer {
         Varint::Number(_) => Entered::Failed,

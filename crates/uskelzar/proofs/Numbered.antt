@@ -1,15 +1,15 @@
 -- What a returned 0 means to firmware: the call was answered, whatever it was given. Each exported function's contract fixes what it returns,
 -- the number said in `openingSpoken`, `foundSpoken`, `manySpoken` or `localSpoken`; here, that this number is 0 exactly where the definition gives an answer. Assumes nothing.
-use Rattle.numbers.proofs.Prelude.{ℕ, Float, ℤ, Bool, List, [], _∷_, _++_, _↔_, _≡_, refl, sym, subst, arith}
+use Rattle.numbers.proofs.Prelude.{ℕ, Float, ℤ, Bool, List, [], _∷_, _++_, _↔_, _≡_, refl, subst, arith}
 use Rattle.numbers.{proofs.{Refusals.{Listed}, Saying.{Answered, never-zero, zero-said}}, specs.{Reply.{given, refused}, Spoken.{noValues, saidOf}, declared.refusal.Refusal.{Refusal}}}
-use Rattle.atlas.{proofs.BesideIsPlain.{simple-beside-is-plain}, specs.Beside.{NoneOrAtlas, simplyBeside}}
-use Rattle.batch.{proofs.{ManyIsPlain.{many-beside-is-plain}, NumberedMany.{manyNumbers, many-refusals}}, specs.{Many.{Batch, Left, manyBeside, lookedUpMany}, declared.many.Totals.{Totals}}}
+use Rattle.atlas.{proofs.NumberedAtlas.{atlas-refusals, simple-beside-refusals}, specs.{Beside.{simplyBeside}, Looked.{lookedAtlas}}}
+use Rattle.batch.{proofs.NumberedMany.{manyNumbers, manyBesideNumbers, many-refusals, many-beside-refusals}, specs.{Many.{Batch, manyBeside, lookedUpMany}, declared.many.Totals.{Totals}}}
 use Rattle.index.{proofs.{NumberedThrough.{throughNumbers, through-refusals, indexed-refusals}, Refusing.{tyingNumbers, tied-refusals}}, specs.{Through.{lookedThrough, lookedIndexed}, Tied.{tiedOf}}}
 use Rattle.localtime.{proofs.Numbered.{footerNumbers, local-time-refusals}, specs.Local.{localTime, scaleAt}}
 use Rattle.tzif.specs.declared.local.LocalTime.{LocalTime}
 use Rattle.header.{proofs.Numbered.{openingNumbers, opening-refusals, strict-opening-refusals}, specs.Opening.{openedOf, openedStrictly}}
-use Rattle.zones.{proofs.NumberedLookup.{lookupNumbers, lookup-refusals, strict-lookup-refusals, simple-lookup-refusals}, specs.{Lent.{Replied}, Lookup.{lookedUp, lookedStrictly}}}
-use Rattle.zones.specs.{Simple.{simplyLooked}, declared.simple.Described.{Described}}
+use Rattle.zones.{proofs.NumberedLookup.{lookupNumbers, lookup-refusals, strict-lookup-refusals, simple-lookup-refusals}, specs.Lookup.{lookedUp, lookedStrictly}}
+use Rattle.zones.specs.Simple.{simplyLooked}
 use Rattle.table.specs.declared.location.Location.{Location}
 use Rattle.uskelzar.specs.{Many.{manySaid, manySpoken}, Spoken.{openingValues, zonesValues, describedValues, localValues, localReply, openingSpoken, foundSpoken, localSpoken}}
 use Rattle.batch.specs.Many as B
@@ -60,18 +60,24 @@ pub simple-lookup-zero : (file : List ℕ) (location : Location) (n room : ℕ)
 simple-lookup-zero file location n room =
     zero-said describedValues (simplyLooked file location n room .reply) (λ why is. never-zero lookupNumbers (λ z. z) (why .number) (simple-lookup-refusals file location n room why is))
 
--- `uskelzar_simple_atlas` and `uskelzar_many_atlas`, with no words or words of which `is_atlas` says 0
-pub simple-atlas-zero : (file words : List ℕ) → NoneOrAtlas file words → (location : Location) (n room : ℕ)
-    → (foundSpoken describedValues (simplyBeside file words location n room) .said .number ≡ 0) ↔ Answered (simplyBeside file words location n room .reply)
-simple-atlas-zero file words so location n room =
-    subst (λ (left : Replied Described). (foundSpoken describedValues left .said .number ≡ 0) ↔ Answered (left .reply)) (sym (simple-beside-is-plain file words so location n room))
-    (simple-lookup-zero file location n room)
+-- `uskelzar_lookup_atlas`, `uskelzar_simple_atlas` and `uskelzar_many_atlas`, with any words
+pub lookup-atlas-zero : (file words : List ℕ) (location : Location) (asked : Bool) (n room : ℕ)
+    → (foundSpoken zonesValues (lookedAtlas file words location asked n room) .said .number ≡ 0) ↔ Answered (lookedAtlas file words location asked n room .reply)
+lookup-atlas-zero file words location asked n room =
+    zero-said zonesValues (lookedAtlas file words location asked n room .reply)
+    (λ why is. never-zero throughNumbers (λ z. z) (why .number) (atlas-refusals file words location asked n room why is))
 
-pub many-atlas-zero : (file words : List ℕ) → NoneOrAtlas file words → (lats lons : List Float) (asked : Bool) (n room third : ℕ)
+pub simple-atlas-zero : (file words : List ℕ) (location : Location) (n room : ℕ)
+    → (foundSpoken describedValues (simplyBeside file words location n room) .said .number ≡ 0) ↔ Answered (simplyBeside file words location n room .reply)
+simple-atlas-zero file words location n room =
+    zero-said describedValues (simplyBeside file words location n room .reply)
+    (λ why is. never-zero throughNumbers (λ z. z) (why .number) (simple-beside-refusals file words location n room why is))
+
+pub many-atlas-zero : (file words : List ℕ) (lats lons : List Float) (asked : Bool) (n room third : ℕ)
     → (manySpoken (manyBeside file words lats lons asked n room third) .said .number ≡ 0) ↔ AnsweredMany (manyBeside file words lats lons asked n room third .reply)
-many-atlas-zero file words so lats lons asked n room third =
-    subst (λ (left : Left). (manySpoken left .said .number ≡ 0) ↔ AnsweredMany (left .reply)) (sym (many-beside-is-plain file words so lats lons asked n room third))
-    (many-zero file lats lons asked n room third)
+many-atlas-zero file words lats lons asked n room third =
+    many-said (manyBeside file words lats lons asked n room third .reply)
+    (λ index why is. never-zero manyBesideNumbers (λ z. z) (why .number) (many-beside-refusals file words lats lons asked n room third index why is))
 
 -- `uskelzar_index_tied`
 pub index-tied-zero : (file words : List ℕ) → (saidOf noValues (tiedOf file words) .number ≡ 0) ↔ Answered (tiedOf file words)

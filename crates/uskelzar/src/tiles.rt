@@ -20,7 +20,7 @@ pub extern "C" fn uskelzar_index_tied(file: &[u8], index: &[u32], reply: &mut [u
     speak(say_tied(index_tied(file, index)), reply)
 }
 
-// Looks a location up through an index that was held against the file. Values as for `uskelzar_lookup`.
+// Looks a location up through an index that is not held against the file first. Values as for `uskelzar_lookup`.
 #[no_mangle]
 pub extern "C" fn uskelzar_lookup_through(
     file: &[u8],

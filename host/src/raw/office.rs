@@ -81,30 +81,38 @@ pub struct Plan<'a> {
     pub texts: &'a [u8],
 }
 
-/// The lists that a builder works in. They may hold anything, and are zero afterwards ([`add`] may leave them untouched); include/uskelzar.h says what each must be for.
-#[derive(Debug)]
-#[allow(missing_docs)] // `Lengths` says how long each is
-pub struct Work<'a> {
-    pub starts: &'a mut [u32],
-    pub keys: &'a mut [u64],
-    pub spare: &'a mut [u64],
-    pub kept: &'a mut [u32],
-    pub held: &'a mut [u8],
-    pub words: &'a mut [u32],
-    pub places: &'a mut [u32],
+/// Lists that are lent to be written, and how long each must be: two structs with the same names.
+macro_rules! lists {
+    ($(#[$said:meta])* $lists:ident, $(#[$long:meta])* $lengths:ident { $($name:ident: $item:ty,)* }) => {
+        $(#[$said])*
+        #[derive(Debug)]
+        #[allow(missing_docs)] // the lengths say how long each is
+        pub struct $lists<'a> {
+            $(pub $name: &'a mut [$item],)*
+        }
+
+        $(#[$long])*
+        #[derive(Clone, Copy, Debug, Eq, PartialEq)]
+        #[allow(missing_docs)] // the names are those of the lists
+        pub struct $lengths {
+            $(pub $name: usize,)*
+        }
+    };
 }
 
-/// How long the working lists must be; longer ones are as good.
-#[derive(Clone, Copy, Debug, Eq, PartialEq)]
-#[allow(missing_docs)] // the names are those of `Work`
-pub struct Lengths {
-    pub starts: usize,
-    pub keys: usize,
-    pub spare: usize,
-    pub kept: usize,
-    pub held: usize,
-    pub words: usize,
-    pub places: usize,
+lists! {
+    /// The lists that a builder works in. They may hold anything, and are zero afterwards ([`add`] may leave them untouched); include/uskelzar.h says what each must be for.
+    Work,
+    /// How long the working lists must be; longer ones are as good.
+    Lengths {
+        starts: u32,
+        keys: u64,
+        spare: u64,
+        kept: u32,
+        held: u8,
+        words: u32,
+        places: u32,
+    }
 }
 
 impl Lengths {
@@ -177,25 +185,17 @@ pub struct Holding<'a> {
     pub bytes: &'a mut [u8],
 }
 
-/// What a builder notes beside its yards, so that an add does not sum all of them afresh: of adds alone. Lend the same four lists to each, as the last one
-/// left them; what they hold before the first does not matter. With others its totals may be wrong, and nothing outside the lists is touched.
-#[derive(Debug)]
-#[allow(missing_docs)] // `NoteLengths` says how long each is
-pub struct Notes<'a> {
-    pub marks: &'a mut [u32],
-    pub chains: &'a mut [u32],
-    pub groups: &'a mut [u32],
-    pub begins: &'a mut [u32],
-}
-
-/// How long the notes must be; longer ones are as good.
-#[derive(Clone, Copy, Debug, Eq, PartialEq)]
-#[allow(missing_docs)] // the names are those of `Notes`
-pub struct NoteLengths {
-    pub marks: usize,
-    pub chains: usize,
-    pub groups: usize,
-    pub begins: usize,
+lists! {
+    /// What a builder notes beside its yards, so that an add does not sum all of them afresh: of adds alone. Lend the same four lists to each, as the last one
+    /// left them; what they hold before the first does not matter. With others its totals may be wrong, and nothing outside the lists is touched.
+    Notes,
+    /// How long the notes must be; longer ones are as good.
+    NoteLengths {
+        marks: u32,
+        chains: u32,
+        groups: u32,
+        begins: u32,
+    }
 }
 
 impl NoteLengths {

@@ -1,10 +1,10 @@
 -- What the steps of an add ask for follows from the tests before them. Assumes nothing.
 use Rattle.numbers.proofs.Prelude.{ℕ, _+_, _-_, _*_, _^_, _≤_, _<_, min, le-leb, leb-true, not-false, lt-leb, leb, ℤ, length, take, drop, length-append, length-take-le, drop-at, Bool, true, false}
 use Rattle.numbers.{proofs.{Prelude.{_&&_, not, List, _++_, _≡_, refl, sym, ap, subst, _∙_, mul-comm, mul-suc, add-one, arith}, Tests.{both}}, specs.{Lists.{zeros}, Reply.{given}}}
-use Rattle.build.{proofs.Slices.{texts-few}, specs.Room.{enough, workOf}}
+use Rattle.build.{proofs.Slices.{texts-few}, specs.Room.{enough}}
 use Rattle.builder.{proofs.{Counting.{lengths-room}, drawing.Sections.{appended-fits}}, specs.{File.{areTexts, isText, upTo}, Yards.{cutBy, sumOf}, declared.borders.Border.{Border}}}
 use Rattle.builder.specs.inner.Drawing.Section.{LentFor}
-use Rattle.draft.{proofs.held.Stood.{Own, Stood, own-parts, stood as stood-is}, specs.Held.{Builder.{Offered}, Space.{ownEnough, longEnough, standing}, State.{Lists}}}
+use Rattle.draft.{proofs.held.Stood.{Own, Stood, own-parts, stood as stood-is}, specs.Held.{Builder.{Offered}, Space.{ownEnough, longEnough, standing, workIn}, State.{Lists}}}
 use Rattle.draft.specs.declared.held.{room.Rooms.{Rooms}, state.Held.{Held}}
 use Rattle.writer.specs.{Pieces.{piecesOf}, Writer.{every, borderOf}}
 use Rattle.add.specs.{Adding.Adds.{Few, notesEnough, usedOut}, Growing.Notes.{NotesRoom}, Offered.Offers.{offeredAs, offerGood, dataWith, Offers}, declared.adding.room.NoteRooms.{NoteRooms}}
@@ -24,7 +24,7 @@ no-place r names yards front strings sum other h k =
     let low : leb (strings + sum) (r .texts) ≡ false = lt-leb (strings + sum) (r .texts) (omega (arith, h, k)) in
     let none : ownEnough r names yards (strings + sum) ≡ false = ap (λ (b : Bool). leb yards (r .borders) && (leb (names + 1 + names * yards) (r .lengths) &&
     (b && leb (4 * yards) (r .boxes)))) low ∙ third (leb yards (r .borders)) (leb (names + 1 + names * yards) (r .lengths)) (leb (4 * yards) (r .boxes)) in
-    sym (ap (λ (b : Bool). (b && enough (workOf (r .starts) (r .keys) (r .spare) (r .kept) (r .held) (r .words) (r .places) (r .boxes)) yards (names * yards) (strings + sum - front)) && other) none)
+    sym (ap (λ (b : Bool). (b && enough (workIn r) yards (names * yards) (strings + sum - front)) && other) none)
 
 pub no-space : (t s other : Bool) → t ≡ s → not t ≡ true → false ≡ (s && other)
 no-space true s other e n = let z : _≡_ {A = ℕ} 0 1 = cc in absurd (omega arith)
@@ -120,8 +120,8 @@ module _ (held : Held) (lats lons : List ℤ) (pieces sizes values : List ℕ) (
     all-long : (longEnough rooms (held .names) (held .yards + 1) (held .front) (held .strings + sum) ≡ true) × (notesEnough lent (held .names) (held .yards + 1) ≡ true)
     all-long = both (longEnough rooms (held .names) (held .yards + 1) (held .front) (held .strings + sum)) _ (sym e ∙ not-false t n)
 
-    parts : (ownEnough rooms (held .names) (held .yards + 1) (held .strings + sum) ≡ true) × (enough (workOf (rooms .starts) (rooms .keys) (rooms .spare)
-        (rooms .kept) (rooms .held) (rooms .words) (rooms .places) (rooms .boxes)) (held .yards + 1) (held .names * (held .yards + 1)) (held .strings + sum - held .front) ≡ true)
+    parts : (ownEnough rooms (held .names) (held .yards + 1) (held .strings + sum) ≡ true)
+        × (enough (workIn rooms) (held .yards + 1) (held .names * (held .yards + 1)) (held .strings + sum - held .front) ≡ true)
     unfolding longEnough
     parts = both (ownEnough rooms (held .names) (held .yards + 1) (held .strings + sum)) _ (all-long .0)
 
@@ -157,7 +157,7 @@ module _ (held : Held) (lats lons : List ℤ) (pieces sizes values : List ℕ) (
         }
 
     pub measuring-here : (strings : ℕ) → strings ≡ held .strings + sum → Measuring held sizes strings (length (take size after)) (rooms .borders) (rooms .lengths)
-        (rooms .texts) (workOf (rooms .starts) (rooms .keys) (rooms .spare) (rooms .kept) (rooms .held) (rooms .words) (rooms .places) (rooms .boxes))
+        (rooms .texts) (workIn rooms)
         (lent .marks) (lent .chains) (lent .groups) (lent .begins)
     measuring-here strings end =
         record {
@@ -172,7 +172,7 @@ module _ (held : Held) (lats lons : List ℤ) (pieces sizes values : List ℕ) (
           borders-room = lists .borders-room;
           lengths-room = lists .lengths-all;
           texts-room = omega (arith, end, lists .texts-room);
-          work-room = ap (λ (k : ℕ). enough (workOf (rooms .starts) (rooms .keys) (rooms .spare) (rooms .kept) (rooms .held) (rooms .words) (rooms .places) (rooms .boxes)) (held .yards + 1)
+          work-room = ap (λ (k : ℕ). enough (workIn rooms) (held .yards + 1)
               (held .names * (held .yards + 1)) (k - held .front)) end ∙ parts .1;
           noted = notes-parts lent (held .names) (held .yards + 1) (all-long .1);
         }

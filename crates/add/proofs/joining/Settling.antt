@@ -1,12 +1,12 @@
 -- A yard that lies in the lists, settled by a sure step or by a fresh sum. Assumes nothing.
 use Rattle.numbers.proofs.Prelude.{ℕ, _+_, _-_, _*_, _≤_, tagOf, declared, ℤ, length, drop, length-drop, length-take, List, [], _∷_, _++_, map, _≡_, refl, sym, ap, subst, _∙_, arith}
-use Rattle.numbers.specs.{Lists.{zeros}, declared.refusal.Refusal.{Refusal}}
-use Rattle.add.specs.{Growing.{Joins.{Renoted}, Notes.{Notes, NotedBy, NotesRoom}}, Joining.Joins.{Rests, idle}, declared.{growing.grow.Added.{Added}, surely.sure.Surely.{Surely}}}
+use Rattle.numbers.specs.declared.refusal.Refusal.{Refusal}
+use Rattle.add.specs.{Growing.{Joins.{Renoted}, Notes.{Notes, NotedBy, NotesRoom}}, declared.{growing.grow.Added.{Added}, surely.sure.Surely.{Surely}}}
 use Rattle.add.specs.inner.{Afresh.Afresh.{Lying}, Growing.Joins.{Growing, Grew}, Joining.Joins.{Measuring, Settles, valuesEnd, valueLengths, valueTexts}, Offered.Puts.{Placed}}
 use Rattle.add.specs.inner.Surely.Sure.{Joinable, SurelyAs}
 use Rattle.build.specs.{Room.{enough, workOf}, declared.room.Work.{Work}}
 use Rattle.builder.{proofs.Counting.{lengths-room}, specs.{Borders.{Drawn}, Yards.{Yard, sumOf}}}
-use Rattle.draft.specs.{Held.State.{Idle, Lists}, declared.held.state.Held.{Held}}
+use Rattle.draft.specs.{Held.State.{Lists}, declared.held.state.Held.{Held}}
 use Rattle.add.specs.inner.Afresh.Afresh
 use Rattle.draft.specs.declared.held.state.Changed.the-variants as C
 use Rattle.add.proofs.surely.sure.Surely as K
@@ -22,22 +22,6 @@ unsure-tag S.Unsure e = refl
 pub notes-as : (names yards a b c d a′ b′ c′ d′ : ℕ) → a′ ≡ a → b′ ≡ b → c′ ≡ c → d′ ≡ d → NotesRoom names yards a b c d → NotesRoom names yards a′ b′ c′ d′
 notes-as names yards a b c d a′ b′ c′ d′ ea eb ec ed n =
     record { marked = omega (arith, n .marked, ea); chained = omega (arith, n .chained, eb); grouped = omega (arith, n .grouped, ec); begun = omega (arith, n .begun, ed) }
-
--- ---- the lists to work in, from where they were lent
-pub idle-as : (a b c d e f g a₁ b₁ c₁ d₁ e₁ f₁ g₁ a₂ b₂ c₂ d₂ e₂ f₂ g₂ : List ℕ) → length a₁ ≡ length a → length b₁ ≡ length b → length c₁ ≡ length c
-    → length d₁ ≡ length d → length e₁ ≡ length e → length f₁ ≡ length f → length g₁ ≡ length g → Idle a₁ b₁ c₁ d₁ e₁ f₁ g₁ [] a₂ b₂ c₂ d₂ e₂ f₂ g₂ [] → Rests a b c d e f g a₂ b₂ c₂ d₂ e₂ f₂ g₂
-idle-as a b c d e f g a₁ b₁ c₁ d₁ e₁ f₁ g₁ a₂ b₂ c₂ d₂ e₂ f₂ g₂ ea eb ec ed ee ef eg at-rest =
-    idle
-    (record {
-      starts-zero = at-rest .starts-zero ∙ ap zeros ea;
-      keys-zero = at-rest .keys-zero ∙ ap zeros eb;
-      spare-zero = at-rest .spare-zero ∙ ap zeros ec;
-      kept-zero = at-rest .kept-zero ∙ ap zeros ed;
-      held-zero = at-rest .held-zero ∙ ap zeros ee;
-      words-zero = at-rest .words-zero ∙ ap zeros ef;
-      places-zero = at-rest .places-zero ∙ ap zeros eg;
-      out-zero = at-rest .out-zero;
-    })
 
 -- ---- the parts of the lists that are lent
 module _ (held : Held) (sizes : List ℕ) (strings size borders : ℕ) (lengths texts : List ℕ) (work : Work) (marks chains groups begins : ℕ)

@@ -10,8 +10,8 @@ unfoldable pub notesEnough : NoteRooms → ℕ → ℕ → Bool
 notesEnough r names yards =
     leb (yards * names + 1) (r .marks) && (leb (4096 + yards * names) (r .chains) && (leb (4096 + yards) (r .groups) && leb yards (r .begins)))
 
-abbrev pub noteRooms : ℕ → ℕ → ℕ → ℕ → NoteRooms
-noteRooms marks chains groups begins = record { marks = marks; chains = chains; groups = groups; begins = begins }
+abbrev pub noteRooms : Notes → NoteRooms
+noteRooms n = record { marks = length (n .marks); chains = length (n .chains); groups = length (n .groups); begins = length (n .begins) }
 
 -- the room for an offered yard, with an output of this length
 abbrev pub spaceFor : Held → Rooms → NoteRooms → Offered → ℕ → Space

@@ -1,10 +1,8 @@
 -- What the functions that join a yard to a builder say.
-use Rattle.numbers.specs.Prelude.{ℕ, List, [], _≡_}
-use Rattle.draft.specs.Held.State.{Idle}
+use Rattle.numbers.specs.Prelude.{_≡_}
+use Rattle.draft.specs.Held.State.{Idle, Works}
 
 -- the lists to work in are as they were, or zero: lent zero they are zero
-pub data Rests (starts keys spare kept held words places starts′ keys′ spare′ kept′ held′ words′ places′ : List ℕ) : Type 0 where
-  untouched : starts′ ≡ starts → keys′ ≡ keys → spare′ ≡ spare → kept′ ≡ kept → held′ ≡ held → words′ ≡ words → places′ ≡ places
-      → Rests starts keys spare kept held words places starts′ keys′ spare′ kept′ held′ words′ places′
-  idle : Idle starts keys spare kept held words places [] starts′ keys′ spare′ kept′ held′ words′ places′ []
-      → Rests starts keys spare kept held words places starts′ keys′ spare′ kept′ held′ words′ places′
+pub data Rests (lent left : Works) : Type 0 where
+  untouched : left ≡ lent → Rests lent left
+  idle : Idle lent left → Rests lent left

@@ -4,7 +4,7 @@ ghost use Prim.Native.Nat.{_+_, _≤_, min};
 ghost use lib.ListN.{length, drop};
 ghost use Rattle.builder.specs.inner.Drawing.Section.{LentFor};
 ghost use Rattle.add.specs.Growing.Notes.{notesAs};
-ghost use Rattle.draft.specs.Held.{Space.{roomsOf}, State.{listsAs}};
+ghost use Rattle.draft.specs.Held.State.{listsAs, roomsOf, worksAs};
 ghost use Rattle.add.specs.Joining.Joins.{Rests};
 ghost use Rattle.numbers.specs.Lists.{zeros};
 ghost use Rattle.add.specs.Offered.Offers.{offeredAs};
@@ -75,11 +75,14 @@ fn add_kept(
     out: &mut [u8],
 ) -> Added
     requires { ⌜ LentFor (min (length (now lats)) 65536) wide (length (now out)) ⌝ }
-    ensures { λ r. ⌜ Adds builder noted (offeredAs (now (lats .entry)) (now (lons .entry)) (now (pieces .entry)) (now (sizes .entry)) (now (values .entry)))
-        (roomsOf (length (now (boxes .entry))) (length (now (borders .entry))) (length (now (lengths .entry))) (length (now (texts .entry))) (length (now (bytes .entry))) (length (now (starts .entry))) (length (now (keys .entry))) (length (now (spare .entry))) (length (now (kept .entry))) (length (now (held .entry))) (length (now (words .entry))) (length (now (places .entry))))
-        (noteRooms (length (now (marks .entry))) (length (now (chains .entry))) (length (now (groups .entry))) (length (now (begins .entry)))) wide (listsAs (now (boxes .entry)) (now (borders .entry)) (now (lengths .entry)) (now (texts .entry)) (now (bytes .entry))) (listsAs (now (boxes .exit)) (now (borders .exit)) (now (lengths .exit)) (now (texts .exit)) (now (bytes .exit)))
-        (notesAs (now (marks .entry)) (now (chains .entry)) (now (groups .entry)) (now (begins .entry))) (notesAs (now (marks .exit)) (now (chains .exit)) (now (groups .exit)) (now (begins .exit))) r
-        × Rests (now (starts .entry)) (now (keys .entry)) (now (spare .entry)) (now (kept .entry)) (now (held .entry)) (now (words .entry)) (now (places .entry)) (now (starts .exit)) (now (keys .exit)) (now (spare .exit)) (now (kept .exit)) (now (held .exit)) (now (words .exit)) (now (places .exit)) ⌝ }
+    ensures { λ r. ⌜ (let own = listsAs (now (boxes .entry)) (now (borders .entry)) (now (lengths .entry)) (now (texts .entry)) (now (bytes .entry)) in
+        let work = worksAs (now (starts .entry)) (now (keys .entry)) (now (spare .entry)) (now (kept .entry)) (now (held .entry)) (now (words .entry)) (now (places .entry)) in
+        let notes = notesAs (now (marks .entry)) (now (chains .entry)) (now (groups .entry)) (now (begins .entry)) in
+        Adds builder noted (offeredAs (now (lats .entry)) (now (lons .entry)) (now (pieces .entry)) (now (sizes .entry)) (now (values .entry)))
+        (roomsOf own work) (noteRooms notes) wide own
+        (listsAs (now (boxes .exit)) (now (borders .exit)) (now (lengths .exit)) (now (texts .exit)) (now (bytes .exit))) notes
+        (notesAs (now (marks .exit)) (now (chains .exit)) (now (groups .exit)) (now (begins .exit))) r
+        × Rests work (worksAs (now (starts .exit)) (now (keys .exit)) (now (spare .exit)) (now (kept .exit)) (now (held .exit)) (now (words .exit)) (now (places .exit)))) ⌝ }
 {
     let rooms = Rooms {
         boxes: boxes.len(),
@@ -169,12 +172,15 @@ pub fn add(
     places: &mut [u32],
     out: &mut [u8],
 ) -> Added
-    ensures { λ r. ⌜ Adds builder noted (offeredAs (now (lats .entry)) (now (lons .entry)) (now (pieces .entry)) (now (sizes .entry)) (now (values .entry)))
-        (roomsOf (length (now (boxes .entry))) (length (now (borders .entry))) (length (now (lengths .entry))) (length (now (texts .entry))) (length (now (bytes .entry))) (length (now (starts .entry))) (length (now (keys .entry))) (length (now (spare .entry))) (length (now (kept .entry))) (length (now (held .entry))) (length (now (words .entry))) (length (now (places .entry))))
-        (noteRooms (length (now (marks .entry))) (length (now (chains .entry))) (length (now (groups .entry))) (length (now (begins .entry)))) (length (now (out .entry))) (listsAs (now (boxes .entry)) (now (borders .entry)) (now (lengths .entry)) (now (texts .entry)) (now (bytes .entry))) (listsAs (now (boxes .exit)) (now (borders .exit)) (now (lengths .exit)) (now (texts .exit)) (now (bytes .exit)))
-        (notesAs (now (marks .entry)) (now (chains .entry)) (now (groups .entry)) (now (begins .entry))) (notesAs (now (marks .exit)) (now (chains .exit)) (now (groups .exit)) (now (begins .exit))) r
-        × Rests (now (starts .entry)) (now (keys .entry)) (now (spare .entry)) (now (kept .entry)) (now (held .entry)) (now (words .entry)) (now (places .entry)) (now (starts .exit)) (now (keys .exit)) (now (spare .exit)) (now (kept .exit)) (now (held .exit)) (now (words .exit)) (now (places .exit))
-        × (now (out .exit) ≡ usedOut (length (now (lats .entry))) (now (out .entry))) ⌝ }
+    ensures { λ r. ⌜ (let own = listsAs (now (boxes .entry)) (now (borders .entry)) (now (lengths .entry)) (now (texts .entry)) (now (bytes .entry)) in
+        let work = worksAs (now (starts .entry)) (now (keys .entry)) (now (spare .entry)) (now (kept .entry)) (now (held .entry)) (now (words .entry)) (now (places .entry)) in
+        let notes = notesAs (now (marks .entry)) (now (chains .entry)) (now (groups .entry)) (now (begins .entry)) in
+        Adds builder noted (offeredAs (now (lats .entry)) (now (lons .entry)) (now (pieces .entry)) (now (sizes .entry)) (now (values .entry)))
+        (roomsOf own work) (noteRooms notes) (length (now (out .entry))) own
+        (listsAs (now (boxes .exit)) (now (borders .exit)) (now (lengths .exit)) (now (texts .exit)) (now (bytes .exit))) notes
+        (notesAs (now (marks .exit)) (now (chains .exit)) (now (groups .exit)) (now (begins .exit))) r
+        × Rests work (worksAs (now (starts .exit)) (now (keys .exit)) (now (spare .exit)) (now (kept .exit)) (now (held .exit)) (now (words .exit)) (now (places .exit)))
+        × (now (out .exit) ≡ usedOut (length (now (lats .entry))) (now (out .entry)))) ⌝ }
 {
     let wide = out.len();
     let lent = lent_to(lats.len(), wide);

@@ -4,7 +4,7 @@ ghost use Prim.Native.Nat.{_+_};
 ghost use lib.ListN.{length};
 ghost use Rattle.build.specs.Room.{workOf};
 ghost use Rattle.add.specs.Growing.Notes.{notesAs};
-ghost use Rattle.draft.specs.Held.State.{listsAs};
+ghost use Rattle.draft.specs.Held.State.{listsAs, worksAs};
 ghost use Rattle.add.specs.inner.Offered.Puts.{Placed};
 ghost use Rattle.add.specs.{inner.Joining.Joins.{Measuring, Joins}, Joining.Joins.{Rests}};
 use crate::growing::grow::Added;
@@ -46,7 +46,8 @@ pub(crate) fn join(
         (length (now marks)) (length (now chains)) (length (now groups)) (length (now begins)) ⌝ }
     ensures { λ r. ⌜ Joins builder noted (now (lats .entry)) (now (lons .entry)) (now (sizes .entry)) (now (values .entry)) (now (border .entry)) (listsAs (now (boxes .entry)) (now (borders .entry)) (now (lengths .entry)) (now (texts .entry)) (now (bytes .entry))) (listsAs (now (boxes .exit)) (now (borders .exit)) (now (lengths .exit)) (now (texts .exit)) (now (bytes .exit)))
         (notesAs (now (marks .entry)) (now (chains .entry)) (now (groups .entry)) (now (begins .entry))) (notesAs (now (marks .exit)) (now (chains .exit)) (now (groups .exit)) (now (begins .exit))) r
-        × Rests (now (starts .entry)) (now (keys .entry)) (now (spare .entry)) (now (kept .entry)) (now (held .entry)) (now (words .entry)) (now (places .entry)) (now (starts .exit)) (now (keys .exit)) (now (spare .exit)) (now (kept .exit)) (now (held .exit)) (now (words .exit)) (now (places .exit)) ⌝ }
+        × Rests (worksAs (now (starts .entry)) (now (keys .entry)) (now (spare .entry)) (now (kept .entry)) (now (held .entry)) (now (words .entry)) (now (places .entry)))
+        (worksAs (now (starts .exit)) (now (keys .exit)) (now (spare .exit)) (now (kept .exit)) (now (held .exit)) (now (words .exit)) (now (places .exit))) ⌝ }
 {
     put_yard(
         builder,

@@ -2,6 +2,7 @@
 ghost use lib.ListN.{length};
 ghost use Rattle.build.specs.Room.{workOf};
 ghost use Rattle.add.specs.Growing.Notes.{notesAs};
+ghost use Rattle.draft.specs.Held.State.{worksAs};
 ghost use Rattle.add.specs.{inner.Joining.Joins.{Measuring, Settles}, Joining.Joins.{Rests}};
 use crate::afresh::join::join_afresh;
 use crate::growing::grow::Added;
@@ -38,7 +39,8 @@ pub(crate) fn settle(
         (length (now marks)) (length (now chains)) (length (now groups)) (length (now begins)) ⌝ }
     ensures { λ r. ⌜ Settles builder noted strings size (now (sizes .entry)) (now (boxes .entry)) (now (borders .entry)) (now (lengths .entry)) (now (texts .entry))
         (notesAs (now (marks .entry)) (now (chains .entry)) (now (groups .entry)) (now (begins .entry))) (notesAs (now (marks .exit)) (now (chains .exit)) (now (groups .exit)) (now (begins .exit))) r
-        × Rests (now (starts .entry)) (now (keys .entry)) (now (spare .entry)) (now (kept .entry)) (now (held .entry)) (now (words .entry)) (now (places .entry)) (now (starts .exit)) (now (keys .exit)) (now (spare .exit)) (now (kept .exit)) (now (held .exit)) (now (words .exit)) (now (places .exit)) ⌝ }
+        × Rests (worksAs (now (starts .entry)) (now (keys .entry)) (now (spare .entry)) (now (kept .entry)) (now (held .entry)) (now (words .entry)) (now (places .entry)))
+        (worksAs (now (starts .exit)) (now (keys .exit)) (now (spare .exit)) (now (kept .exit)) (now (held .exit)) (now (words .exit)) (now (places .exit))) ⌝ }
 {
     let front = builder.front;
     let first = builder.names as usize + 1;

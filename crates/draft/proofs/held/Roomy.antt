@@ -1,7 +1,7 @@
 -- The room that is lent with a builder, list by list. Assumes nothing.
 use Rattle.numbers.proofs.Prelude.{ℕ, _+_, _-_, _*_, _^_, _≤_, _<_, le-leb, lt-leb, leb, Bool, true, false, _&&_, _≡_, refl, ap, _∙_}
-use Rattle.build.specs.Room.{enough, workOf}
-use Rattle.draft.specs.{Held.Space.{ownEnough, longEnough, standing}, declared.held.{room.Rooms.{Rooms}, state.Held.{Held}}}
+use Rattle.build.specs.Room.{enough}
+use Rattle.draft.specs.{Held.Space.{ownEnough, longEnough, standing, workIn}, declared.held.{room.Rooms.{Rooms}, state.Held.{Held}}}
 
 module _ (r : Rooms) (names yards strings : ℕ) where
   pub no-borders : r .borders < yards → false ≡ ownEnough r names yards strings
@@ -26,14 +26,13 @@ module _ (r : Rooms) (names yards strings : ℕ) where
     pub no-own : false ≡ ownEnough r names yards strings → false ≡ longEnough r names yards front strings
     unfolding longEnough
     no-own e =
-        let work : Bool = enough (workOf (r .starts) (r .keys) (r .spare) (r .kept) (r .held) (r .words) (r .places) (r .boxes)) yards (names * yards) (strings - front) in
+        let work : Bool = enough (workIn r) yards (names * yards) (strings - front) in
         ap (λ (b : Bool). b && work) e
 
-    pub own-and-work : true ≡ ownEnough r names yards strings → (b : Bool) → b ≡ enough (workOf (r .starts) (r .keys) (r .spare) (r .kept) (r .held) (r .words)
-        (r .places) (r .boxes)) yards (names * yards) (strings - front) → b ≡ longEnough r names yards front strings
+    pub own-and-work : true ≡ ownEnough r names yards strings → (b : Bool) → b ≡ enough (workIn r) yards (names * yards) (strings - front) → b ≡ longEnough r names yards front strings
     unfolding longEnough
     own-and-work e b is =
-        let work : Bool = enough (workOf (r .starts) (r .keys) (r .spare) (r .kept) (r .held) (r .words) (r .places) (r .boxes)) yards (names * yards) (strings - front) in
+        let work : Bool = enough (workIn r) yards (names * yards) (strings - front) in
         is ∙ ap (λ (b : Bool). b && work) e
 
 -- ---- a builder's numbers

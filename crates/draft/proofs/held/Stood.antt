@@ -1,7 +1,7 @@
 -- What it says that a builder's numbers fit its lists. Assumes nothing.
 use Rattle.numbers.proofs.{Prelude.{ℕ, _+_, _-_, _*_, _^_, _≤_, leb-true, leb, Bool, true, _&&_, _≡_}, Tests.{both}}
-use Rattle.build.specs.Room.{enough, workOf}
-use Rattle.draft.specs.{Held.Space.{longEnough, ownEnough, standing}, declared.held.{room.Rooms.{Rooms}, state.Held.{Held}}}
+use Rattle.build.specs.Room.{enough}
+use Rattle.draft.specs.{Held.Space.{longEnough, ownEnough, standing, workIn}, declared.held.{room.Rooms.{Rooms}, state.Held.{Held}}}
 
 pub record Own (r : Rooms) (names yards strings : ℕ) : Type 0 where
   pub borders-room : yards ≤ r .borders
@@ -49,7 +49,7 @@ stood held r e = let own : Bool = ownEnough r (held .names) (held .yards) (held 
 
 -- the lists to work in
 pub work-enough : (r : Rooms) (names yards front strings : ℕ) → longEnough r names yards front strings ≡ true
-    → enough (workOf (r .starts) (r .keys) (r .spare) (r .kept) (r .held) (r .words) (r .places) (r .boxes)) yards (names * yards) (strings - front) ≡ true
+    → enough (workIn r) yards (names * yards) (strings - front) ≡ true
 unfolding longEnough
 work-enough r names yards front strings e =
-    both (ownEnough r names yards strings) (enough (workOf (r .starts) (r .keys) (r .spare) (r .kept) (r .held) (r .words) (r .places) (r .boxes)) yards (names * yards) (strings - front)) e .1
+    both (ownEnough r names yards strings) (enough (workIn r) yards (names * yards) (strings - front)) e .1

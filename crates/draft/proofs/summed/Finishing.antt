@@ -1,11 +1,11 @@
 -- The end of a builder: each way out of it, and how it is settled. Assumes nothing.
-use Rattle.numbers.proofs.Prelude.{ℕ, _≤_, _<_, lt-ltb, le-ltb, not-false, not-true, leb, ℤ, length, Bool, true, false, _&&_, not, List, [], _≡_, refl, sym, ap, subst, _∙_, arith}
+use Rattle.numbers.proofs.Prelude.{ℕ, _≤_, _<_, lt-ltb, le-ltb, not-false, not-true, leb, length, Bool, true, false, _&&_, not, List, _≡_, refl, sym, ap, subst, _∙_, arith}
 use Rattle.numbers.specs.{Lists.{zeros}, Reply.{Reply, given, refused, plain, demand, _>>_}, declared.refusal.Refusal.{Refusal}}
 use Rattle.writer.specs.inner.Stored.{Stored}
 use Rattle.builder.specs.{File.{fileOf, headOf, upTo}, Yards.{Plan}}
-use Rattle.build.{proofs.Ending.{long-fills, settled-fits, short-fills, whole-fills}, specs.{Room.{workOf}, declared.file.Built.{Built}, inner.Whole.{Fills, Settles, endsAs}}}
+use Rattle.build.{proofs.Ending.{long-fills, settled-fits, short-fills, whole-fills}, specs.{declared.file.Built.{Built}, inner.Whole.{Fills, Settles, endsAs}}}
 use Rattle.draft.proofs.{held.{Standing.{held-yards, holds-standing}, Stood.{stood, work-enough}, Sums.{size-is}}, summed.Wholes.{holds-whole}}
-use Rattle.draft.specs.Held.{Builder.{Builder, finish}, Space.{Space, longEnough, roomsOf, standing}, State.{Holds, Idle, Lists, listsAs}, Totals.{dataOf, fileSize, totalsOf}}
+use Rattle.draft.specs.Held.{Builder.{Builder, finish}, Space.{Space, longEnough, standing, workIn}, State.{Holds, Lists, Works, roomsOf}, Totals.{dataOf, fileSize, totalsOf}}
 use Rattle.draft.specs.{Summed.Ends.{Finishes, Putting, Texts, spaceOf, textsWhole}, declared.held.{room.Rooms.{Rooms}, state.Held.{Held}}}
 use Rattle.build.specs.declared.file.Built.the-variants as W
 
@@ -41,12 +41,9 @@ module _ (b : Builder) (held : Held) (lists : Lists) (h : Holds b held lists) (o
       ∙ ap (λ (n : ℕ). demand (space .lists && leb n (upTo out)) (plain 28) >> given (fileOf plan (dataOf plan))) size
 
 -- ---- each way out
-module _ (held : Held) (boxes : List ℤ) (borders lengths texts bytes : List ℕ) (starts keys spare kept store words places out : ℕ) where
-  abbrev lists : Lists
-  lists = listsAs boxes borders lengths texts bytes
-
+module _ (held : Held) (lists : Lists) (work : Works) (out : ℕ) where
   abbrev rooms : Rooms
-  rooms = roomsOf (length boxes) (length borders) (length lengths) (length texts) (length bytes) starts keys spare kept store words places
+  rooms = roomsOf lists work
 
   abbrev Said : List ℕ → Built → Type 0
   Said after r = ((b : Builder) → Holds b held lists → Fills (finish b out (spaceOf held rooms)) out after r) × (standing held rooms ≡ false → r ≡ W.Refused (plain 28))
@@ -66,7 +63,7 @@ module _ (held : Held) (boxes : List ℤ) (borders lengths texts bytes : List �
     pub space-asked : (held .names ≤ 255) × (held .yards ≤ 4096) × (held .front ≤ held .strings)
     space-asked = let s = stood held rooms good in (s .few-names, s .few-yards, s .front-first)
 
-    pub texts-asked : Texts held (length lengths)
+    pub texts-asked : Texts held (length (lists .lengths))
     texts-asked = let s = stood held rooms good in record { named = s .few-names; few = s .few-yards; order = s .front-first; all = s .own .lengths-all }
 
     module _ (some : held .yards ≡ 0 → ⊥) (w : Bool) (ew : w ≡ longEnough rooms (held .names) (held .yards) (held .front) (held .strings)) where
@@ -83,11 +80,11 @@ module _ (held : Held) (boxes : List ℤ) (borders lengths texts bytes : List �
         enough-space : spaceOf held rooms .lists ≡ true
         enough-space = sym ew ∙ not-false w nw
 
-        pub not-whole : (v : Bool) → v ≡ textsWhole held lengths → not v ≡ true → (after : List ℕ) (r : Built) → r ≡ W.Refused (plain 28) → Said after r
-        not-whole v ev nv after r er = said after r (λ b h. absurd (differ (textsWhole held lengths) (holds-whole b held lists h) (sym ev ∙ not-true v nv)))
+        pub not-whole : (v : Bool) → v ≡ textsWhole held (lists .lengths) → not v ≡ true → (after : List ℕ) (r : Built) → r ≡ W.Refused (plain 28) → Said after r
+        not-whole v ev nv after r er = said after r (λ b h. absurd (differ (textsWhole held (lists .lengths)) (holds-whole b held lists h) (sym ev ∙ not-true v nv)))
 
-        pub putting : (v : Bool) → v ≡ textsWhole held lengths → not v ≡ false →
-            Putting held lengths (length texts) (length borders) (length bytes) (workOf starts keys spare kept store words places (length boxes))
+        pub putting : (v : Bool) → v ≡ textsWhole held (lists .lengths) → not v ≡ false →
+            Putting held (lists .lengths) (length (lists .texts)) (length (lists .borders)) (length (lists .bytes)) (workIn rooms)
         putting v ev nv = let s = stood held rooms good in record {
           fits = texts-asked;
           whole = sym ev ∙ not-false v nv;
@@ -123,18 +120,3 @@ pub settled-zero : (room : ℕ) (before after : List ℕ) (built r : Built) (why
 unfolding Settles
 settled-zero room before after (W.Length n) r why size s e = absurd (never-length n why (sym (s .0) ∙ e))
 settled-zero room before after (W.Refused other) r why size s e = s .1 ∙ ap zeros size
-
--- the lists are zero that were worked in before
-module _ (a b c d e f g a₀ b₀ c₀ d₀ e₀ f₀ g₀ a′ b′ c′ d′ e′ f′ g′ : List ℕ) where
-  pub idle-as : length a ≡ length a₀ → length b ≡ length b₀ → length c ≡ length c₀ → length d ≡ length d₀ → length e ≡ length e₀ → length f ≡ length f₀ → length g ≡ length g₀
-      → Idle a b c d e f g [] a′ b′ c′ d′ e′ f′ g′ [] → Idle a₀ b₀ c₀ d₀ e₀ f₀ g₀ [] a′ b′ c′ d′ e′ f′ g′ []
-  idle-as ea eb ec ed ee ef eg i = record {
-    starts-zero = i .starts-zero ∙ ap zeros ea;
-    keys-zero = i .keys-zero ∙ ap zeros eb;
-    spare-zero = i .spare-zero ∙ ap zeros ec;
-    kept-zero = i .kept-zero ∙ ap zeros ed;
-    held-zero = i .held-zero ∙ ap zeros ee;
-    words-zero = i .words-zero ∙ ap zeros ef;
-    places-zero = i .places-zero ∙ ap zeros eg;
-    out-zero = refl;
-  }

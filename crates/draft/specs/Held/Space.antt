@@ -1,6 +1,6 @@
 -- How much room is lent with a builder, and what it is asked for.
 use Rattle.numbers.specs.Prelude.{ℕ, _+_, _-_, _*_, _^_, leb, Bool, _&&_}
-use Rattle.build.specs.Room.{enough, workOf}
+use Rattle.build.specs.{Room.{enough}, declared.room.Work.{Work}}
 use Rattle.draft.specs.declared.held.{room.Rooms.{Rooms}, state.Held.{Held}}
 
 -- how much data there is room for, and whether every other list is long enough for what the builder will hold
@@ -13,11 +13,16 @@ unfoldable pub ownEnough : Rooms → ℕ → ℕ → ℕ → Bool
 ownEnough r names yards strings =
     leb yards (r .borders) && (leb (names + 1 + names * yards) (r .lengths) && (leb strings (r .texts) && leb (4 * yards) (r .boxes)))
 
+-- of all lists that are lent, those that a build works in
+abbrev pub workIn : Rooms → Work
+workIn r =
+    record { starts = r .starts; keys = r .keys; spare = r .spare; kept = r .kept; held = r .held; words = r .words; places = r .places; boxes = r .boxes }
+
 -- and what a build works in, of these texts so many bytes being those of the names and the notice
 unfoldable pub longEnough : Rooms → ℕ → ℕ → ℕ → ℕ → Bool
 longEnough r names yards front strings =
     ownEnough r names yards strings
-    && enough (workOf (r .starts) (r .keys) (r .spare) (r .kept) (r .held) (r .words) (r .places) (r .boxes)) yards (names * yards) (strings - front)
+    && enough (workIn r) yards (names * yards) (strings - front)
 
 -- a builder's numbers fit its own lists; its data has a zero byte at least, so the zeros of a refused begin are none
 unfoldable pub standing : Held → Rooms → Bool
@@ -28,8 +33,3 @@ standing held r =
     && (leb 1 (held .bytes)
     && (leb (held .bytes) (2 ^ 30)
     && (leb (held .bytes) (r .bytes) && ownEnough r (held .names) (held .yards) (held .strings))))))
-
--- the lengths of all lists that are lent
-abbrev pub roomsOf : ℕ → ℕ → ℕ → ℕ → ℕ → ℕ → ℕ → ℕ → ℕ → ℕ → ℕ → ℕ → Rooms
-roomsOf boxes borders lengths texts bytes starts keys spare kept held words places =
-    record { boxes = boxes; borders = borders; lengths = lengths; texts = texts; bytes = bytes; starts = starts; keys = keys; spare = spare; kept = kept; held = held; words = words; places = places }

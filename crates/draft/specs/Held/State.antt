@@ -3,7 +3,7 @@ use Rattle.numbers.specs.{Lists.{zeros}, Prelude.{ℕ, _-_, _*_, _≤_, eqb, �
 use Rattle.writer.specs.Writer.{every}
 use Rattle.builder.specs.{Borders.{Drawn}, File.{headOf}, Metadata.{fieldsOf}, Yards.{Text, Plan, Yard, sumOf}}
 use Rattle.build.specs.{Entries.Corners.{cornersOf}, Metadata.Kept.{joined}}
-use Rattle.draft.specs.{Held.{Builder.{Builder}, Sound.{Sound}, Totals.{Totals, dataOf, totalsOf}}, declared.held.state.{Changed.{Changed}, Held.{Held}}}
+use Rattle.draft.specs.{Held.{Builder.{Builder}, Sound.{Sound}, Totals.{Totals, dataOf, totalsOf}}, declared.held.{room.Rooms.{Rooms}, state.{Changed.{Changed}, Held.{Held}}}}
 use Rattle.draft.specs.declared.held.state.Changed.the-variants as C
 
 -- a list begins so, and has this item everywhere behind
@@ -114,16 +114,46 @@ unfoldable pub Answers : Reply Builder → Lists → Lists → Changed → Type 
 Answers reply before after (C.Into held) = (b : Builder) × ((reply ≡ given b) × (Holds b held after × SameRooms before after))
 Answers reply before after (C.Refused why) = (reply ≡ refused why) × (after ≡ before)
 
+-- the lists that a call is lent to work in
+pub record Works : Type 0 where
+  pub starts : List ℕ
+  pub keys : List ℕ
+  pub spare : List ℕ
+  pub kept : List ℕ
+  pub held : List ℕ
+  pub words : List ℕ
+  pub places : List ℕ
+
+abbrev pub worksAs : List ℕ → List ℕ → List ℕ → List ℕ → List ℕ → List ℕ → List ℕ → Works
+worksAs starts keys spare kept held words places = record { starts = starts; keys = keys; spare = spare; kept = kept; held = held; words = words; places = places }
+
+-- the lengths of all lists that are lent
+abbrev pub roomsOf : Lists → Works → Rooms
+roomsOf own work =
+    record {
+      boxes = length (own .boxes);
+      borders = length (own .borders);
+      lengths = length (own .lengths);
+      texts = length (own .texts);
+      bytes = length (own .bytes);
+      starts = length (work .starts);
+      keys = length (work .keys);
+      spare = length (work .spare);
+      kept = length (work .kept);
+      held = length (work .held);
+      words = length (work .words);
+      places = length (work .places);
+    }
+
 -- the lists that were worked in are zero
-pub record Idle (starts keys spare kept held words places out starts′ keys′ spare′ kept′ held′ words′ places′ out′ : List ℕ) : Type 0 where
-  pub starts-zero : starts′ ≡ zeros (length starts)
-  pub keys-zero : keys′ ≡ zeros (length keys)
-  pub spare-zero : spare′ ≡ zeros (length spare)
-  pub kept-zero : kept′ ≡ zeros (length kept)
-  pub held-zero : held′ ≡ zeros (length held)
-  pub words-zero : words′ ≡ zeros (length words)
-  pub places-zero : places′ ≡ zeros (length places)
-  pub out-zero : out′ ≡ zeros (length out)
+pub record Idle (lent left : Works) : Type 0 where
+  pub starts-zero : left .starts ≡ zeros (length (lent .starts))
+  pub keys-zero : left .keys ≡ zeros (length (lent .keys))
+  pub spare-zero : left .spare ≡ zeros (length (lent .spare))
+  pub kept-zero : left .kept ≡ zeros (length (lent .kept))
+  pub held-zero : left .held ≡ zeros (length (lent .held))
+  pub words-zero : left .words ≡ zeros (length (lent .words))
+  pub places-zero : left .places ≡ zeros (length (lent .places))
 
 -- ---- what the inner functions say of each other
 -- some yards in the lists that their sums are taken of: boxes and borders at the front, the lengths and bytes of the values alone

@@ -1,11 +1,10 @@
 // The end of a builder: its file, at the front of an output lent then.
-ghost use mathlib.Core.{Bool.{false}, Path.{_≡_}, List.{[]}};
+ghost use mathlib.Core.{Bool.{false}, Path.{_≡_}};
 ghost use lib.ListN.{length};
 ghost use Rattle.build.specs.inner.Whole.{Fills};
-ghost use Rattle.draft.specs.Held.{Builder.{Builder, finish}, State.{Holds, Idle, listsAs}};
-ghost use Rattle.draft.specs.Held.Space.{roomsOf, standing};
-ghost use Rattle.numbers.specs.{Lists.{zeros}, Reply.{plain}, declared.refusal.Refusal.{Refusal}};
-ghost use Rattle.draft.specs.Summed.Ends.{spaceOf, Finishes};
+ghost use Rattle.draft.specs.Held.{Builder.{Builder, finish}, Space.{standing}, State.{Holds, Idle, listsAs, roomsOf, worksAs}};
+ghost use Rattle.numbers.specs.Reply.{plain};
+ghost use Rattle.draft.specs.Summed.Ends.{spaceOf, Files};
 use crate::held::room::Rooms;
 use crate::held::room::has_space;
 use crate::held::room::stands;
@@ -45,9 +44,11 @@ fn fill(
     places: &mut [u32],
     out: &mut [u8],
 ) -> Built
-    ensures { λ r. ⌜ ((b : Builder) → Holds b builder (listsAs (now (boxes .entry)) (now (borders .entry)) (now (lengths .entry)) (now (texts .entry)) (now (bytes .entry)))
-        → Fills (finish b (length (now (out .entry))) (spaceOf builder (roomsOf (length (now (boxes .entry))) (length (now (borders .entry))) (length (now (lengths .entry))) (length (now (texts .entry))) (length (now (bytes .entry))) (length (now (starts .entry))) (length (now (keys .entry))) (length (now (spare .entry))) (length (now (kept .entry))) (length (now (held .entry))) (length (now (words .entry))) (length (now (places .entry)))))) (length (now (out .entry))) (now (out .exit)) r)
-        × (standing builder (roomsOf (length (now (boxes .entry))) (length (now (borders .entry))) (length (now (lengths .entry))) (length (now (texts .entry))) (length (now (bytes .entry))) (length (now (starts .entry))) (length (now (keys .entry))) (length (now (spare .entry))) (length (now (kept .entry))) (length (now (held .entry))) (length (now (words .entry))) (length (now (places .entry)))) ≡ false → r ≡ Built.Refused (plain 28)) ⌝ }
+    ensures { λ r. ⌜ (let own = listsAs (now (boxes .entry)) (now (borders .entry)) (now (lengths .entry)) (now (texts .entry)) (now (bytes .entry)) in
+        let work = worksAs (now (starts .entry)) (now (keys .entry)) (now (spare .entry)) (now (kept .entry)) (now (held .entry)) (now (words .entry)) (now (places .entry)) in
+        ((b : Builder) → Holds b builder own
+        → Fills (finish b (length (now (out .entry))) (spaceOf builder (roomsOf own work))) (length (now (out .entry))) (now (out .exit)) r)
+        × (standing builder (roomsOf own work) ≡ false → r ≡ Built.Refused (plain 28))) ⌝ }
 {
     let rooms = Rooms {
         boxes: boxes.len(),
@@ -120,11 +121,10 @@ pub fn finish(
     places: &mut [u32],
     out: &mut [u8],
 ) -> Built
-    ensures { λ r. ⌜ ((b : Builder) → Holds b builder (listsAs (now (boxes .entry)) (now (borders .entry)) (now (lengths .entry)) (now (texts .entry)) (now (bytes .entry)))
-        → Finishes (finish b (length (now (out .entry))) (spaceOf builder (roomsOf (length (now (boxes .entry))) (length (now (borders .entry))) (length (now (lengths .entry))) (length (now (texts .entry))) (length (now (bytes .entry))) (length (now (starts .entry))) (length (now (keys .entry))) (length (now (spare .entry))) (length (now (kept .entry))) (length (now (held .entry))) (length (now (words .entry))) (length (now (places .entry)))))) (length (now (out .entry))) (now (out .exit)) r)
-        × (standing builder (roomsOf (length (now (boxes .entry))) (length (now (borders .entry))) (length (now (lengths .entry))) (length (now (texts .entry))) (length (now (bytes .entry))) (length (now (starts .entry))) (length (now (keys .entry))) (length (now (spare .entry))) (length (now (kept .entry))) (length (now (held .entry))) (length (now (words .entry))) (length (now (places .entry)))) ≡ false → r ≡ Built.Refused (plain 28))
-        × ((why : Refusal) → r ≡ Built.Refused why → now (out .exit) ≡ zeros (length (now (out .entry))))
-        × Idle (now (starts .entry)) (now (keys .entry)) (now (spare .entry)) (now (kept .entry)) (now (held .entry)) (now (words .entry)) (now (places .entry)) [] (now (starts .exit)) (now (keys .exit)) (now (spare .exit)) (now (kept .exit)) (now (held .exit)) (now (words .exit)) (now (places .exit)) [] ⌝ }
+    ensures { λ r. ⌜ (let own = listsAs (now (boxes .entry)) (now (borders .entry)) (now (lengths .entry)) (now (texts .entry)) (now (bytes .entry)) in
+        let work = worksAs (now (starts .entry)) (now (keys .entry)) (now (spare .entry)) (now (kept .entry)) (now (held .entry)) (now (words .entry)) (now (places .entry)) in
+        Files builder (roomsOf own work) own (length (now (out .entry))) (now (out .exit)) r
+        × Idle work (worksAs (now (starts .exit)) (now (keys .exit)) (now (spare .exit)) (now (kept .exit)) (now (held .exit)) (now (words .exit)) (now (places .exit)))) ⌝ }
 {
     let built = fill(
         builder,

@@ -2,12 +2,12 @@
 use Rattle.numbers.proofs.Prelude.{ℕ, _+_, _-_, _*_, _≤_, _<_, lt-ltb, tagOf, declared, eqb, ℤ, pos, length, take, drop, getD, length-append, length-drop, length-map, length-take-le, Bool, true}
 use Rattle.numbers.{proofs.Prelude.{List, [], _++_, map, _≡_, refl, sym, ap, subst, _∙_, arith}, specs.{Lists.{zeros}, Reply.{Reply, given, plain, demand, _>>_}, declared.refusal.Refusal.{Refusal}}}
 use mathlib.Core.Bool.{false≢true}
-use Rattle.build.{proofs.metadata.Shared.{flat-more, map-more}, specs.{Entries.Corners.{cornersOf}, Metadata.Kept.{joined}, Room.{enough, workOf}}}
+use Rattle.build.{proofs.metadata.Shared.{flat-more, map-more}, specs.{Entries.Corners.{cornersOf}, Metadata.Kept.{joined}, Room.{enough}}}
 use Rattle.builder.{proofs.Counting.{lengths-room}, specs.{Borders.{Drawn}, File.{isText}, Yards.{Plan, Text, Yard, sumOf}}}
 use Rattle.draft.proofs.held.{Everyone.{every-take}, Fronts.{front-of-more, front-part}, Kept.{dropped-data}, Lying.{Splits, boxes-end, borders-end, bytes-end, holds-other, lengths-end}}
 use Rattle.draft.proofs.held.{Lying.{lies-dropped, lies-splits}, Redrawn.{drawnTo}, Standing.{fields-short, front-many, held-front, held-names, readable-parts}, Stood.{Stood, stood, work-enough}}
-use Rattle.draft.{proofs.held.Texts.{dropped-values, restValues, valuesIn}, specs.Held.{Builder.{Builder, dropLast, holding, summed}, Space.{longEnough, roomsOf}, State.{heldWith, Answers, Holds}}}
-use Rattle.draft.specs.{Held.{State.{Idle, Lies, Lists, SameRooms, Stands, frontOf, listsAs, textsOf, valuesOf}, Totals.{Totals, dataOf, totalsFor, totalsOf}}, declared.held.room.Rooms.{Rooms}}
+use Rattle.draft.{proofs.held.Texts.{dropped-values, restValues, valuesIn}, specs.Held.{Builder.{Builder, dropLast, holding, summed}, Space.{longEnough, workIn}, State.{heldWith, Answers, Holds}}}
+use Rattle.draft.specs.{Held.{State.{Lies, Lists, SameRooms, Stands, frontOf, listsAs, textsOf, valuesOf}, Totals.{Totals, dataOf, totalsFor, totalsOf}}, declared.held.room.Rooms.{Rooms}}
 use Rattle.draft.specs.{declared.{held.state.{Changed.{Changed}, Held.{Held}}, summed.sums.{Summed.{Summed}, Sums.{Sums}}}, inner.Summed.Sums.{Summing, SumsUp, sumsOf}}
 use Rattle.writer.specs.Writer.{every}
 use Rattle.edit.proofs.changing.{Cuts.{cut-front, cut-rooms}, Lasts.{fewer-sound, kept-many, last-place, left-is, left-less, left-many, left-strings}}
@@ -17,28 +17,24 @@ use Rattle.draft.proofs.summed.sums.Summed as K
 use Rattle.draft.specs.declared.summed.sums.Summed.the-variants as S
 
 -- the lists as they are lent
-pub lent-here : {boxes : List ℤ} {borders lengths texts bytes : List ℕ} {starts keys spare kept held words places : ℕ} →
-    Lent (roomsOf (length boxes) (length borders) (length lengths) (length texts) (length bytes) starts keys spare kept held words places) (listsAs boxes borders lengths texts bytes)
+pub lent-here : {own : Lists} {starts keys spare kept held words places : ℕ} → Lent (record {
+  boxes = length (own .boxes);
+  borders = length (own .borders);
+  lengths = length (own .lengths);
+  texts = length (own .texts);
+  bytes = length (own .bytes);
+  starts = starts;
+  keys = keys;
+  spare = spare;
+  kept = kept;
+  held = held;
+  words = words;
+  places = places;
+}) own
 lent-here = record { boxes = refl; borders = refl; lengths = refl; texts = refl; bytes = refl }
 
 pub broken-sums : (r : Summed) → tagOf (declared K.enum) r ≡ 1 → (x : Sums) → r ≡ S.Sums x → ⊥
 broken-sums r t x e = let z : tagOf (declared K.enum) r ≡ 0 = ap (tagOf (declared K.enum)) e in omega (arith, t, z)
-
--- the lists to work in keep their lengths
-module _ (a b c d e f g a₁ b₁ c₁ d₁ e₁ f₁ g₁ a₂ b₂ c₂ d₂ e₂ f₂ g₂ : List ℕ) where
-  pub idle-as : length a₁ ≡ length a → length b₁ ≡ length b → length c₁ ≡ length c → length d₁ ≡ length d → length e₁ ≡ length e → length f₁ ≡ length f → length g₁ ≡ length g
-      → Idle a₁ b₁ c₁ d₁ e₁ f₁ g₁ [] a₂ b₂ c₂ d₂ e₂ f₂ g₂ [] → Idle a b c d e f g [] a₂ b₂ c₂ d₂ e₂ f₂ g₂ []
-  idle-as ea eb ec ed ee ef eg i =
-      record {
-        starts-zero = i .starts-zero ∙ ap zeros ea;
-        keys-zero = i .keys-zero ∙ ap zeros eb;
-        spare-zero = i .spare-zero ∙ ap zeros ec;
-        kept-zero = i .kept-zero ∙ ap zeros ed;
-        held-zero = i .held-zero ∙ ap zeros ee;
-        words-zero = i .words-zero ∙ ap zeros ef;
-        places-zero = i .places-zero ∙ ap zeros eg;
-        out-zero = refl;
-      }
 
 -- ---- the numbers of what is left
 module _ (builder : Held) (rooms : Rooms) (borders lengths : List ℕ) (held : Held) (s : Shortened builder rooms borders lengths held) where
@@ -114,14 +110,14 @@ module _ (builder : Held) (rooms : Rooms) (borders lengths : List ℕ) (held : H
     -- what the sums ask for, of `lengths[from..to]` and `texts[front..strings]`
     pub left-summing : (from to : ℕ) → from ≡ held .names + 1 → to ≡ from + held .names * held .yards → Summing (held .names) (held .yards)
         (length (take (to - from) (drop from (lists .lengths)))) (length (lists .borders)) (length (take (held .strings - held .front) (drop (held .front) (lists .texts))))
-        (workOf (rooms .starts) (rooms .keys) (rooms .spare) (rooms .kept) (rooms .held) (rooms .words) (rooms .places) (rooms .boxes))
+        (workIn rooms)
     left-summing from to ef et =
         let size : length (take (held .strings - held .front) (drop (held .front) (lists .texts))) ≡ builder .strings - lastSize builder lengths - builder .front =
         length-take-le (held .strings - held .front) (drop (held .front) (lists .texts)) (omega (arith, length-drop (held .front) (lists .texts), texts-in)) ∙ omega (arith, strings-is, front-is) in
-        let enough-is : enough (workOf (rooms .starts) (rooms .keys) (rooms .spare) (rooms .kept) (rooms .held) (rooms .words) (rooms .places) (rooms .boxes)) (builder .yards - 1)
+        let enough-is : enough (workIn rooms) (builder .yards - 1)
         (builder .names * (builder .yards - 1)) (builder .strings - lastSize builder lengths - builder .front) ≡ true =
         work-enough rooms (builder .names) (builder .yards - 1) (builder .front) (builder .strings - lastSize builder lengths) (s .room) in
-        let work = workOf (rooms .starts) (rooms .keys) (rooms .spare) (rooms .kept) (rooms .held) (rooms .words) (rooms .places) (rooms .boxes) in
+        let work = workIn rooms in
         record {
           named = names-few;
           few = yards-few;

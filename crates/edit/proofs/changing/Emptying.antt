@@ -41,9 +41,9 @@ module _ (b : Builder) (builder : Held) (before : Lists) (h : Holds b builder be
 
 module _ (builder : Held) (before : Lists) where
   abbrev rooms : Rooms
-  rooms = ownRooms (length (before .boxes)) (length (before .borders)) (length (before .lengths)) (length (before .texts)) (length (before .bytes))
+  rooms = ownRooms before
 
-  module _ (s : Bool) (is : s ≡ standing builder (ownRooms (length (before .boxes)) (length (before .borders)) (length (before .lengths)) (length (before .texts)) (length (before .bytes)))) where
+  module _ (s : Bool) (is : s ≡ standing builder (ownRooms before)) where
     pub clear-refused : not s ≡ true → (r : Changed) → r ≡ C.Refused (plain 28) → Clears builder rooms before before r
     clear-refused n r e = let fallen : standing builder rooms ≡ false = sym is ∙ not-true s n in
         record { answers = λ b h. absurd (false≢true (sym fallen ∙ holds-standing b builder before h rooms refl refl refl refl refl)); broken = λ f. (e, refl) }

@@ -1,10 +1,10 @@
 -- From the checks and the text that is put to what replacing promises. Assumes nothing.
 use Rattle.numbers.proofs.Prelude.{ℕ, _+_, _-_, _*_, _≤_, _<_, leb-true, ltb-true, ltb, leb, length, take, drop, Bool, true, false, _&&_, List, _≡_, refl, sym, ap, subst, _∙_, arith}
 use Rattle.numbers.{proofs.{Replies.{demanded}, Tests.{both}}, specs.{Lists.{zeros}, Reply.{Reply, given, refused, plain, demand, _>>=_, _>>_}, declared.refusal.Refusal.{Refusal}}}
-use Rattle.build.specs.{Room.{enough, workOf}, declared.room.Work.{Work}}
+use Rattle.build.specs.{Room.{enough}, declared.room.Work.{Work}}
 use Rattle.builder.specs.{File.{isText}, Yards.{Text}}
 use Rattle.draft.{proofs.held.{Standing.{held-names, held-yards, holds-standing, text-short}, Stood.{Own, own-parts, stood}}, specs.Held.Builder.{Builder, fitting, replace, summed}}
-use Rattle.draft.specs.{Held.{Space.{longEnough, ownEnough, standing}, State.{Answers, Holds, Idle, Lists, listsAs}}, declared.held.{room.Rooms.{Rooms}, state.{Changed.{Changed}, Held.{Held}}}}
+use Rattle.draft.specs.{Held.{Space.{longEnough, ownEnough, standing, workIn}, State.{Answers, Holds, Lists, listsAs}}, declared.held.{room.Rooms.{Rooms}, state.{Changed.{Changed}, Held.{Held}}}}
 use Rattle.writer.{proofs.Stores.{stored-length}, specs.inner.Stored.{Stored}}
 use Rattle.edit.proofs.replacing.{Agreed.{checked-as}, Renewed.{renews}, Spots.{fallen, index-inside, spot-ordered, within-parts}}
 use Rattle.edit.specs.{Replacing.Replaced.{Replaces, replaced, spaceFor}, declared.replacing.check.{Checked.{Checked}, Spot.{Spot}}, inner.Replacing.Exchange.{Exchanging}}
@@ -91,16 +91,14 @@ module _ (held : Held) (rooms : Rooms) (out yard field : ℕ) (text : Text) (len
       record { stands = a .0; there = b .0; is-text = c .0; is = same; within′ = d .0; room = f .0 }
 
   long-parts : (strings : ℕ) → longEnough rooms (held .names) (held .yards) (held .front) strings ≡ true
-      → Own rooms (held .names) (held .yards) strings × (enough (workOf (rooms .starts) (rooms .keys) (rooms .spare) (rooms .kept) (rooms .held) (rooms .words)
-      (rooms .places) (rooms .boxes)) (held .yards) (held .names * held .yards) (strings - held .front) ≡ true)
+      → Own rooms (held .names) (held .yards) strings × (enough (workIn rooms) (held .yards) (held .names * held .yards) (strings - held .front) ≡ true)
   unfolding longEnough
   long-parts strings e =
-      let two = both (ownEnough rooms (held .names) (held .yards) strings) (enough (workOf (rooms .starts) (rooms .keys) (rooms .spare) (rooms .kept)
-      (rooms .held) (rooms .words) (rooms .places) (rooms .boxes)) (held .yards) (held .names * held .yards) (strings - held .front)) e in
+      let two = both (ownEnough rooms (held .names) (held .yards) strings) (enough (workIn rooms) (held .yards) (held .names * held .yards) (strings - held .front)) e in
       (own-parts rooms (held .names) (held .yards) strings (two .0), two .1)
 
   putting-here : Passed held rooms out yard field text lengths here → Putting held here (length text) (rooms .borders) (rooms .lengths)
-      (rooms .texts) out (workOf (rooms .starts) (rooms .keys) (rooms .spare) (rooms .kept) (rooms .held) (rooms .words) (rooms .places) (rooms .boxes))
+      (rooms .texts) out (workIn rooms)
   putting-here p = let s = stood held rooms (p .stands) in let w = within-parts held here (p .within′) in
       let t = both (ltb yard (held .yards)) (ltb field (held .names)) (p .there) in
       let r = both (leb (held .strings) out) (longEnough rooms (held .names) (held .yards) (held .front) (sizeWith held here (length text))) (p .room) in
@@ -125,11 +123,10 @@ module _ (held : Held) (rooms : Rooms) (out yard field : ℕ) (text : Text) (len
       }
 
   module _ (checked : Checked) (e : told checked ≡ checkedOf held rooms out yard field text lengths) where
-    pub may-put : (spot : Spot) → checked ≡ D.At spot → Putting held spot (length text) (rooms .borders) (rooms .lengths) (rooms .texts) out (workOf (rooms .starts)
-        (rooms .keys) (rooms .spare) (rooms .kept) (rooms .held) (rooms .words) (rooms .places) (rooms .boxes))
+    pub may-put : (spot : Spot) → checked ≡ D.At spot → Putting held spot (length text) (rooms .borders) (rooms .lengths) (rooms .texts) out (workIn rooms)
     may-put spot at = let p = passed spot (ap told (sym at) ∙ e) in
-        subst (λ (s : Spot). Putting held s (length text) (rooms .borders) (rooms .lengths) (rooms .texts) out (workOf (rooms .starts) (rooms .keys)
-        (rooms .spare) (rooms .kept) (rooms .held) (rooms .words) (rooms .places) (rooms .boxes))) (sym (p .is)) (putting-here (subst (Passed held rooms out yard field text lengths) (p .is) p))
+        subst (λ (s : Spot). Putting held s (length text) (rooms .borders) (rooms .lengths) (rooms .texts) out (workIn rooms)) (sym (p .is))
+        (putting-here (subst (Passed held rooms out yard field text lengths) (p .is) p))
 
     module _ (lists : Lists) (same : lists .lengths ≡ lengths) (boxes : rooms .boxes ≡ length (lists .boxes)) (borders : rooms .borders ≡ length (lists .borders))
         (many : rooms .lengths ≡ length (lists .lengths)) (texts : rooms .texts ≡ length (lists .texts)) (bytes : rooms .bytes ≡ length (lists .bytes)) where
@@ -162,21 +159,3 @@ module _ (held : Held) (rooms : Rooms) (out yard field : ℕ) (text : Text) (len
                 (omega (arith, held-names b held lists h, ltb-true field (held .names) (t .1))) (p .is-text) (p .is ∙ ap (spotIn (textAt (held .names) yard field)) (sym same)));
             fallen = λ f. let z : _≡_ {A = ℕ} 0 1 = (let no-way : true ≡ false = sym (p .stands) ∙ f in cc) in absurd (omega arith);
           }
-
--- ---- the lists that were worked in had other items, and the same lengths
-pub idle-as : {starts keys spare kept held words places out starts₁ keys₁ spare₁ kept₁ held₁ words₁ places₁ out₁ starts′ keys′ spare′ kept′ held′ words′ places′ out′ : List ℕ}
-    → length starts₁ ≡ length starts → length keys₁ ≡ length keys → length spare₁ ≡ length spare → length kept₁ ≡ length kept → length held₁ ≡ length held → length words₁ ≡ length words →
-    length places₁ ≡ length places → length out₁ ≡ length out
-    → Idle starts₁ keys₁ spare₁ kept₁ held₁ words₁ places₁ out₁ starts′ keys′ spare′ kept′ held′ words′ places′ out′ →
-    Idle starts keys spare kept held words places out starts′ keys′ spare′ kept′ held′ words′ places′ out′
-idle-as a b c d e f g h i =
-    record {
-      starts-zero = i .starts-zero ∙ ap zeros a;
-      keys-zero = i .keys-zero ∙ ap zeros b;
-      spare-zero = i .spare-zero ∙ ap zeros c;
-      kept-zero = i .kept-zero ∙ ap zeros d;
-      held-zero = i .held-zero ∙ ap zeros e;
-      words-zero = i .words-zero ∙ ap zeros f;
-      places-zero = i .places-zero ∙ ap zeros g;
-      out-zero = i .out-zero ∙ ap zeros h;
-    }

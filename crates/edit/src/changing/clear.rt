@@ -1,6 +1,5 @@
 // A builder as it was begun.
 ghost use mathlib.Core.Path.{_≡_};
-ghost use lib.ListN.{length};
 ghost use Rattle.draft.specs.Held.State.{listsAs};
 ghost use Rattle.edit.specs.Changing.Emptied.{Clears, emptiedOf, ownRooms};
 use crate::changing::begin::refused;
@@ -41,9 +40,8 @@ pub fn clear(
     texts: &mut [u8],
     bytes: &mut [u8],
 ) -> Changed
-    ensures { λ r. ⌜ Clears builder (ownRooms (length (now (boxes .entry))) (length (now (borders .entry))) (length (now (lengths .entry))) (length (now (texts .entry))) (length (now (bytes .entry))))
-        (listsAs (now (boxes .entry)) (now (borders .entry)) (now (lengths .entry)) (now (texts .entry)) (now (bytes .entry)))
-        (listsAs (now (boxes .exit)) (now (borders .exit)) (now (lengths .exit)) (now (texts .exit)) (now (bytes .exit))) r ⌝ }
+    ensures { λ r. ⌜ (let own = listsAs (now (boxes .entry)) (now (borders .entry)) (now (lengths .entry)) (now (texts .entry)) (now (bytes .entry)) in
+        Clears builder (ownRooms own) own (listsAs (now (boxes .exit)) (now (borders .exit)) (now (lengths .exit)) (now (texts .exit)) (now (bytes .exit))) r) ⌝ }
 {
     let rooms = Rooms {
         boxes: boxes.len(),

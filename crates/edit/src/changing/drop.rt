@@ -1,7 +1,7 @@
 // A builder without the yard that came last.
-ghost use mathlib.Core.{Path.{_≡_}, List.{[]}};
+ghost use mathlib.Core.Path.{_≡_};
 ghost use lib.ListN.{length};
-ghost use Rattle.draft.specs.Held.{Space.{roomsOf}, State.{Idle, listsAs}};
+ghost use Rattle.draft.specs.Held.State.{Idle, listsAs, roomsOf, worksAs};
 ghost use Rattle.edit.specs.{Changing.Dropped.{Drops}, inner.Changing.Dropped.{Shortens, withSums}};
 use crate::changing::begin::refused;
 use crate::changing::cut::Ends;
@@ -98,10 +98,9 @@ fn drop_yard(
     words: &mut [u32],
     places: &mut [u32],
 ) -> Changed
-    ensures { λ r. ⌜ Drops builder
-        (roomsOf (length (now (boxes .entry))) (length (now (borders .entry))) (length (now (lengths .entry))) (length (now (texts .entry))) (length (now (bytes .entry))) (length (now (starts .entry))) (length (now (keys .entry))) (length (now (spare .entry))) (length (now (kept .entry))) (length (now (held .entry))) (length (now (words .entry))) (length (now (places .entry))))
-        (listsAs (now (boxes .entry)) (now (borders .entry)) (now (lengths .entry)) (now (texts .entry)) (now (bytes .entry)))
-        (listsAs (now (boxes .exit)) (now (borders .exit)) (now (lengths .exit)) (now (texts .exit)) (now (bytes .exit))) r ⌝ }
+    ensures { λ r. ⌜ (let own = listsAs (now (boxes .entry)) (now (borders .entry)) (now (lengths .entry)) (now (texts .entry)) (now (bytes .entry)) in
+        let work = worksAs (now (starts .entry)) (now (keys .entry)) (now (spare .entry)) (now (kept .entry)) (now (held .entry)) (now (words .entry)) (now (places .entry)) in
+        Drops builder (roomsOf own work) own (listsAs (now (boxes .exit)) (now (borders .exit)) (now (lengths .exit)) (now (texts .exit)) (now (bytes .exit))) r) ⌝ }
 {
     let rooms = Rooms {
         boxes: boxes.len(),
@@ -172,11 +171,10 @@ pub fn drop_last(
     words: &mut [u32],
     places: &mut [u32],
 ) -> Changed
-    ensures { λ r. ⌜ Drops builder
-        (roomsOf (length (now (boxes .entry))) (length (now (borders .entry))) (length (now (lengths .entry))) (length (now (texts .entry))) (length (now (bytes .entry))) (length (now (starts .entry))) (length (now (keys .entry))) (length (now (spare .entry))) (length (now (kept .entry))) (length (now (held .entry))) (length (now (words .entry))) (length (now (places .entry))))
-        (listsAs (now (boxes .entry)) (now (borders .entry)) (now (lengths .entry)) (now (texts .entry)) (now (bytes .entry)))
-        (listsAs (now (boxes .exit)) (now (borders .exit)) (now (lengths .exit)) (now (texts .exit)) (now (bytes .exit))) r
-        × Idle (now (starts .entry)) (now (keys .entry)) (now (spare .entry)) (now (kept .entry)) (now (held .entry)) (now (words .entry)) (now (places .entry)) [] (now (starts .exit)) (now (keys .exit)) (now (spare .exit)) (now (kept .exit)) (now (held .exit)) (now (words .exit)) (now (places .exit)) [] ⌝ }
+    ensures { λ r. ⌜ (let own = listsAs (now (boxes .entry)) (now (borders .entry)) (now (lengths .entry)) (now (texts .entry)) (now (bytes .entry)) in
+        let work = worksAs (now (starts .entry)) (now (keys .entry)) (now (spare .entry)) (now (kept .entry)) (now (held .entry)) (now (words .entry)) (now (places .entry)) in
+        Drops builder (roomsOf own work) own (listsAs (now (boxes .exit)) (now (borders .exit)) (now (lengths .exit)) (now (texts .exit)) (now (bytes .exit))) r
+        × Idle work (worksAs (now (starts .exit)) (now (keys .exit)) (now (spare .exit)) (now (kept .exit)) (now (held .exit)) (now (words .exit)) (now (places .exit)))) ⌝ }
 {
     let dropped = drop_yard(
         builder,

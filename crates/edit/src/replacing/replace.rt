@@ -1,6 +1,8 @@
 // A value of a builder, replaced.
+ghost use mathlib.Core.Path.{_≡_};
 ghost use lib.ListN.{length};
-ghost use Rattle.draft.specs.Held.{Space.{roomsOf}, State.{Idle, listsAs}};
+ghost use Rattle.numbers.specs.Lists.{zeros};
+ghost use Rattle.draft.specs.Held.State.{Idle, listsAs, roomsOf, worksAs};
 ghost use Rattle.edit.specs.Replacing.Replaced.{Replaces};
 use crate::replacing::check::Checked;
 use crate::replacing::check::check;
@@ -30,10 +32,10 @@ fn change(
     places: &mut [u32],
     out: &mut [u8],
 ) -> Changed
-    ensures { λ r. ⌜ Replaces builder (roomsOf (length (now (boxes .entry))) (length (now (borders .entry))) (length (now (lengths .entry))) (length (now (texts .entry))) (length (now (bytes .entry))) (length (now (starts .entry))) (length (now (keys .entry))) (length (now (spare .entry))) (length (now (kept .entry))) (length (now (held .entry))) (length (now (words .entry))) (length (now (places .entry))))
-        (length (now (out .entry))) yard field (now (text .entry))
-        (listsAs (now (boxes .entry)) (now (borders .entry)) (now (lengths .entry)) (now (texts .entry)) (now (bytes .entry)))
-        (listsAs (now (boxes .entry)) (now (borders .entry)) (now (lengths .exit)) (now (texts .exit)) (now (bytes .entry))) r ⌝ }
+    ensures { λ r. ⌜ (let own = listsAs (now (boxes .entry)) (now (borders .entry)) (now (lengths .entry)) (now (texts .entry)) (now (bytes .entry)) in
+        let work = worksAs (now (starts .entry)) (now (keys .entry)) (now (spare .entry)) (now (kept .entry)) (now (held .entry)) (now (words .entry)) (now (places .entry)) in
+        Replaces builder (roomsOf own work) (length (now (out .entry))) yard field (now (text .entry)) own
+        (listsAs (now (boxes .entry)) (now (borders .entry)) (now (lengths .exit)) (now (texts .exit)) (now (bytes .entry))) r) ⌝ }
 {
     let rooms = Rooms {
         boxes: boxes.len(),
@@ -93,12 +95,12 @@ pub fn replace(
     places: &mut [u32],
     out: &mut [u8],
 ) -> Changed
-    ensures { λ r. ⌜ Replaces builder (roomsOf (length (now (boxes .entry))) (length (now (borders .entry))) (length (now (lengths .entry))) (length (now (texts .entry))) (length (now (bytes .entry))) (length (now (starts .entry))) (length (now (keys .entry))) (length (now (spare .entry))) (length (now (kept .entry))) (length (now (held .entry))) (length (now (words .entry))) (length (now (places .entry))))
-        (length (now (out .entry))) yard field (now (text .entry))
-        (listsAs (now (boxes .entry)) (now (borders .entry)) (now (lengths .entry)) (now (texts .entry)) (now (bytes .entry)))
+    ensures { λ r. ⌜ (let own = listsAs (now (boxes .entry)) (now (borders .entry)) (now (lengths .entry)) (now (texts .entry)) (now (bytes .entry)) in
+        let work = worksAs (now (starts .entry)) (now (keys .entry)) (now (spare .entry)) (now (kept .entry)) (now (held .entry)) (now (words .entry)) (now (places .entry)) in
+        Replaces builder (roomsOf own work) (length (now (out .entry))) yard field (now (text .entry)) own
         (listsAs (now (boxes .entry)) (now (borders .entry)) (now (lengths .exit)) (now (texts .exit)) (now (bytes .entry))) r
-        × Idle (now (starts .entry)) (now (keys .entry)) (now (spare .entry)) (now (kept .entry)) (now (held .entry)) (now (words .entry)) (now (places .entry)) (now (out .entry))
-        (now (starts .exit)) (now (keys .exit)) (now (spare .exit)) (now (kept .exit)) (now (held .exit)) (now (words .exit)) (now (places .exit)) (now (out .exit)) ⌝ }
+        × Idle work (worksAs (now (starts .exit)) (now (keys .exit)) (now (spare .exit)) (now (kept .exit)) (now (held .exit)) (now (words .exit)) (now (places .exit)))
+        × (now (out .exit) ≡ zeros (length (now (out .entry))))) ⌝ }
 {
     let changed = change(
         builder,

@@ -1,7 +1,8 @@
 -- What the inner functions of building say of each other.
-use Rattle.numbers.specs.Prelude.{ℕ, zero, suc, _+_, _*_, _%_, _^_, _<_, length, getD, sets, Bool, List, [], _∷_, map, _≡_}
-use Rattle.numbers.specs.{Answer.{if_then_else_}, Lists.{padded}, Reply.{Reply, given, refused, plain}}
+use Rattle.numbers.specs.Prelude.{ℕ, zero, suc, _+_, _*_, _^_, _<_, length, getD, sets, Bool, List, [], _∷_, map, _≡_}
+use Rattle.numbers.specs.{Answer.{if_then_else_}, Reply.{Reply, given, refused, plain}}
 use Rattle.table.specs.declared.rows.Row.{Row}
+pub use Rattle.marks.specs.Marks.{low}
 use Rattle.index.specs.{Index.{recordsAt, recordsOf, joined, startsFrom}, Tiles.{meets, tileAt}, declared.{build.Table.{Table}, tiles.Tile.{Tile}}}
 use Rattle.index.specs.declared.build.Table.the-variants as T
 
@@ -20,10 +21,6 @@ unfoldable pub listsIn : List ℕ → ℕ → ℕ → ℕ → ℕ → List (List
 listsIn words precision n zero t = []
 listsIn words precision n (suc more) t = listIn words (tileAt precision t) n 0 ∷ listsIn words precision n more (t + 1)
 
--- a place as a word; those of an index that is given fit
-abbrev pub low : ℕ → ℕ
-low at = at % 2 ^ 32
-
 -- lists and their places were stored, and the next place is behind all of them
 pub record Listed (before : List ℕ) (at : ℕ) (lists : List (List ℕ)) (after : List ℕ) (next : ℕ) : Type 0 where
   pub place-after : next ≡ at + length (joined lists)
@@ -38,8 +35,3 @@ pub record Recorded (before after : List ℕ) (rows : List Row) (n : ℕ) : Type
 abbrev pub toldTable : Table → Reply ℕ
 toldTable (T.Rows n) = given n
 toldTable T.Bad = refused (plain 34)
-
--- the index stands in so many words
-pub record Made (n : ℕ) (after words : List ℕ) (used : ℕ) : Type 0 where
-  pub said : used ≡ length words
-  pub kept : after ≡ padded n words

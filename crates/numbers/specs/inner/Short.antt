@@ -1,5 +1,5 @@
 -- Numbers that are read quickly.
-use Rattle.numbers.specs.{Answer.{found}, Prelude.{ℕ, _+_, _≤_, _<_, length, getD, Bool, List, _≡_}, Varint.{readingOf}, declared.varint.Varint.{Varint, the-variants.{Number, Failed, Refused}}}
+use Rattle.numbers.specs.{Answer.{Answer, failed, if_then_else_}, Prelude.{ℕ, _+_, _-_, _≤_, _<_, ltb, leb, length, drop, getD, Bool, _&&_, List, _≡_}, Varint.{Numeral, sizeOf, forwardAt}}
 
 -- a number's first two bytes, which are not its last, where four bytes stand
 pub record BeginsAt (file : List ℕ) (place low middle : ℕ) : Type 0 where
@@ -9,8 +9,10 @@ pub record BeginsAt (file : List ℕ) (place low middle : ℕ) : Type 0 where
   pub middle-is : middle ≡ getD file (place + 1) 0
   pub middle-on : 128 ≤ middle
 
--- a number that both readings have at a place, and that is not 0, or none
-abbrev pub ShortAt : List ℕ → ℕ → Varint → Type 0
-ShortAt file place (Number number) = ((strict : Bool) → found number ≡ readingOf strict file place) × (0 < number .value)
-ShortAt file place Failed = Unit
-ShortAt file place (Refused n) = Unit
+-- the number at the head of the bytes has up to four, and its last is there and not 0
+unfoldable pub isShort : List ℕ → Bool
+isShort bytes = leb (sizeOf bytes) 4 && ltb 0 (getD bytes (sizeOf bytes - 1) 0)
+
+-- the number that begins at a place, if it is short; any other counts as none
+unfoldable pub shortAt : List ℕ → ℕ → Answer Numeral
+shortAt file place = if isShort (drop place file) then forwardAt file place else failed

@@ -3,10 +3,10 @@ use Rattle.numbers.proofs.Prelude.{ℕ, suc, _+_, _*_, _/_, _^_, _≤_, _<_, lt
 use Rattle.numbers.{proofs.{Coordinates.{twice-read}, Replies.{carried, onward, met, unmet}}, specs.{Point.{readI32}, Reply.{Reply, given, plain}, declared.refusal.Refusal.{Refusal}}}
 use Rattle.verdict.specs.Verdict.{Judgement}
 use Rattle.border.specs.declared.place.Point.{Point}
-use Rattle.table.proofs.{Agreeing.{agree-refused}, search.SoFar.{SoFar, ends, stops, refuses, full}}
+use Rattle.table.proofs.{Agreeing.{agree-refused}, search.SoFar.{SoFar, how, ends}}
 use Rattle.table.specs.{Find.{fixOf, isPrecision, matchedBy}, GivenRows.{recordWord, boxAt, rowAt, rowsBy}, Hits.{width}, Merge.{merged}, Rows.{Rows, row, tableEnd}}
 use Rattle.table.specs.{Search.{Found, afterTurn, rowTurn, Sought}, Table.{boundsOf}, Unstopped.{seekAll}, declared.{hits.Hit.{Hit}, location.Location.{Location}, rows.Row.{Row}}}
-use Rattle.table.specs.{declared.{search.Turn.{Turn, the-variants.{Met, Stopped, Refused}}, table.Bounds.{Bounds}}, inner.Agreeing.{Agrees}}
+use Rattle.table.specs.{declared.{search.Turn.{Turn}, table.Bounds.{Bounds}}, inner.Agreeing.{Agrees}}
 use Rattle.header.specs.declared.header.Head.{Head}
 use Rattle.numbers.specs.Reply as R
 use Rattle.table.specs.Rows as T
@@ -54,7 +54,7 @@ module _ (rowOf : List ℕ → ℕ → Row) (judge : ℕ → ℕ → Judgement) 
     of-rows : {rows′ : Rows} → rowsBy rowOf records (drop i numbers) ≡ rows′ → seekAll judge fix (n / width) rows′ least (g .hits) ≡ whole
     of-rows e = ap (λ (r : Rows). seekAll judge fix (n / width) r least (g .hits)) (sym e) ∙ g .so-far
 
-    pub all-done : length numbers ≤ i → Agrees (Sought n ws) whole (given (record { count = count; mark = 1; least = least }))
+    pub all-done : length numbers ≤ i → Agrees (Sought n ws) whole (given (how count 1 least))
     unfolding seekAll
     all-done h = ends g 1 least (of-rows (rows-done rowOf records numbers i h))
 
@@ -66,16 +66,6 @@ module _ (rowOf : List ℕ → ℕ → Row) (judge : ℕ → ℕ → Judgement) 
       pub turned : {t : Turn} → k < length records / 7 → t ≡ rowTurn judge fix (rowOf records k) least → afterTurn t (g .hits) (n / width) (onwardFrom (i + 1)) ≡ whole
       unfolding seekAll
       turned {t} h e = ap (λ (u : Turn). afterTurn u (g .hits) (n / width) (onwardFrom (i + 1))) e ∙ of-rows (rows-one rowOf records numbers i more is h)
-
-      module _ (h : k < length records / 7) where
-        pub halts : {mark last : ℕ} → Stopped mark last ≡ rowTurn judge fix (rowOf records k) least → Agrees (Sought n ws) whole (given (record { count = count; mark = mark; least = last }))
-        halts e = stops g (onwardFrom (i + 1)) (turned h e)
-
-        pub denies : (ws′ : List ℕ) {number : ℕ} → Refused number ≡ rowTurn judge fix (rowOf records k) least → Agrees (Sought n ws′) whole (R.refused (plain number))
-        denies ws′ e = refuses g (onwardFrom (i + 1)) ws′ (turned h e)
-
-        pub no-slot : (ws′ : List ℕ) {hit : Hit} {closer : ℕ} → Met hit closer ≡ rowTurn judge fix (rowOf records k) least → n / width ≤ count → Agrees (Sought n ws′) whole (R.refused (plain 17))
-        no-slot ws′ {hit} {closer} e room = full g (onwardFrom (i + 1)) hit closer (turned h e) ws′ room
 
 -- ---- from the header to the merged matches, by a search
 module _ (head : Head) (location : Location) (search : Point → Reply Found) where

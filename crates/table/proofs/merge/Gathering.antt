@@ -1,7 +1,8 @@
 -- The loop that takes a group out of its slots: what holds before each turn, and what a turn makes of it. Assumes nothing.
 use Rattle.numbers.proofs.Prelude.{ℕ, _+_, _*_, _≤_, _<_, eq-eqb, ne-eqb, length, take, drop, set, length-append, length-drop, length-map, take-append-drop, length-take-le, getD-at, List, [], _∷_}
-use Rattle.numbers.proofs.Prelude.{_++_, map, append-assoc, append-nil, _≡_, refl, sym, ap, _∙_, arith}
+use Rattle.numbers.proofs.Prelude.{_++_, append-assoc, append-nil, _≡_, refl, sym, ap, _∙_, arith}
 use lib.Seq.{set-at}
+use mathlib.Core.List.{map-append}
 use Rattle.table.specs.{Hits.{width, words, hitAt, putHit, noHit}, Merge.{Summary, _⊕_, single, summary, tallied, clear, cleared}, declared.{hits.Hit.{Hit}, merge.Tally.{Tally}}}
 use Rattle.table.proofs.{Words.{words-length, word-at, word-put}, merge.Summaries.{join-associative, join-empty-left, join-empty-right}}
 
@@ -16,9 +17,15 @@ middle-put front back old hit j l =
     ap (λ (ws : List ℕ). putHit ws j hit) (sym (append-nil (words (front ++ old ∷ back)))) ∙ word-put (front ++ old ∷ back) [] j hit (omega (arith, length-append front (old ∷ back)))
     ∙ append-nil (words (set (front ++ old ∷ back) j hit)) ∙ ap words (set-at front old back hit j l)
 
-map-append : (f : Hit → Hit) (xs ys : List Hit) → map f (xs ++ ys) ≡ map f xs ++ map f ys
-map-append f [] ys = refl
-map-append f (x ∷ xs) ys = ap (λ (l : List Hit). f x ∷ l) (map-append f xs ys)
+-- one more slot
+pub record Next (left : List Hit) : Type 0 where
+  pub hit : Hit
+  pub rest : List Hit
+  pub is : left ≡ hit ∷ rest
+
+pub next : (left : List Hit) → 0 < length left → Next left
+next [] h = absurd (omega arith)
+next (x ∷ xs) h = record { hit = x; rest = xs; is = refl }
 
 -- ---- before each turn: the slots from `from` on are passed or left, and the tally is the passed ones'
 pub record Gathering (all : List Hit) (from id : ℕ) (ws : List ℕ) (t : Tally) (j : ℕ) : Type 0 where
@@ -68,36 +75,27 @@ module _ {all : List Hit} {from id : ℕ} {ws : List ℕ} {t : Tally} {j : ℕ} 
     )
     go (x ∷ xs) s k e z = absurd (omega arith)
 
-  -- one more slot
-  pub record Next : Type 0 where
-    pub hit : Hit
-    pub rest : List Hit
-    pub is : g .left ≡ hit ∷ rest
-
-  pub next : j < length all → Next
-  next h = go (g .left) refl (omega (arith, lengths, g .place)) where
-    go : (left : List Hit) → g .left ≡ left → 0 < length left → Next
-    go [] e z = absurd (omega arith)
-    go (x ∷ xs) e z = record { hit = x; rest = xs; is = e }
-
   module _ (more : j < length all) where
+    pub one-more : Next (g .left)
+    one-more = next (g .left) (omega (arith, lengths, g .place))
+
     abbrev pub hit : Hit
-    hit = next more .hit
+    hit = one-more .hit
 
     abbrev pub rest : List Hit
-    rest = next more .rest
+    rest = one-more .rest
 
     abbrev pub front : List Hit
     front = take from all ++ cleared id (g .passed)
 
     opened : ws ≡ words (front ++ hit ∷ rest)
-    opened = g .kept ∙ ap (λ (l : List Hit). words (front ++ l)) (next more .is)
+    opened = g .kept ∙ ap (λ (l : List Hit). words (front ++ l)) (one-more .is)
 
     pub hit-here : hitAt ws j ≡ hit
     hit-here = ap (λ (w : List ℕ). hitAt w j) opened ∙ middle-at front rest hit j front-length
 
     sum-here : tallied t ⊕ summary id (hit ∷ rest) ≡ summary id (drop from all)
-    sum-here = ap (λ (l : List Hit). tallied t ⊕ summary id l) (sym (next more .is)) ∙ g .sum
+    sum-here = ap (λ (l : List Hit). tallied t ⊕ summary id l) (sym (one-more .is)) ∙ g .sum
 
     cleared-snoc : (take from all ++ cleared id (g .passed ++ hit ∷ [])) ++ rest ≡ front ++ clear id hit ∷ rest
     cleared-snoc =
@@ -109,7 +107,7 @@ module _ {all : List Hit} {from id : ℕ} {ws : List ℕ} {t : Tally} {j : ℕ} 
     again ws′ t′ w s a b = record {
       passed = g .passed ++ hit ∷ [];
       left = rest;
-      split = g .split ∙ ap (λ (l : List Hit). g .passed ++ l) (next more .is) ∙ sym (append-assoc (g .passed) (hit ∷ []) rest);
+      split = g .split ∙ ap (λ (l : List Hit). g .passed ++ l) (one-more .is) ∙ sym (append-assoc (g .passed) (hit ∷ []) rest);
       inside = g .inside;
       place = omega (arith, g .place, length-append (g .passed) (hit ∷ []));
       kept = w ∙ ap words (sym cleared-snoc);

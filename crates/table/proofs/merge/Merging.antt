@@ -4,7 +4,7 @@ use Rattle.numbers.proofs.Prelude.{take-at, drop-at, Bool, true, false, List, [
 use Rattle.numbers.specs.{Answer.{if_then_else_}, Lists.{zeros, padded}}
 use Rattle.table.specs.{Hits.{width, hitOf, words, slots, Real, hitAt, putHit, noHit}, Merge.{Summary, _⊕_, single, summary, groupKind, seen, matchOf, mergedAfter, merged, clear, cleared}}
 use Rattle.table.specs.declared.hits.Hit.{Hit}
-use Rattle.table.proofs.{Words.{words-length, words-append, slots-words}, merge.{Gathering.{middle-at, middle-put}, Summaries.{join-empty-left, seen-joined}}}
+use Rattle.table.proofs.{Words.{words-length, words-append, slots-words}, merge.{Gathering.{middle-at, middle-put, Next, next}, Summaries.{join-empty-left, seen-joined}}}
 
 -- ---- slots of hits whose group was taken out already
 abbrev strike : List Hit → Hit → Hit
@@ -138,37 +138,29 @@ module _ {all : List Hit} {ws : List ℕ} {out i : ℕ} (g : Merging all ws out 
         )
     go (x ∷ xs) k e z = absurd (omega arith)
 
-  pub record Next : Type 0 where
-    pub hit : Hit
-    pub rest : List Hit
-    pub is : g .left ≡ hit ∷ rest
-
-  pub next : i < length all → Next
-  next h = go (g .left) refl (omega (arith, g .lengths)) where
-    go : (left : List Hit) → g .left ≡ left → 0 < length left → Next
-    go [] e z = absurd (omega arith)
-    go (x ∷ xs) e z = record { hit = x; rest = xs; is = e }
-
   module _ (more : i < length all) where
+    pub one-more : Next (g .left)
+    one-more = next (g .left) (omega (arith, g .lengths))
+
     abbrev pub hit : Hit
-    hit = next more .hit
+    hit = one-more .hit
 
     abbrev pub rest : List Hit
-    rest = next more .rest
+    rest = one-more .rest
 
     abbrev pub front : List Hit
     front = g .done ++ nones (g .gap)
 
     opened : ws ≡ words (front ++ strike (g .before) hit ∷ struck (g .before) rest)
-    opened = g .kept ∙ ap (λ (l : List Hit). words (front ++ struck (g .before) l)) (next more .is)
+    opened = g .kept ∙ ap (λ (l : List Hit). words (front ++ struck (g .before) l)) (one-more .is)
 
     reals : (hit .kind ≡ 0 → ⊥) × Real rest
     unfolding Real
-    reals = rw (next more .is) at (g .real)
+    reals = rw (one-more .is) at (g .real)
 
     turned : g .done ++ ((if seen (hit .metadata) (g .before) then [] else matchOf hit (groupKind (summary (hit .metadata) (hit ∷ rest)))) ++ mergedAfter (g .before ++ hit ∷ []) rest) ≡ merged all
     unfolding mergedAfter
-    turned = rw (next more .is) at (g .so-far)
+    turned = rw (one-more .is) at (g .so-far)
 
     -- an empty slot more
     empties : (ws′ : List ℕ) → ws′ ≡ words (front ++ noHit ∷ struck (g .before ++ hit ∷ []) rest) → g .done ++ mergedAfter (g .before ++ hit ∷ []) rest ≡ merged all → Merging all ws′ out (i + 1)
@@ -177,7 +169,7 @@ module _ {all : List Hit} {ws : List ℕ} {out i : ℕ} (g : Merging all ws out 
       left = rest;
       done = g .done;
       gap = suc (g .gap);
-      lengths = omega (arith, g .lengths, ap length (next more .is));
+      lengths = omega (arith, g .lengths, ap length (one-more .is));
       place = omega (arith, g .place);
       counted = g .counted;
       real = reals .1;
@@ -197,7 +189,7 @@ module _ {all : List Hit} {ws : List ℕ} {out i : ℕ} (g : Merging all ws out 
       left = rest;
       done = g .done ++ m ∷ [];
       gap = g .gap;
-      lengths = omega (arith, g .lengths, ap length (next more .is));
+      lengths = omega (arith, g .lengths, ap length (one-more .is));
       place = omega (arith, g .place);
       counted = omega (arith, g .counted, length-append (g .done) (m ∷ []));
       real = reals .1;
@@ -259,7 +251,7 @@ module _ {all : List Hit} {ws : List ℕ} {out i : ℕ} (g : Merging all ws out 
         taken-length w =
             ap length (out-taken w) ∙ words-length (front ++ noHit ∷ struck (g .before ++ hit ∷ []) rest)
             ∙ ap (λ (m : ℕ). width * m) (length-append front (noHit ∷ struck (g .before ++ hit ∷ []) rest)
-            ∙ omega (arith, front-length, length-map rest (strike (g .before ++ hit ∷ [])), g .lengths, ap length (next more .is)))
+            ∙ omega (arith, front-length, length-map rest (strike (g .before ++ hit ∷ [])), g .lengths, ap length (one-more .is)))
 
         group : s ≡ summary (got .metadata) (drop i (slots ws)) → s ≡ summary (hit .metadata) (hit ∷ rest)
         unfolding summary

@@ -12,6 +12,12 @@ use Rattle.verdict.proofs.Gliding.{less-le}
 pub not-held : (bounds : Bounds) (fix : Point) → isAbove bounds fix ≡ true → holds bounds fix ≡ false
 not-held bounds fix e = rw (less-le (fix .lat .0) (bounds .«min_lat» .0) e .1)
 
+-- ---- rows that a test lets through
+pub either-marked : (end : ℕ) (fix : Point) (test : Bool) (rows rows′ : Rows) → restMark end fix rows ≡ restMark end fix rows′
+    → restMark end fix (if test then rows else tableEnd) ≡ restMark end fix (if test then rows′ else tableEnd)
+either-marked end fix true rows rows′ e = e
+either-marked end fix false rows rows′ e = refl
+
 -- ---- the sums before a row make no difference to the mark
 module _ (read : ℕ → Answer Numeral) (end : ℕ) (fix : Point) where
   -- what an entry says behind the stop, and what is then left to the rows after it
@@ -23,12 +29,7 @@ module _ (read : ℕ → Answer Numeral) (end : ℕ) (fix : Point) where
   within-same : (n : ℕ) (at : Cursor) → restMark end fix (rowsWithin read n end at) ≡ restMark end fix (rowsWithin read n end (startAt (at .place)))
   unfolding rowsWithin rowsThen rowBy restMark
   within-same zero at = refl
-  within-same (suc n) at = either (ltb (at .place) end) _ _ (by-entry (entryBy read (at .place)) (within-same n)) where
-    either : (test : Bool) (rows rows′ : Rows) → restMark end fix rows ≡ restMark end fix rows′
-        → restMark end fix (if test then rows else tableEnd) ≡ restMark end fix (if test then rows′ else tableEnd)
-    either true rows rows′ e = e
-    either false rows rows′ e = refl
-
+  within-same (suc n) at = either-marked end fix (ltb (at .place) end) _ _ (by-entry (entryBy read (at .place)) (within-same n)) where
     by-entry : (answer : Answer Entry) → ((at : Cursor) → restMark end fix (rowsWithin read n end at) ≡ restMark end fix (rowsWithin read n end (startAt (at .place))))
         → restMark end fix (rowsThen (answer >>= λ entry. found (rowOf at entry)) (rowsWithin read n end))
         ≡ restMark end fix (rowsThen (answer >>= λ entry. found (rowOf (startAt (at .place)) entry)) (rowsWithin read n end))

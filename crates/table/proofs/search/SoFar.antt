@@ -15,6 +15,10 @@ pub record SoFar (n : ℕ) (whole : Reply Found) (rest : ℕ → List Hit → Re
   pub real : Real hits
   pub so-far : rest least hits ≡ whole
 
+-- how a search ends
+abbrev pub how : ℕ → ℕ → ℕ → Ended
+how count mark last = record { count = count; mark = mark; least = last }
+
 pub starts : (n : ℕ) {whole : Reply Found} (rest : ℕ → List Hit → Reply Found) (ws : List ℕ) (least : ℕ) → ws ≡ zeros n → rest least [] ≡ whole → SoFar n whole rest ws 0 least
 unfolding words Real
 starts n rest ws least z e = record { hits = []; counted = refl; fits = omega arith; kept = simp sub-zero z; real = tt; so-far = e }
@@ -23,18 +27,15 @@ module _ {n : ℕ} {whole : Reply Found} {rest : ℕ → List Hit → Reply Foun
   pub kept-length : length ws ≡ n
   kept-length = ap length (g .kept) ∙ length-append (words (g .hits)) _ ∙ rw length-replicate (omega (arith, words-length (g .hits), g .counted, g .fits))
 
-  abbrev how : ℕ → ℕ → Ended
-  how mark last = record { count = count; mark = mark; least = last }
-
-  pub ends : (mark last : ℕ) → ended (g .hits) mark last ≡ whole → Agrees (Sought n ws) whole (given (how mark last))
+  pub ends : (mark last : ℕ) → ended (g .hits) mark last ≡ whole → Agrees (Sought n ws) whole (given (how count mark last))
   ends mark last e = agree-given (Sought n ws) e (record { said = rw (g .counted) refl; kept = g .kept; real = g .real })
 
   -- what a turn gives, with what is to be searched after it, is the whole
   module _ (rest′ : ℕ → List Hit → Reply Found) where
-    abbrev Turned : Turn → Type 0
+    abbrev pub Turned : Turn → Type 0
     Turned t = afterTurn t (g .hits) (n / width) rest′ ≡ whole
 
-    pub stops : {mark last : ℕ} → Turned (Stopped mark last) → Agrees (Sought n ws) whole (given (how mark last))
+    pub stops : {mark last : ℕ} → Turned (Stopped mark last) → Agrees (Sought n ws) whole (given (how count mark last))
     stops {mark} {last} e = ends mark last e
 
     pub refuses : (ws′ : List ℕ) {k : ℕ} → Turned (Refused k) → Agrees (Sought n ws′) whole (R.refused (plain k))

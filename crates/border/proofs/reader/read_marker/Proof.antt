@@ -4,6 +4,10 @@ use Rattle.border.proofs.reader.{Turns.{mark-closes, mark-opens, mark-r
 use Rattle.border.specs.{Reader.{gives, onward, marker}, declared.reader.{Reader.{Reader}, Run.the-variants.{Idle}}}
 use Rattle.border.proofs.reader.read_marker.Tie as tie
 
+-- ---- the places that the answers speak of
+abbrev at-n : tie.After-struct-known2 → tie.After-n
+at-n c = c .before .before .before .before
+
 returns : tie.Need-returns
 unfolding marker
 returns c = c .stop .ensures ∙ stops (c .before .before .read-number .result) (c .before .before .read-number .ensures) (c .before .match .keys2) _ _
@@ -15,16 +19,13 @@ returns-2 c = let args = c .before .before .before .before .before .before .befo
     (onward (args .reader) (args .place) (args .reader .moves) Idle) (rw (n .given .1) at (read-number .ensures)) (if1 .taken))
 
 returns-3 : tie.Need-returns-3
-returns-3 c = let args = c .before .before .before .before .before .before .before .before .before .before .args in
-    let n = c .before .before .before .before .before .before .n in
-    let read-number = c .before .before .before .before .before .before .before .before .read-number in let if1 = c .before .before .before .if1 in
-    let if2 = c .before .if2 in
+returns-3 c = let args = at-n (c .before .before) .before .before .before .before .args in let n = at-n (c .before .before) .n in
+    let read-number = c .before .before .before .before .before .before .before .before .read-number in let if1 = c .before .before .before .if1 in let if2 = c .before .if2 in
     c .open-reference .ensures ∙ sym (mark-opens (readingOf (args .strict) (now (args .file))) (now (args .file)) (args .base) (onward (args .reader)
     (args .place) (args .reader .moves) Idle) (rw (n .given .1) at (read-number .ensures)) (if1 .left) (if2 .taken))
 
 returns-4 : tie.Need-returns-4
-returns-4 c = let args = c .before .before .before .before .before .before .before .before .before .before .before .args in
-    let n = c .before .before .before .before .before .before .before .n in
+returns-4 c = let args = at-n (c .before .before .before) .before .before .before .before .args in let n = at-n (c .before .before .before) .n in
     let read-number = c .before .before .before .before .before .before .before .before .before .read-number in
     let if1 = c .before .before .before .before .if1 in let if2 = c .before .before .if2 in
     ap (λ (t : Reader). found (gives t)) (c .arrive .ensures) ∙ sym (mark-repeats (readingOf (args .strict) (now (args .file))) (now (args .file)) (args .base)

@@ -4,6 +4,10 @@ use Rattle.border.proofs.reader.{Turns.{backward-fails, backward-over, 
 use Rattle.border.specs.Reader.{packedTurn}
 use Rattle.border.proofs.reader.run_backward.Tie as tie
 
+-- ---- the places that the answers speak of
+abbrev at-n : tie.After-negate → tie.After-n
+at-n c = c .before .before .before .before .before
+
 returns : tie.Need-returns
 unfolding packedTurn
 returns c = c .stop .ensures ∙ stops (c .before .before .read-backward .result) (c .before .before .read-backward .ensures) (c .before .match .keys2) _ _
@@ -15,17 +19,15 @@ returns-2 c = let args = c .before .before .before .before .before .before .befo
     (rw (n .given .1) at (read-backward .ensures)) (c .if1 .taken))
 
 returns-3 : tie.Need-returns-3
-returns-3 c = let args = c .before .before .before .before .before .before .before .before .before .before .before .args in
-    let n = c .before .before .before .before .before .before .before .n in
+returns-3 c = let args = at-n (c .before .before) .before .before .before .before .args in let n = at-n (c .before .before) .n in
     let read-backward = c .before .before .before .before .before .before .before .before .before .read-backward in
     let if1 = c .before .before .before .before .if1 in let decode-point = c .before .before .before .decode-point in let negate = c .before .before .negate in
     sym (backward-over (readingOf (args .strict) (now (args .file))) (now (args .file)) (args .base) (args .reader) (args .next) (args .end)
     (rw (n .given .1) at (read-backward .ensures)) (if1 .left) (rw (decode-point .ensures, c .enum-told .given .1) at (negate .ensures)))
 
 returns-4 : tie.Need-returns-4
-returns-4 c = let backward-from = c .before .backward-from in
-    let args = c .before .before .before .before .before .before .before .before .before .before .before .before .before .before .args in
-    let n = c .before .before .before .before .before .before .before .before .before .before .n in
+returns-4 c = let backward-from = c .before .backward-from in let args = at-n (c .before .before .before .before .before) .before .before .before .before .args in
+    let n = at-n (c .before .before .before .before .before) .n in
     let read-backward = c .before .before .before .before .before .before .before .before .before .before .before .before .read-backward in
     let if1 = c .before .before .before .before .before .before .before .if1 in
     let decode-point = c .before .before .before .before .before .before .decode-point in let by = c .before .before .before .by in

@@ -9,7 +9,7 @@ use Rattle.index.proofs.build.fill.Tie as tie
 returns : tie.Need-returns
 returns c =
     let fine = sym (c .before .before .before .before .before .before .before .before .is-precision .ensures) ∙ c .before .before .before .before .before .before .before .if1 .taken in
-    rw (c .plain .ensures) (agree-refused _ (bad-table _ _ _ fine (refused-so _ _ (c .before .before .before .before .before .put-table .ensures) (ap toldTable (c .before .enum-told .given .1)))))
+    rw (c .plain .ensures) (agree-refused _ (bad-table _ _ _ _ fine (refused-so _ _ (c .before .before .before .before .before .put-table .ensures) (ap toldTable (c .before .enum-told .given .1)))))
 
 -- ---- the places that the answers speak of
 abbrev at-put-table : tie.After-n → tie.After-put-table
@@ -47,7 +47,7 @@ returns-2 c =
     let fine = sym (at-put-table (at-n-2 (c .before .before)) .before .before .before .is-precision .ensures) ∙ at-put-table (at-n-2 (c .before .before)) .before .before .if1 .taken in
     let t = gave _ _ (at-put-table (at-n-2 (c .before .before)) .put-table .ensures) (ap toldTable (at-n-2 (c .before .before) .n .given .1)) in
     let k = c .before .before .before .before .put-kept .ensures in let size = length-two _ _ _ _ _ _ _ t k in
-    rw (c .plain2 .ensures) (agree-refused _ (no-room _ _ _ fine (t .is) (early _ _ _ _ _ _ _ t k fine (omega (arith, c .before .if2 .taken, size)))))
+    rw (c .plain2 .ensures) (agree-refused _ (no-room _ _ _ _ fine (t .is) (early _ _ _ _ _ _ _ t k fine (omega (arith, c .before .if2 .taken, size)))))
 
 cast-put-head-2 : tie.Need-cast-put-head-2
 cast-put-head-2 c = let t = gave _ _ (at-put-table (at-n-2 (c .before .before)) .put-table .ensures) (ap toldTable (at-n-2 (c .before .before) .n .given .1)) in omega (arith, t .fits .few)
@@ -77,7 +77,7 @@ returns-3 c =
     omega (arith, at-put-head (c .before .before) .before .before .if2 .left, size) in
     let used = used-is _ _ _ _ _ _ _ t k fine _ _ _ room (at-put-head (c .before .before) .put-head .ensures) (c .before .before .before .before .put-lists .ensures) in
     let last = length-four _ _ _ _ _ _ _ t k fine _ _ _ room (at-put-head (c .before .before) .put-head .ensures) (c .before .before .before .before .put-lists .ensures) in
-    rw (c .plain3 .ensures) (agree-refused _ (no-room _ _ _ fine (t .is) (omega (arith, used, last, c .before .if3 .taken))))
+    rw (c .plain3 .ensures) (agree-refused _ (no-room _ _ _ _ fine (t .is) (omega (arith, used, last, c .before .if3 .taken))))
 
 returns-4 : tie.Need-returns-4
 returns-4 c =
@@ -88,7 +88,7 @@ returns-4 c =
     let room : at-put-kept (c .before .before .before .before .before .before) .put-kept .result ≤ length (at-start (at-then1 (c .before .before .before)) .args .index .now) =
     omega (arith, at-put-head (c .before .before .before) .before .before .if2 .left, size) in
     let used = used-is _ _ _ _ _ _ _ t k fine _ _ _ room (at-put-head (c .before .before .before) .put-head .ensures) (c .before .before .before .before .before .put-lists .ensures) in
-    rw (c .plain4 .ensures) (agree-refused _ (too-large _ _ _ fine (t .is) (omega (arith, used, c .before .if4 .taken))))
+    rw (c .plain4 .ensures) (agree-refused _ (too-large _ _ _ _ fine (t .is) (omega (arith, used, c .before .if4 .taken))))
 
 returns-5 : tie.Need-returns-5
 returns-5 c =
@@ -100,7 +100,7 @@ returns-5 c =
     let used = used-is _ _ _ _ _ _ _ t k fine _ _ _ room (at-put-head (c .before .before) .put-head .ensures) (c .before .before .before .before .put-lists .ensures) in
     let last = length-four _ _ _ _ _ _ _ t k fine _ _ _ room (at-put-head (c .before .before) .put-head .ensures) (c .before .before .before .before .put-lists .ensures) in
     let few : c .before .before .before .before .put-lists .result ≤ length (at-start (at-then1 (c .before .before)) .args .index .now) = omega (arith, c .before .if3 .left, last) in
-    agree-given _ (has-room _ _ _ fine (t .is) (omega (arith, used, few)) (omega (arith, used, c .if4 .left)))
+    agree-given _ (has-room _ _ _ _ fine (t .is) (omega (arith, used, few)) (omega (arith, used, c .if4 .left)))
     (made _ _ _ _ _ _ _ t k fine _ _ _ room (at-put-head (c .before .before) .put-head .ensures) (c .before .before .before .before .put-lists .ensures)
     (at-start (at-then1 (c .before .before)) .pre .0) few (omega (arith, c .if4 .left)))
 
@@ -109,4 +109,4 @@ fill-spec = tie.close (tie.spec (λ c κs. search needs) (λ c κs. search needs
     returns (λ c. search needs) mul-put-kept add-put-kept put-kept-requires (λ c κs. search needs) (λ c. search needs) returns-2 (λ c. search needs)
     cast-put-head-2 (λ c κs. search needs) put-lists-requires (λ c κs. search needs) (λ c. search needs) returns-3 (λ c κs. search needs) (λ c. search needs)
     returns-4 (λ c. search needs) returns-5 (λ c κs. search needs)
-    (λ c. rw (c .plain5 .ensures) (agree-refused _ (bad-precision _ _ _ (sym (c .before .before .is-precision .ensures) ∙ c .before .if1 .left)))))
+    (λ c. rw (c .plain5 .ensures) (agree-refused _ (bad-precision _ _ _ _ (sym (c .before .before .is-precision .ensures) ∙ c .before .if1 .left)))))

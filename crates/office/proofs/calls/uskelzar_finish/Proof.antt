@@ -8,9 +8,9 @@ returns c =
     let finish = c .before .before .before .before .before .before .before .before .before .before .before .before .before .before .before .before .before .before .before .finish in
     let state-of = c .before .before .before .before .before .before .before .before .before .before .before .before .before .before .before .before .before .before .before .before .before
     .before .before .before .before .before .before .before .state-of in (
-      ends (finish .result) (state-of .ensures) (record { answers = finish .ensures .0; broken = finish .ensures .1; emptied = finish .ensures .2 })
+      ends (finish .result) (state-of .ensures) (finish .ensures .0)
           (ap (λ (s : Spoken). s .said) (c .speak .ensures) ∙ c .before .before .say-built .ensures),
-      finish .ensures .3,
+      finish .ensures .1,
     )
 
 pub uskelzar-finish-spec : {M : Type 1} → statement M

@@ -13,6 +13,7 @@ returns c = let replace = at-replace c .replace in (
   speaks (at-replace c .before .before .before .before .before .before .before .before .before .before .before .before .before .before .state-of .ensures) (replace .ensures .0)
       (c .speak-changed .ensures),
   replace .ensures .1,
+  replace .ensures .2,
 )
 
 pub uskelzar-replace-spec : {M : Type 1} → statement M

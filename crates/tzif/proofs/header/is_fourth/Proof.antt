@@ -4,9 +4,6 @@ use Rattle.tzif.specs.Header.{isFourth}
 use Rattle.tzif.proofs.header.is_fourth.Statement.{statement}
 use Rattle.tzif.proofs.header.is_fourth.Tie as tie
 
-returns : tie.Need-returns
-unfolding isFourth
-returns c = cc
-
 pub is-fourth-spec : {M : Type 1} → statement M
-is-fourth-spec = tie.close (tie.spec (λ c κs. search needs) returns)
+unfolding isFourth
+is-fourth-spec = tie.close (tie.spec (λ c κs. search needs) (λ c. cc))

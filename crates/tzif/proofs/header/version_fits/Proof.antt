@@ -4,10 +4,6 @@ use Rattle.tzif.proofs.header.version_fits.Statement.{statement}
 use Rattle.tzif.specs.Header.{versionFits}
 use Rattle.tzif.proofs.header.version_fits.Tie as tie
 
-returns : tie.Need-returns
-unfolding versionFits
-returns c = rw (← c .before .holds .ensures, not-true (c .before .holds .result) (c .if1 .taken)) refl
-
 octet-requires : tie.Need-octet-requires
 octet-requires c κs = let args = c .before .before .before .args in let holds = c .before .holds in
     omega (arith, leb-true (args .at + 5) (length (args .file .now)) (sym (holds .ensures) ∙ not-false _ (c .if1 .left)))
@@ -27,5 +23,6 @@ returns-3 c = let holds = c .before .before .before .before .holds in let if1 = 
     rw (← holds .ensures, not-false (holds .result) (if1 .left), if2 .left) (cc)
 
 pub version-fits-spec : {M : Type 1} → statement M
-version-fits-spec = tie.close (tie.spec (λ c κs. search needs) returns (λ c. search needs) octet-requires octet-requires-2 returns-2 (λ c κs. search needs)
-    returns-3)
+unfolding versionFits
+version-fits-spec = tie.close (tie.spec (λ c κs. search needs) (λ c. rw (← c .before .holds .ensures, not-true (c .before .holds .result) (c .if1 .taken)) refl)
+    (λ c. search needs) octet-requires octet-requires-2 returns-2 (λ c κs. search needs) returns-3)

@@ -8,10 +8,6 @@ check-expiry-requires : tie.Need-check-expiry-requires
 check-expiry-requires c κs = let args = c .before .before .before .args in let pre = c .before .before .before .pre in
     (pre .0, (expires-behind (args .file .now) (args .fourth) (args .block) (args .i) (sym (c .before .expires .ensures) ∙ c .if1 .taken), pre .1))
 
-returns : tie.Need-returns
-unfolding checkLeap
-returns c = rw (← c .before .before .expires .ensures, c .before .if1 .taken) (c .check-expiry .ensures)
-
 leap-place-requires : tie.Need-leap-place-requires
 leap-place-requires c κs = let args = c .before .before .before .args in
     omega (arith, row (args .i) (args .block .leapcnt) (args .block .width + 4) (c .before .before .before .pre .1))
@@ -28,5 +24,8 @@ returns-2 c = rw (
 ) (cc)
 
 pub check-leap-spec : {M : Type 1} → statement M
-check-leap-spec = tie.close (tie.spec (λ c κs. search needs) check-expiry-requires returns leap-place-requires (λ c κs. search needs) (λ c κs. search needs)
-    (λ c κs. search needs) (λ c κs. search needs) (λ c κs. search needs) add-demand (λ c κs. search needs) (λ c κs. search needs) returns-2)
+unfolding checkLeap
+check-leap-spec = tie.close (tie.spec (λ c κs. search needs) check-expiry-requires
+    (λ c. rw (← c .before .before .expires .ensures, c .before .if1 .taken) (c .check-expiry .ensures)) leap-place-requires (λ c κs. search needs)
+    (λ c κs. search needs) (λ c κs. search needs) (λ c κs. search needs) (λ c κs. search needs) add-demand (λ c κs. search needs) (λ c κs. search needs)
+    returns-2)

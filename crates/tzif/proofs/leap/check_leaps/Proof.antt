@@ -17,10 +17,8 @@ returns c = fault-found (c .before .before .before .before .before .loop .inv) (
 loop-again : tie.Need-loop-again Inv-loop μ-loop
 loop-again c = next-index (c .before .before .before .before .before .loop .inv) (c .before .before .before .if1 .taken) (c .before .before .check-leap .ensures) (c .enum-told .given .1)
 
-returns-2 : tie.Need-returns-2 Inv-loop μ-loop
-unfolding checkLeaps
-returns-2 c = no-fault (c .before .before .loop .inv) (c .if1 .left)
-
 pub check-leaps-spec : {M : Type 1} → statement M
+unfolding checkLeaps
 check-leaps-spec = tie.close (tie.spec Inv-loop μ-loop (λ c. starts _ _) (λ c κs. search needs) (λ c. search needs) (λ c. search needs) returns
-    (λ c. omega (arith, c .before .before .before .if1 .taken)) (λ c. omega (arith, c .before .before .before .if1 .taken)) loop-again returns-2)
+    (λ c. omega (arith, c .before .before .before .if1 .taken)) (λ c. omega (arith, c .before .before .before .if1 .taken)) loop-again
+    (λ c. no-fault (c .before .before .loop .inv) (c .if1 .left)))

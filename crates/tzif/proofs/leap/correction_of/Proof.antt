@@ -16,9 +16,7 @@ be32-requires : tie.Need-be32-requires
 be32-requires c κs = let args = c .before .before .before .args in let pre = c .before .before .before .pre in
     omega (arith, row (args .i) (args .block .leapcnt) (args .block .width + 4) (pre .1))
 
-returns : tie.Need-returns
-unfolding correctionOf
-returns c = record { same = cc; fits = c .raised .ensures .fits }
-
 pub correction-of-spec : {M : Type 1} → statement M
-correction-of-spec = tie.close (tie.spec leap-place-requires add-be32 be32-requires (λ c κs. search needs) returns)
+unfolding correctionOf
+correction-of-spec = tie.close (tie.spec leap-place-requires add-be32 be32-requires (λ c κs. search needs)
+    (λ c. record { same = cc; fits = c .raised .ensures .fits }))

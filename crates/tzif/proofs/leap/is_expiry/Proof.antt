@@ -4,10 +4,6 @@ use Rattle.tzif.specs.Check.{isExpiry}
 use Rattle.tzif.proofs.leap.is_expiry.Statement.{statement}
 use Rattle.tzif.proofs.leap.is_expiry.Tie as tie
 
-returns : tie.Need-returns
-unfolding isExpiry
-returns c = rw (eq-eqb _ _ (c .if1 .taken)) refl
-
 returns-2 : tie.Need-returns-2
 unfolding isExpiry
 returns-2 c = let args = c .before .before .before .before .args in
@@ -25,4 +21,6 @@ returns-3 c = let args = c .before .before .before .before .before .before .args
     ) refl
 
 pub is-expiry-spec : {M : Type 1} → statement M
-is-expiry-spec = tie.close (tie.spec returns (λ c. search needs) returns-2 (λ c κs. search needs) (λ c. search needs) (λ c κs. search needs) returns-3)
+unfolding isExpiry
+is-expiry-spec = tie.close (tie.spec (λ c. rw (eq-eqb _ _ (c .if1 .taken)) refl) (λ c. search needs) returns-2 (λ c κs. search needs) (λ c. search needs)
+    (λ c κs. search needs) returns-3)

@@ -5,10 +5,6 @@ use Rattle.tzif.specs.Local.{byTable}
 use Rattle.tzif.specs.declared.local.Answer.the-variants as A
 use Rattle.tzif.proofs.local.by_table.Tie as tie
 
-returns : tie.Need-returns
-unfolding byTable
-returns c = rw (← c .before .is-after-last .ensures, c .if1 .taken) refl
-
 type-behind-requires : tie.Need-type-behind-requires
 type-behind-requires c κs = let pre = c .before .before .before .before .before .pre in
     (pre, rw (c .last-not-after .ensures, c .before .transitions-of .ensures) (behind-within (pre) (c .before .before .before .before .before .args .instant)))
@@ -26,6 +22,7 @@ returns-2 c = let is-after-last = c .before .before .before .before .before .is-
     rw (← is-after-last .ensures, if1 .left, ← transitions-of .ensures, ← last-not-after .ensures, ← type-behind .ensures) (ap A.Found (c .type-in .ensures))
 
 pub by-table-spec : {M : Type 1} → statement M
-by-table-spec = tie.close (tie.spec (λ c κs. search needs) returns (λ c κs. search needs)
+unfolding byTable
+by-table-spec = tie.close (tie.spec (λ c κs. search needs) (λ c. rw (← c .before .is-after-last .ensures, c .if1 .taken) refl) (λ c κs. search needs)
     (λ c κs. let pre = c .before .before .before .before .pre in rw (c .transitions-of .ensures) (transitions-inside (pre .within), pre .rising))
     type-behind-requires type-in-requires returns-2)

@@ -19,12 +19,10 @@ loop-again : tie.Need-loop-again Inv-loop μ-loop
 loop-again c = let loop = c .before .before .before .before .loop in
     (loop .inv .0, next-index (loop .inv .1) (c .before .before .before .loop-test .taken) (c .before .before .check-of .ensures) (c .enum-told .given .1))
 
-returns-2 : tie.Need-returns-2 Inv-loop μ-loop
-unfolding checkPart
-returns-2 c = rw (← c .before .loop .inv .0) (no-fault (c .before .loop .inv .1) (c .loop-test .left))
-
 pub check-part-spec : {M : Type 1} → statement M
+unfolding checkPart
 check-part-spec = tie.close (tie.spec Inv-loop μ-loop (λ c κs. search needs) (λ c. (c .count-of .ensures, starts _ _))
     (λ c κs. let pre = c .before .before .before .before .pre in (pre, rw (c .before .loop .inv .0) at (c .loop-test .taken))) (λ c. search needs)
     (λ c. search needs) returns (λ c. omega (arith, c .before .before .before .loop-test .taken))
-    (λ c. omega (arith, c .before .before .before .loop-test .taken)) loop-again returns-2)
+    (λ c. omega (arith, c .before .before .before .loop-test .taken)) loop-again
+    (λ c. rw (← c .before .loop .inv .0) (no-fault (c .before .loop .inv .1) (c .loop-test .left))))

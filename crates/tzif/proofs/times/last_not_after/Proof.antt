@@ -18,10 +18,8 @@ loop-again-2 : tie.Need-loop-again-2 Inv-loop μ-loop
 loop-again-2 c = let loop = c .before .before .before .loop in let pre = c .before .before .before .before .before .pre in let time-in = c .before .time-in in
     down (loop .inv) (rises (pre .1)) _ (omega arith) (omega arith) (rw (time-in .ensures) at (c .if1 .left))
 
-returns : tie.Need-returns Inv-loop μ-loop
-unfolding lastNotAfter
-returns c = narrow (c .before .loop .inv) (c .loop-test .left)
-
 pub last-not-after-spec : {M : Type 1} → statement M
+unfolding lastNotAfter
 last-not-after-spec = tie.close (tie.spec Inv-loop μ-loop (λ c. widest _ _ _) (λ c. omega arith) (λ c. omega arith)
-    (λ c κs. (c .before .before .before .pre .0, omega arith)) (λ c. omega arith) (λ c. omega arith) loop-again (λ c. omega arith) loop-again-2 returns)
+    (λ c κs. (c .before .before .before .pre .0, omega arith)) (λ c. omega arith) (λ c. omega arith) loop-again (λ c. omega arith) loop-again-2
+    (λ c. narrow (c .before .loop .inv) (c .loop-test .left)))

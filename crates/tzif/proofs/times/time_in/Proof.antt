@@ -16,9 +16,6 @@ time-at-requires : tie.Need-time-at-requires
 time-at-requires c κs = let pre = c .before .before .before .pre in let args = c .before .before .before .args in
     (pre .0 .wide, omega (arith, row (args .i) (args .times .count) (args .times .stride) (pre .1), pre .0 .end, pre .0 .apart))
 
-returns : tie.Need-returns
-unfolding timeIn
-returns c = c .time-at .ensures
-
 pub time-in-spec : {M : Type 1} → statement M
-time-in-spec = tie.close (tie.spec mul-time-at add-time-at time-at-requires returns)
+unfolding timeIn
+time-in-spec = tie.close (tie.spec mul-time-at add-time-at time-at-requires (λ c. c .time-at .ensures))

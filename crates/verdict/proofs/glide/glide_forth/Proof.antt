@@ -17,25 +17,25 @@ left : {file : List ℕ} {strict : Bool} {field : Field} {start place : ℕ} {fr
 left {file} {strict} {field} {start} {place} {from} {begun} {p} e h k =
     subst (λ (g : Glided). GlidesForth file strict field start from (g .place) (g .point)) (sym k) (subst (λ (q : Point). GlidesForth file strict field start q place p) e h)
 
+-- ---- the places that the answers speak of
+abbrev at-loop : tie.After-decode-point Inv-loop μ-loop → tie.At-loop Inv-loop μ-loop
+at-loop c = c .before .before .before .before .before .before .before .before
+
 returns-2 : tie.Need-returns-2 Inv-loop μ-loop
 returns-2 c = let at = c .before .before .before .before .before .before .before .before in
     left (at .before .widen .ensures .0) (at .loop .inv .0) (c .glided-at2 .ensures)
 
 returns-3 : tie.Need-returns-3 Inv-loop μ-loop
-returns-3 c = let at = c .before .before .before .before .before .before .before .before .before .before .before .before in
-    left (at .before .widen .ensures .0) (at .loop .inv .0) (c .glided-at3 .ensures)
+returns-3 c = let at = at-loop (c .before .before .before .before) in left (at .before .widen .ensures .0) (at .loop .inv .0) (c .glided-at3 .ensures)
 
 loop-less : tie.Need-loop-less Inv-loop μ-loop
-loop-less c = let a = c .before .before .before .before .before .before .before .before .before .before .before .before .before .before .before .before .args in
-    let loop = c .before .before .before .before .before .before .before .before .before .before .before .before .loop in
+loop-less c = let a = at-loop (c .before .before .before .before) .before .before .before .before .args in let loop = at-loop (c .before .before .before .before) .loop in
     let n = c .before .before .before .before .before .before .before .before .n .given .1 in
     let read = rw n at (c .before .before .before .before .before .before .before .before .before .before .read-move .ensures) in
     less-left (now (a .file)) (a .strict) (a .field) (loop .place) read
 
 loop-again : tie.Need-loop-again Inv-loop μ-loop
-loop-again c =
-    let a = c .before .before .before .before .before .before .before .before .before .before .before .before .before .before .before .before .args in
-    let loop = c .before .before .before .before .before .before .before .before .before .before .before .before .loop in
+loop-again c = let a = at-loop (c .before .before .before .before) .before .before .before .before .args in let loop = at-loop (c .before .before .before .before) .loop in
     let n = c .before .before .before .before .before .before .before .before .n .given .1 in
     let read = rw n at (c .before .before .before .before .before .before .before .before .before .before .read-move .ensures) in
     let led = rw (c .before .to .given .1, c .before .before .before .before .decode-point .ensures) at (c .before .before .before .lead .ensures) in
@@ -43,10 +43,8 @@ loop-again c =
 
 pub glide-forth-spec : {M : Type 1} → statement M
 glide-forth-spec = tie.close (tie.spec Inv-loop μ-loop (λ c κs. search needs) (λ c κs. search needs) (λ c. (forth-stays _ _ _ _ _, c .widen .ensures .1))
-    (λ c κs. omega (arith, c .loop-test .taken, c .before .before .before .fours-end .ensures)) (λ c. search needs)
-    (λ c κs. c .before .before .before .loop .inv .1)
+    (λ c κs. omega (arith, c .loop-test .taken, c .before .before .before .fours-end .ensures)) (λ c. search needs) (λ c κs. c .before .before .before .loop .inv .1)
     (λ c. let at = c .before .before .before .before in left (at .before .widen .ensures .0) (at .loop .inv .0) (c .glided-at .ensures))
     (λ c κs. c .before .before .before .before .before .before .before .loop .inv .1) returns-2 (λ c κs. search needs)
-    (λ c κs. c .before .before .before .before .before .before .before .before .loop .inv .1) (λ c. search needs) (λ c. search needs)
-    (λ c κs. c .before .before .before .before .before .before .before .before .before .before .before .loop .inv .1) returns-3 loop-less loop-again
+    (λ c κs. at-loop c .loop .inv .1) (λ c. search needs) (λ c. search needs) (λ c κs. at-loop (c .before .before .before) .loop .inv .1) returns-3 loop-less loop-again
     (λ c κs. c .before .loop .inv .1) (λ c. let at = c .before .before in left (at .before .widen .ensures .0) (at .loop .inv .0) (c .glided-at4 .ensures)))

@@ -8,6 +8,10 @@ use Rattle.verdict.proofs.winding.turn_at.Tie as tie
 one : SFits w32 (pos 1)
 one = search needs
 
+-- ---- the places that the answers speak of
+abbrev at-start : tie.After-struct-told3 → tie.Start
+at-start c = c .before .before .before .before .before .before .before .before .before
+
 returns : tie.Need-returns
 unfolding turnAt
 returns c = let a = c .before .before .before .before .before .before .args in let fits-i32 = c .before .fits-i32 in
@@ -23,16 +27,14 @@ returns-2 c = let a = c .before .before .before .before .before .before .before 
     rw (checked-found 31 (a .fix .0 -ℤ pos 1) left (not-false _ (if1 .left)), rw (widened y, exact-difference x one) at (if2 .taken), r, c .half-turn .ensures)
 
 cast-right : tie.Need-cast-right
-cast-right c = let args = c .before .before .before .before .before .before .before .before .before .args in let x : SFits w32 (args .fix .0) = search needs in
-    widens x
+cast-right c = let args = at-start c .args in let x : SFits w32 (args .fix .0) = search needs in widens x
 
 add-right : tie.Need-add-right
-add-right c = let args = c .before .before .before .before .before .before .before .before .before .args in let x : SFits w32 (args .fix .0) = search needs in
-    rw (widened x) (sum-fits x one)
+add-right c = let args = at-start c .args in let x : SFits w32 (args .fix .0) = search needs in rw (widened x) (sum-fits x one)
 
 returns-3 : tie.Need-returns-3
 unfolding turnAt
-returns-3 c = let a = c .before .before .before .before .before .before .before .before .before .before .before .args in
+returns-3 c = let a = at-start (c .before .before) .args in
     let fits-i32 = c .before .before .before .before .before .before .fits-i32 in let fits-i322 = c .before .fits-i322 in
     let if1 = c .before .before .before .before .before .if1 in let if2 = c .before .before .before .before .if2 in
     let x : SFits w32 (a .fix .0) = search needs in let y : SFits w32 (a .crossing .0) = search needs in
@@ -46,7 +48,7 @@ returns-3 c = let a = c .before .before .before .before .before .before .before 
 
 returns-4 : tie.Need-returns-4
 unfolding turnAt
-returns-4 c = let a = c .before .before .before .before .before .before .before .before .before .before .before .before .before .args in
+returns-4 c = let a = at-start (c .before .before .before .before) .args in
     let fits-i32 = c .before .before .before .before .before .before .before .before .fits-i32 in let fits-i322 = c .before .before .before .fits-i322 in
     let if1 = c .before .before .before .before .before .before .before .if1 in let if2 = c .before .before .before .before .before .before .if2 in
     let if3 = c .before .before .if3 in let if4 = c .before .if4 in let x : SFits w32 (a .fix .0) = search needs in
@@ -64,7 +66,7 @@ returns-4 c = let a = c .before .before .before .before .before .before .before 
 
 returns-5 : tie.Need-returns-5
 unfolding turnAt
-returns-5 c = let a = c .before .before .before .before .before .before .before .before .before .before .before .before .args in
+returns-5 c = let a = at-start (c .before .before .before) .args in
     let fits-i32 = c .before .before .before .before .before .before .before .fits-i32 in let fits-i322 = c .before .before .fits-i322 in
     let if1 = c .before .before .before .before .before .before .if1 in let if2 = c .before .before .before .before .before .if2 in let if3 = c .before .if3 in
     let x : SFits w32 (a .fix .0) = search needs in let y : SFits w32 (a .crossing .0) = search needs in

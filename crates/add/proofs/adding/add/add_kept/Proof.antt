@@ -1,25 +1,24 @@
 -- `add::adding::add::add_kept` meets its contract. Assumes nothing.
-use Rattle.numbers.proofs.Prelude.{needs, length, length-take-le, true, _≡_, refl, sym, arith}
+use Rattle.numbers.proofs.Prelude.{needs, length-take-le, true, _≡_, refl, sym, arith}
 use Rattle.add.specs.{Adding.Adds.{noteRooms}, Growing.Notes.{Notes, notesAs}, Joining.Joins.{untouched}, declared.adding.room.NoteRooms.{NoteRooms}}
-use Rattle.draft.{proofs.held.Stood.{stood as stood-is}, specs.{Held.{Space.{roomsOf, standing}, State.{Lists, listsAs}}, declared.held.room.Rooms.{Rooms}}}
+use Rattle.draft.{proofs.held.Stood.{stood as stood-is}, specs.{Held.{Space.{standing}, State.{Lists, listsAs, roomsOf, worksAs}}, declared.held.room.Rooms.{Rooms}}}
 use Rattle.add.proofs.adding.Adding.{as-changed, stands-not-adds, stood, refused-adds, full-adds, joined-adds}
 use Rattle.add.proofs.adding.{Asking.{sum-small, few-here, strings-in, sum-in, size-in, strings-are, placed-here, measuring-here}, add.add_kept.Statement.{statement}}
 use Rattle.add.proofs.adding.add.add_kept.Tie as tie
 
 -- what is lent, as the definitions have it
-abbrev rooms-of : tie.Start → Rooms
-rooms-of start = let args = start .args in
-    roomsOf (length (args .boxes .now)) (length (args .borders .now)) (length (args .lengths .now)) (length (args .texts .now)) (length (args .bytes .now)) (length (args .starts .now))
-    (length (args .keys .now)) (length (args .spare .now)) (length (args .kept .now)) (length (args .held .now)) (length (args .words .now)) (length (args .places .now))
-
-abbrev lent-of : tie.Start → NoteRooms
-lent-of start = let args = start .args in noteRooms (length (args .marks .now)) (length (args .chains .now)) (length (args .groups .now)) (length (args .begins .now))
-
 abbrev lists-of : tie.Start → Lists
 lists-of start = let args = start .args in listsAs (args .boxes .now) (args .borders .now) (args .lengths .now) (args .texts .now) (args .bytes .now)
 
+abbrev rooms-of : tie.Start → Rooms
+rooms-of start = let args = start .args in
+    roomsOf (lists-of start) (worksAs (args .starts .now) (args .keys .now) (args .spare .now) (args .kept .now) (args .held .now) (args .words .now) (args .places .now))
+
 abbrev notes-of : tie.Start → Notes
 notes-of start = let args = start .args in notesAs (args .marks .now) (args .chains .now) (args .groups .now) (args .begins .now)
+
+abbrev lent-of : tie.Start → NoteRooms
+lent-of start = noteRooms (notes-of start)
 
 -- ---- the places that the answers speak of
 abbrev at-out : tie.After-sum-of → tie.After-out
@@ -59,7 +58,7 @@ returns c = let start = at-start (c .before .before .before) in let args = start
   stands-not-adds (args .builder) (args .noted) (args .lats .now) (args .lons .now) (args .pieces .now) (args .sizes .now) (args .values .now) (rooms-of start) (lent-of start)
       (args .wide) (lists-of start) (notes-of start) refl refl refl refl refl (said .result) (said .ensures) (c .before .before .if1 .taken) _
       (as-changed _ _ _ _ (c .refused .ensures) (c .before .no-room .ensures)),
-  untouched refl refl refl refl refl refl refl,
+  untouched refl,
 )
 
 take-offer-requires : tie.Need-take-offer-requires
@@ -73,7 +72,7 @@ returns-2 c = let take-offer = c .before .before .before .before .before .before
       refused-adds (args .builder) (args .noted) (args .lats .now) (args .lons .now) (args .pieces .now) (args .sizes .now) (args .values .now) (rooms-of start) (lent-of start) (args .wide)
           (lists-of start) (notes-of start) refl (said .result) (said .ensures) (c .before .before .before .before .before .before .before .before .before .if1 .left) _ (take-offer .result)
           (take-offer .ensures) _ (c .before .before .offered2 .given .1) _ (c .refused2 .ensures),
-      untouched refl refl refl refl refl refl refl,
+      untouched refl,
     )
 
 sum-of-requires : tie.Need-sum-of-requires
@@ -96,7 +95,7 @@ returns-3 c = let take-offer = at-out (c .before .before .before .before) .befor
           (lists-of start) (notes-of start) refl (said .result) (said .ensures) (at-else1 (c .before .before .before) .if1 .left) _ (take-offer .result) (take-offer .ensures) _
           (c .before .before .before .before .before .before .offered .given .1) (sum-of .result) (sum-of .ensures) (has-place .result) (has-place .ensures) (c .before .before .if2 .taken) _
           (as-changed _ _ _ _ (c .refused3 .ensures) (c .before .no-room2 .ensures)),
-      untouched refl refl refl refl refl refl refl,
+      untouched refl,
     )
 
 end-of-requires : tie.Need-end-of-requires

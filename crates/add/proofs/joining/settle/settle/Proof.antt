@@ -1,7 +1,8 @@
 -- `add::joining::settle::settle` meets its contract. Assumes nothing.
 use Rattle.numbers.proofs.Prelude.{needs, refl, _∙_, arith}
-use Rattle.add.specs.Joining.Joins.{untouched}
-use Rattle.add.proofs.joining.{Settling.{values-few, joinable, measurable, notes-as, settled-into, settled-not, settled-afresh, unsure-tag, idle-as}, settle.settle.Statement.{statement}}
+use Rattle.draft.proofs.summed.Resting.{idle-as}
+use Rattle.add.specs.Joining.Joins.{idle, untouched}
+use Rattle.add.proofs.joining.{Settling.{values-few, joinable, measurable, notes-as, settled-into, settled-not, settled-afresh, unsure-tag}, settle.settle.Statement.{statement}}
 use Rattle.add.proofs.joining.settle.settle.Tie as tie
 
 -- ---- the places that the answers speak of
@@ -47,14 +48,14 @@ returns : tie.Need-returns
 returns c = (
   settled-into _ _ _ _ _ _ _ _ _ _ _ _ (at-start (c .before .before .before) .pre) _ _ _ _ _ _ (at-marks (c .before .before .before) .before .join-sure .ensures) _ _
       (c .before .sure .given .1),
-  untouched refl refl refl refl refl refl refl,
+  untouched refl,
 )
 
 returns-2 : tie.Need-returns-2
 returns-2 c = (
   settled-not _ _ _ _ _ _ _ _ _ _ _ _ (at-start (c .before .before .before) .pre) _ _ _ _ _ _ (at-marks (c .before .before .before) .before .join-sure .ensures) _
       (c .before .sure2 .given .1),
-  untouched refl refl refl refl refl refl refl,
+  untouched refl,
 )
 
 enum-told : tie.Need-enum-told
@@ -74,10 +75,9 @@ returns-3 : tie.Need-returns-3
 returns-3 c = (
   settled-afresh _ _ _ _ _ _ _ _ _ _ _ _ (at-start (at-match-keys3 c .before) .pre) _ _ _ _ _ _ (at-marks (at-match-keys3 c .before) .before .join-sure .ensures)
       (unsure-tag _ (enum-told (at-match-keys3 c))) _ _ (at-chains2 c .before .before .before .join-afresh .ensures),
-  idle-as _ _ _ _ _ _ _ _ _ _ _ _ _ _ _ _ _ _ _ _ _
-      (at-keys c .before .before .starts .given) (at-keys c .keys .given) (at-words c .before .before .before .before .before .before .spare .given)
+  idle (idle-as _ _ _ (at-keys c .before .before .starts .given) (at-keys c .keys .given) (at-words c .before .before .before .before .before .before .spare .given)
       (at-words c .before .before .before .before .kept .given) (at-words c .before .before .held .given) (at-words c .words .given) (at-places c .places .given)
-      (at-keys2 c .before .before .before .rest-work .ensures),
+      (at-keys2 c .before .before .before .rest-work .ensures)),
 )
 
 pub settle-spec : {M : Type 1} → statement M

@@ -1,6 +1,6 @@
 -- `draft::summed::finish::finish` meets its contract. Assumes nothing.
 use Rattle.numbers.proofs.Prelude.{needs}
-use Rattle.draft.proofs.summed.{Finishing.{settled-ends, settled-refused, settled-zero, idle-as}, finish.finish.Statement.{statement}}
+use Rattle.draft.proofs.summed.{Finishing.{settled-ends, settled-refused, settled-zero}, Resting.{idle-as}, finish.finish.Statement.{statement}}
 use Rattle.draft.proofs.summed.finish.finish.Tie as tie
 
 -- ---- the places that the answers speak of
@@ -18,10 +18,12 @@ returns c = let out = at-out c .out in let fill = at-kept c .before .before .bef
     let held = at-out c .before .before .before .before .before .before .held in let words = at-out c .before .before .before .before .words in
     let places = at-out c .before .before .places in
     let rest-work = c .before .before .before .before .before .before .before .before .before .before .before .before .before .before .before .before .before .before .rest-work in (
-      λ b h. settled-ends _ _ _ _ _ _ (out .given) (fill .ensures .0 b h) (settle .ensures),
-      λ e. settled-refused _ _ _ _ _ (fill .ensures .1 e) (settle .ensures),
-      λ why e. settled-zero _ _ _ _ _ why (out .given) (settle .ensures) e,
-      idle-as _ _ _ _ _ _ _ _ _ _ _ _ _ _ _ _ _ _ _ _ _ (starts .given) (keys .given) (spare .given) (kept .given)
+      record {
+        answers = λ b h. settled-ends _ _ _ _ _ _ (out .given) (fill .ensures .0 b h) (settle .ensures);
+        broken = λ e. settled-refused _ _ _ _ _ (fill .ensures .1 e) (settle .ensures);
+        emptied = λ why e. settled-zero _ _ _ _ _ why (out .given) (settle .ensures) e;
+      },
+      idle-as _ _ _ (starts .given) (keys .given) (spare .given) (kept .given)
           (held .given) (words .given) (places .given) (rest-work .ensures),
     )
 

@@ -1,6 +1,7 @@
 -- `edit::changing::drop::drop_last` meets its contract. Assumes nothing.
 use Rattle.numbers.proofs.Prelude.{needs, _∙_}
-use Rattle.edit.proofs.changing.{Dropping.{idle-as}, drop.drop_last.Statement.{statement}}
+use Rattle.draft.proofs.summed.Resting.{idle-as}
+use Rattle.edit.proofs.changing.drop.drop_last.Statement.{statement}
 use Rattle.edit.proofs.changing.drop.drop_last.Tie as tie
 
 -- ---- the places that the answers speak of
@@ -25,7 +26,7 @@ returns c = let drop-yard = at-texts c .before .before .before .before .before .
     let held = at-held c .held in let words = at-places c .before .before .words in let places = at-places c .places in
     let rest-work = at-spare2 c .before .before .before .before .before .rest-work in (
       drop-yard .ensures,
-      idle-as _ _ _ _ _ _ _ _ _ _ _ _ _ _ _ _ _ _ _ _ _ (starts .given) (keys .given) (spare .given) (kept .given) (held .given) (words .given) (places .given) (rest-work .ensures),
+      idle-as _ _ _ (starts .given) (keys .given) (spare .given) (kept .given) (held .given) (words .given) (places .given) (rest-work .ensures),
     )
 
 pub drop-last-spec : {M : Type 1} → statement M

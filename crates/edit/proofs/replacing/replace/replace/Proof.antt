@@ -1,6 +1,7 @@
 -- `edit::replacing::replace::replace` meets its contract. Assumes nothing.
-use Rattle.numbers.proofs.Prelude.{needs, _∙_}
-use Rattle.edit.proofs.replacing.{Answered.{idle-as}, replace.replace.Statement.{statement}}
+use Rattle.numbers.{proofs.Prelude.{needs, ap, _∙_}, specs.Lists.{zeros}}
+use Rattle.draft.proofs.summed.Resting.{idle-as}
+use Rattle.edit.proofs.replacing.replace.replace.Statement.{statement}
 use Rattle.edit.proofs.replacing.replace.replace.Tie as tie
 
 -- ---- the places that the answers speak of
@@ -21,8 +22,11 @@ returns c = let change = at-keys c .before .before .before .before .before .befo
     let keys = at-keys c .keys in let spare = at-kept c .before .before .spare in let kept = at-kept c .kept in
     let held = at-out c .before .before .before .before .before .before .held in let words = at-out c .before .before .before .before .words in
     let places = at-out c .before .before .places in let out = at-out c .out in
-    let rest = at-kept2 c .before .before .before .before .before .before .before .rest in
-    (change .ensures, idle-as (starts .given) (keys .given) (spare .given) (kept .given) (held .given) (words .given) (places .given) (out .given) (rest .ensures))
+    let rest = at-kept2 c .before .before .before .before .before .before .before .rest in (
+      change .ensures,
+      idle-as _ _ _ (starts .given) (keys .given) (spare .given) (kept .given) (held .given) (words .given) (places .given) (rest .ensures .0),
+      rest .ensures .1 ∙ ap zeros (out .given),
+    )
 
 pub replace-spec : {M : Type 1} → statement M
 replace-spec = tie.close (tie.spec (λ c κs. search needs) (λ c κs. search needs)
