@@ -4,7 +4,6 @@ pub mod Saying
 pub mod Answering
 pub mod Turns
 pub mod Streams
-pub mod Exits
 pub mod Whole
 pub mod Theorems
 pub mod Worked

@@ -1,8 +1,8 @@
 -- What the program writes, and its exit status, by name. Assumes nothing.
-use Rattle.numbers.proofs.Prelude.{ℕ, ℤ, pos, List, [], _⊎_, inl, inr, _≡_, sym, ap, _∙_, arith}
+use Rattle.numbers.proofs.Prelude.{ℕ, List, [], _≡_, sym, ap, _∙_, arith}
 use mathlib.Core.List.{flatten}
 use Rattle.shell.proofs.Whole.{kept-lines, kept-worst, run-lines, exit-status}
-use Rattle.shell.specs.{Run.{Exit, ExitsWith, Run, failed, of-pieces}, Written.{written, statusOf}}
+use Rattle.shell.specs.{Run.{Run, Exit}, Written.{written, statusOf}}
 
 -- What is written is the lines of the input's requests, each that of its request, one after another, however many there are.
 pub stamp-lines : (map zones : List ℕ) {pieces : List (List ℕ)} {bytes : List ℕ} → Run map zones pieces [] bytes → bytes ≡ written map zones (flatten pieces)
@@ -20,8 +20,3 @@ stamp-status map zones {pieces} exit = let e = exit-status map zones exit in let
 pub same-status : (map zones : List ℕ) {pieces pieces′ : List (List ℕ)} {answer answer′ : ℕ} → Exit map zones pieces [] 0 answer → Exit map zones pieces′ [] 0 answer′
     → flatten pieces ≡ flatten pieces′ → answer ≡ answer′
 same-status map zones exit exit′ e = stamp-status map zones exit ∙ ap (statusOf map zones) e ∙ sym (stamp-status map zones exit′)
-
--- The program exits with 2, or with 0 or 1 as the pieces that it read have it: with 0 only if all requests in them were stamped.
-pub stamp-exits : (map zones : List ℕ) {r : ℤ} → ExitsWith map zones r → (r ≡ pos 2) ⊎ ((pieces : List (List ℕ)) × (r ≡ pos (statusOf map zones (flatten pieces))))
-stamp-exits map zones (answer, (failed, is)) = inl is
-stamp-exits map zones (answer, (of-pieces pieces exit, is)) = inr (pieces, is ∙ ap pos (stamp-status map zones exit))

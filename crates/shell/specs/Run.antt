@@ -1,5 +1,5 @@
 -- A run: what it hands to standard output, and its exit status, by what is promised of each turn and piece. The pieces are any.
-use Rattle.numbers.specs.Prelude.{ℕ, _≤_, ℤ, pos, length, take, List, [], _∷_, _++_, _≡_}
+use Rattle.numbers.specs.Prelude.{ℕ, _≤_, length, take, List, [], _∷_, _++_, _≡_}
 use Rattle.shell.specs.{Answer.{Answers, slipFor}, Stream.{Served, Finished}, Turn.{Turned}, declared.{answer.Answered.{Answered}, stream.State.{State}, turn.Turn.{Turn}}}
 
 module _ (map zones : List ℕ) where
@@ -23,12 +23,3 @@ module _ (map zones : List ℕ) where
     served : {chunk line space hits text out : List ℕ} {pieces : List (List ℕ)} {status answer : ℕ} (state : State) → Served chunk line status map zones space hits text out state
         → (state .status ≡ 2 → ⊥)
         → Exit pieces (take (state .used) space) (state .status) answer → Exit (chunk ∷ pieces) line status answer
-
-  -- a program's exit status: 2, or that of the pieces that it read
-  pub data Status : ℕ → Type 0 where
-    failed : Status 2
-    of-pieces : {answer : ℕ} (pieces : List (List ℕ)) → Exit pieces [] 0 answer → Status answer
-
-  -- as the system has it
-  abbrev pub ExitsWith : ℤ → Type 0
-  ExitsWith r = (answer : ℕ) × (Status answer × (r ≡ pos answer))

