@@ -1,7 +1,7 @@
 -- The names of the kit that proofs use most, passed on from one place. Assumes nothing.
 pub use Prim.Native.Nat.{ℕ, zero, suc, ◌+◌, ◌-◌, ◌*◌, ◌/◌, ◌%◌, ◌^◌, ◌≤◌, ◌<◌, min}
-pub use borrow.Author.{Needs.{needs, sfits_of}, Tests.{eq-eqb, ne_eqb, lt-ltb, le-leb, le-ltb, leb-true, ltb-true, not-false, lt-leb, not-true, eqb-true, ltb-false, eqb-false, leb-false}}
-pub use denote.{Enum.Declared.{tag_of, declared}, Ref.{now}}
+pub use borrow.Author.{Rules.{rules, sfits_of}, Tests.{eq-eqb, ne_eqb, lt-ltb, le-leb, le-ltb, leb-true, ltb-true, not-false, lt-leb, not-true, eqb-true, ltb-false, eqb-false, leb-false}}
+pub use denote.Enum.Declared.{tag_of, declared}
 pub use lib.{Dec.{eqb, ltb, leb, T, lit<, lit≤}, Ieee.{Float, binary32, fin, nan, inf}, IntN.{ℤ, pos, negsuc, ◌+ℤ◌, ◌-ℤ◌, neg_ℤ, nat_abs}}
 pub use lib.ListN.{length, take, drop, get_or, set, replicate, length-append, length-drop, length-map, length-set, length-take, length-replicate, drop_of_length-le, take-append-drop, get_or-append as List·getD-append}
 pub use lib.{ListN.{get_or-eq_default as List·getD-eq-default}, Pow.{pow_pos, pow_mono, pow-add}}

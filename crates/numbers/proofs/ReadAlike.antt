@@ -1,6 +1,6 @@
 -- Numbers that end inside bytes that two files share are the same in both. Assumes nothing.
 use Rattle.numbers.proofs.Prelude.{ℕ, zero, suc, ◌+◌, ◌-◌, ◌*◌, ◌%◌, ◌≤◌, min, ltb, length, take, drop, length-drop, Bool, true, false, List, [], ◌∷◌, ◌≡◌, refl, ap, arith}
-use Rattle.numbers.proofs.Answers.{found-one, not-failed, not-refused}
+use Rattle.numbers.proofs.Answers.{found_one, not_failed, not_refused}
 use Rattle.numbers.specs.{Answer.{Answer, found, failed, refused, if◌then◌else◌}, Varint.{Numeral, is_last, value_of, size_of, too_long, forward_at, is_complete, whole_of, reading_of}}
 
 number_alike : (m : ℕ) (bs bs' : List ℕ) → take m bs ≡ take m bs' → size_of bs ≤ m → (size_of bs ≡ size_of bs') × (value_of bs ≡ value_of bs')
@@ -32,15 +32,15 @@ behind (suc place) (suc end) (x ∷ l) (y ∷ l') e = let z : suc end - suc plac
     rw z (behind place end l l' rest)
 
 complete_one : {number m : Numeral} (test : Bool) → found number ≡ (if test then found m else refused 31) → (test ≡ true) × (number ≡ m)
-complete_one true e = (refl, found-one e)
+complete_one true e = (refl, found_one e)
 complete_one false e = let z : ◌≡◌ {A = ℕ} 0 1 = cc in absurd (omega arith)
 
 module _ (file file' : List ℕ) (end : ℕ) (long : length file ≡ length file') (bytes : take end file ≡ take end file') where
   forward_alike : (place : ℕ) {number : Numeral} → found number ≡ forward_at file place → number.place ≤ end → found number ≡ forward_at file' place
   unfolding forward_at too_long
-  forward_alike place {number} e h = let bs = drop place file in let bs' = drop place file' in let here = not-failed (ltb place (length file)) e in
-      let short = not-refused 12 (ltb 10 (min (size_of bs) (length bs))) here.1 in
-      let ends : number.place ≡ place + size_of bs = ap (λ (n : Numeral). n.place) (found-one short.1) in
+  forward_alike place {number} e h = let bs = drop place file in let bs' = drop place file' in let here = not_failed (ltb place (length file)) e in
+      let short = not_refused 12 (ltb 10 (min (size_of bs) (length bs))) here.1 in
+      let ends : number.place ≡ place + size_of bs = ap (λ (n : Numeral). n.place) (found_one short.1) in
       let same = number_alike (end - place) bs bs' (behind place end file file' bytes) (omega (arith, ends, h)) in
       let size : length bs ≡ length bs' = omega (arith, length-drop place file, length-drop place file', long) in
       rw (← long, ← size, ← same.0, ← same.1) e

@@ -1,7 +1,7 @@
 -- A whole number at a place of a file: how it reads forward and backward, and that a number that was read to its end is one. Assumes nothing.
 use Rattle.numbers.proofs.Prelude.{ℕ, zero, suc, ◌+◌, ◌-◌, ◌*◌, ◌%◌, ◌^◌, ◌≤◌, ◌<◌, min, lt-ltb, le-ltb, ltb-true, ltb-false, ltb, length, drop, get_or, length-append, length-drop}
 use Rattle.numbers.proofs.Prelude.{List·getD-append, drop-drop, get_or-drop, drop-append_seam, Bool, true, false, List, [], ◌∷◌, ◌++◌, ◌≡◌, refl, sym, ap, ◌∙◌, add-zero, arith}
-use Rattle.numbers.proofs.{Answers.{found-one, not-failed, not-refused}, Lists.{none_left}}
+use Rattle.numbers.proofs.{Answers.{found_one, not_failed, not_refused}, Lists.{none_left}}
 use Rattle.std.proofs.Common.{add-suc}
 use Rattle.numbers.specs.{Answer.{if◌then◌else◌}, Varint.{Numeral, numeral, is_last, value_of, size_of, too_long, forward_at, start_of, backward_at}}
 
@@ -132,8 +132,8 @@ pub record ReadWhole (file : List ℕ) (place value next : ℕ) : Type 0 where
 
 pub read_whole : (file : List ℕ) (place : ℕ) {value next : ℕ} → numeral value next ≡ forward_at file place → next ≤ length file → ReadWhole file place value next
 unfolding forward_at too_long
-read_whole file place {value} {next} e h = let bytes = drop place file in let here = not-failed (ltb place (length file)) e in
-    let fits = not-refused 12 (ltb 10 (min (size_of bytes) (length bytes))) here.1 in let number = found-one fits.1 in
+read_whole file place {value} {next} e h = let bytes = drop place file in let here = not_failed (ltb place (length file)) e in
+    let fits = not_refused 12 (ltb 10 (min (size_of bytes) (length bytes))) here.1 in let number = found_one fits.1 in
     let n : next ≡ place + size_of bytes = ap (λ (m : Numeral). m.place) number in
     let v : value ≡ value_of bytes % 2 ^ 64 = ap (λ (m : Numeral). m.value) number in
     let short : min (size_of bytes) (length bytes) ≤ 10 = ltb-false 10 (min (size_of bytes) (length bytes)) fits.0 in

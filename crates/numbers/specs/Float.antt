@@ -1,6 +1,7 @@
 -- Floats, as document 01 has them: IEEE 754 binary32, each operation rounded once, in the Rust's order.
 pub mod Root
-use Rattle.numbers.specs.{Answer.{if◌then◌else◌}, Prelude.{ℕ, ◌+◌, ◌-◌, ◌%◌, ◌^◌, eqb, Float, binary32, ℤ, pos, negsuc}}
+use Rattle.std.specs.Prelude.{if◌then◌else◌, ◌+◌, ◌-◌, ◌%◌, ◌^◌}
+use Rattle.numbers.specs.Prelude.{ℕ, eqb, Float, binary32, ℤ, pos, negsuc}
 use Rattle.std.specs.Float.Ieee.{add, sub, mul, div, of_int, to_signed}
 
 -- i32 and u64 to f32: the nearest, ties to even

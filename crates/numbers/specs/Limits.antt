@@ -1,5 +1,6 @@
 -- Limits that more than one crate's definitions ask for.
-use Rattle.numbers.specs.Prelude.{ℕ, ◌^◌}
+use Rattle.std.specs.Prelude.{◌^◌}
+use Rattle.numbers.specs.Prelude.{ℕ}
 
 -- bytes of a file: 1 GiB
 abbrev pub largest_file : ℕ

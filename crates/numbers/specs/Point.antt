@@ -1,5 +1,6 @@
 -- Signed numbers and points, as document 01 has them.
-use Rattle.numbers.specs.{Answer.{if◌then◌else◌}, Prelude.{ℕ, zero, suc, ◌+◌, ◌-◌, ◌*◌, ◌/◌, ◌%◌, ◌^◌, eqb, ltb, ℤ, pos, negsuc, ◌-ℤ◌, neg_ℤ}, declared.point.RawPoint.{RawPoint}}
+use Rattle.std.specs.Prelude.{if◌then◌else◌, ◌+◌, ◌-◌, ◌*◌, ◌/◌, ◌%◌, ◌^◌, ◌-ℤ◌}
+use Rattle.numbers.specs.{Prelude.{ℕ, zero, suc, eqb, ltb, ℤ, pos, negsuc, neg_ℤ}, declared.point.RawPoint.{RawPoint}}
 
 -- the residue modulo 2 ^ 32
 abbrev pub low32 : ℤ → ℕ

@@ -1,5 +1,6 @@
 -- Numbers as they are written: document 01, "shortest varints, odd only for negatives".
-use Rattle.numbers.specs.{Answer.{if◌then◌else◌}, Prelude.{ℕ, zero, suc, ◌+◌, ◌*◌, ◌/◌, ◌%◌, ◌^◌, ◌≤◌, ltb, ℤ, pos, negsuc, length, sets, List, [], ◌∷◌, ◌≡◌}, Varint.{value_of, size_of}}
+use Rattle.std.specs.Prelude.{if◌then◌else◌, ◌+◌, ◌*◌, ◌/◌, ◌%◌, ◌^◌, ◌≤◌, ◌∷◌, ◌≡◌}
+use Rattle.numbers.specs.{Prelude.{ℕ, zero, suc, ltb, ℤ, pos, negsuc, length, sets, List, []}, Varint.{value_of, size_of}}
 
 -- seven bits a byte, low first, the high bit set in all but the last; at most k + 1 bytes
 unfoldable pub digits_of : ℕ → ℕ → List ℕ

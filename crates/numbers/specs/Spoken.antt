@@ -1,5 +1,6 @@
 -- How a reply goes over to C: a number, five words, and all lent output.
-use Rattle.numbers.specs.{Lists.{padded}, Prelude.{ℕ, List, [], ◌∷◌}, Reply.{Reply, given, refused}, declared.{refusal.Refusal.{Refusal}, said.Said.{Said}}}
+use Rattle.std.specs.Prelude.{◌∷◌}
+use Rattle.numbers.specs.{Lists.{padded}, Prelude.{ℕ, List, []}, Reply.{Reply, given, refused}, declared.{refusal.Refusal.{Refusal}, said.Said.{Said}}}
 
 -- a refusal's number, with its cause and detail
 abbrev pub refused_said : Refusal → Said

@@ -3,7 +3,7 @@ ghost use Rattle.std.specs.Prelude.{◌≡◌, ◌^◌, ◌<◌};
 ghost use mir.{Syntax.{w32}, Val.{of_z}};
 ghost use Rattle.numbers.specs.Point.{read_i32, signed_of, even_bits, both_bits, point_of};
 
-#[derive(Drop)]
+#[derive(Clone, Copy)]
 pub struct RawPoint {
     pub lat: i32,
     pub lon: i32,

@@ -4,7 +4,7 @@ ghost use Rattle.numbers.specs.Spoken.{refused_said, spoken};
 
 use crate::refusal::Refusal;
 
-#[derive(Drop)]
+#[derive(Clone, Copy)]
 pub struct Said {
     pub number: u8,
     pub words: [u64; 5],

@@ -1,7 +1,7 @@
 // Numbers into a lent buffer, and two numbers into one.
-ghost use Rattle.std.specs.Prelude.{◌≡◌, ◌+◌};
+ghost use Rattle.std.specs.Prelude.{◌≡◌, ◌+◌, if◌then◌else◌};
 ghost use lib.{Dec.{ltb}, IntN.{◌-ℤ◌}, ListN.{length, set}};
-ghost use Rattle.numbers.specs.{Answer.{if◌then◌else◌}, Spelling.{varint_of, interleaved, signed_form, Put}};
+ghost use Rattle.numbers.specs.Spelling.{varint_of, interleaved, signed_form, Put};
 
 // A byte at a place, or none past the buffer's end; and the place behind it, where there is one.
 fn put(out: &mut [u8], place: usize, byte: u8) -> usize

@@ -2,7 +2,7 @@
 -- the number that it finds. Assumes nothing.
 use Rattle.numbers.proofs.Prelude.{ℕ, ◌+◌, ◌-◌, ◌*◌, ◌%◌, ◌≤◌, ◌<◌, lt-ltb, le-leb, le-ltb, leb-true, ltb-true, lt-leb, ltb-false, leb-false, ltb, leb, length, drop, get_or, length-drop}
 use Rattle.numbers.proofs.Prelude.{List·getD-eq-default, get_or-drop, Bool, true, false, ◌&&◌, List, ◌≡◌, refl, sym, ap, ◌∙◌, arith}
-use Rattle.numbers.proofs.{Answers.{found-one, not-failed, not-refused}, Tests.{differ, both}, varint.{Bytes.{size_more, size_pos}, Reading.{one_byte, two_bytes, three_bytes, four_bytes}}}
+use Rattle.numbers.proofs.{Answers.{found_one, not_failed, not_refused}, Tests.{differ, both}, varint.{Bytes.{size_more, size_pos}, Reading.{one_byte, two_bytes, three_bytes, four_bytes}}}
 use Rattle.numbers.proofs.varint.Strict.{read_both}
 use Rattle.numbers.specs.{Answer.{found, failed}, Varint.{Numeral, numeral, size_of, too_long, forward_at, reading_of}, inner.Short.{BeginsAt, is_short, short_at}}
 
@@ -39,7 +39,7 @@ module _ (file : List ℕ) (place : ℕ) where
   module _ {value next : ℕ} (e : numeral value next ≡ forward_at file place) where
     ends_after : next ≡ place + size_of bytes
     unfolding forward_at
-    ends_after = ap (λ (number : Numeral). number.place) (found-one (not-refused 12 (too_long bytes) (not-failed (ltb place (length file)) e).1).1)
+    ends_after = ap (λ (number : Numeral). number.place) (found_one (not_refused 12 (too_long bytes) (not_failed (ltb place (length file)) e).1).1)
 
     module _ (at : ℕ) {last : ℕ} (is : last ≡ get_or file at 0) (n : at + 1 ≡ next) (few : next ≤ place + 4) where
       last_is : get_or bytes (size_of bytes - 1) 0 ≡ last
@@ -120,7 +120,7 @@ module _ (file : List ℕ) (place : ℕ) where
   -- a short number is the number at its place in both readings
   pub short_is_number : (strict : Bool) {number : Numeral} → found number ≡ short_at file place → found number ≡ reading_of strict file place
   unfolding short_at is_short
-  short_is_number strict {number} e = let is = not-failed (is_short bytes) e in
+  short_is_number strict {number} e = let is = not_failed (is_short bytes) e in
       read_both file place strict is.1 (within (leb (length bytes) (size_of bytes - 1)) refl (ltb-true 0 _ (both (leb (size_of bytes) 4) _ is.0).1) is.1) where
         within : (cut : Bool) → leb (length bytes) (size_of bytes - 1) ≡ cut → 0 < get_or bytes (size_of bytes - 1) 0 → found number ≡ forward_at file place → number.place ≤ length file
         within true c last e = absurd (omega (arith, last, List·getD-eq-default bytes 0 (leb-true (length bytes) (size_of bytes - 1) c)))

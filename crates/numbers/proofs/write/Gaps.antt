@@ -8,7 +8,7 @@ use Rattle.numbers.specs.Spelling.{signed_form}
 
 -- an i32 that is read as an i64
 pub widened : {z : ℤ} → SFits w32 z → to_z w64 (of_z w64 (to_z w32 (of_z w32 z))) ≡ z
-widened h = ap (λ (x : ℤ). to_z w64 (of_z w64 x)) (to_z-of_z h) ∙ to_z-of_z (sfits_widen tt h)
+widened h = ap (λ (x : ℤ). to_z w64 (of_z w64 x)) (to_z-of_z h) ∙ to_z-of_z {w = w64} (sfits_widen {w = w32} {w' = w64} tt h)
 
 pub widens : {z : ℤ} → SFits w32 z → SFits w64 (to_z w32 (of_z w32 z))
 widens h = rw (to_z-of_z h) (sfits_widen tt h)

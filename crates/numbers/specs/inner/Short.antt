@@ -1,5 +1,6 @@
 -- Numbers that are read quickly.
-use Rattle.numbers.specs.{Answer.{Answer, failed, if◌then◌else◌}, Prelude.{ℕ, ◌+◌, ◌-◌, ◌≤◌, ◌<◌, ltb, leb, length, drop, get_or, Bool, ◌&&◌, List, ◌≡◌}, Varint.{Numeral, size_of, forward_at}}
+use Rattle.std.specs.Prelude.{if◌then◌else◌, ◌+◌, ◌-◌, ◌≤◌, ◌<◌, ◌&&◌, ◌≡◌}
+use Rattle.numbers.specs.{Answer.{Answer, failed}, Prelude.{ℕ, ltb, leb, length, drop, get_or, Bool, List}, Varint.{Numeral, size_of, forward_at}}
 
 -- a number's first two bytes, which are not its last, where four bytes stand
 pub record BeginsAt (file : List ℕ) (place low middle : ℕ) : Type 0 where

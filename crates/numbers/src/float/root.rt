@@ -7,7 +7,7 @@ ghost use Rattle.numbers.specs.Float.Root.{units_of, nearest_root, root};
 
 use crate::float::nearest::{assembled, digits, power_of_two};
 
-#[derive(Drop)]
+#[derive(Clone, Copy)]
 struct Parts {
     digits: u64,
     size: u64,
