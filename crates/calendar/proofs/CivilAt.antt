@@ -63,10 +63,10 @@ at_seconds local (negsuc n) e instant offset is = λ day second i m. let same : 
     let z : ◌≡◌ {A = ℕ} 0 1 = cc in omega arith
 
 -- the function's answer is one that the clock may give
-pub civil_at_lem : (instant offset : ℤ) → CivilOf instant offset (civil_at instant offset)
+pub civil_at_is : (instant offset : ℤ) → CivilOf instant offset (civil_at instant offset)
 unfolding civil_at seconds_to
-civil_at_lem instant offset = at_seconds (instant +ℤ offset) _ (ap (λ (n : ℕ). instant +ℤ offset +ℤ pos n) epoch_seconds) instant offset refl
+civil_at_is instant offset = at_seconds (instant +ℤ offset) _ (ap (λ (n : ℕ). instant +ℤ offset +ℤ pos n) epoch_seconds) instant offset refl
 
 -- and so the only one
 pub is_civil_at : (instant offset : ℤ) (c : Civil) → CivilOf instant offset c → c ≡ civil_at instant offset
-is_civil_at instant offset c h = same_civil instant offset c (civil_at instant offset) h (civil_at_lem instant offset)
+is_civil_at instant offset c h = same_civil instant offset c (civil_at instant offset) h (civil_at_is instant offset)

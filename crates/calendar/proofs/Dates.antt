@@ -14,7 +14,7 @@ place leap month day = days_of_months leap (month - 1) + (day - 1)
 module _ (leap : Bool) (month day : ℕ) (m : InMonths leap month day) where
   in_month : place leap month day < days_of_months leap month
   unfolding place
-  in_month = omega (arith, month_more leap month m.month_from_lem)
+  in_month = omega (arith, month_more leap month m.month_from)
 
   in_year : place leap month day < days_of_months leap 12
   in_year = omega (arith, in_month, rises (days_of_months leap) (months_up leap) month 12 m.month_to)
@@ -45,7 +45,7 @@ unfolding place
 same_month leap m d m' d' p q e = (months, omega (arith, ap (λ (n : ℕ). days_of_months leap (n - 1)) months)) where
   months : m ≡ m'
   months =
-      between (days_of_months leap) (months_up leap) (place leap m d) m m' p.month_from_lem q.month_from_lem (omega arith) (in_month leap m d p) (omega arith) (omega (arith, in_month leap m' d' q))
+      between (days_of_months leap) (months_up leap) (place leap m d) m m' p.month_from q.month_from (omega arith) (in_month leap m d p) (omega arith) (omega (arith, in_month leap m' d' q))
 
 same_year : (y m d m' d' : ℕ) → IsDate y m d → IsDate y m' d' → day_number y m d ≡ day_number y m' d' → (m ≡ m') × (d ≡ d')
 unfolding day_number place

@@ -75,14 +75,14 @@ pub epoch : days_of_years 1969 ≡ 719162
 epoch = days_closed 1969
 
 -- seven weekdays, one after the other
-next_weekday_lem : (n k : ℕ) (last : Bool) → k ≡ (n + 1) % 7 → eqb k 6 ≡ last → (if last then 0 else suc k) ≡ (suc n + 1) % 7
-next_weekday_lem n k true p q = omega (arith, eqb-true k 6 q)
-next_weekday_lem n k false p q = let h = eqb-false k 6 q in omega arith
+weekday_after : (n k : ℕ) (last : Bool) → k ≡ (n + 1) % 7 → eqb k 6 ≡ last → (if last then 0 else suc k) ≡ (suc n + 1) % 7
+weekday_after n k true p q = omega (arith, eqb-true k 6 q)
+weekday_after n k false p q = let h = eqb-false k 6 q in omega arith
 
 pub weekday_closed : (n : ℕ) → weekday_of n ≡ (n + 1) % 7
 unfolding weekday_of next_weekday
 weekday_closed zero = refl
-weekday_closed (suc n) = next_weekday_lem n _ _ (weekday_closed n) refl
+weekday_closed (suc n) = weekday_after n _ _ (weekday_closed n) refl
 
 -- 1 January 1970 is a Thursday
 pub epoch_weekday : weekday_of 719162 ≡ 4

@@ -35,11 +35,11 @@ module _ (year month week weekday : ℕ) (m : IsMonth month week weekday) where
 
   some : week ≤ 4 → weeks_of year month week ≡ 7 * week
   unfolding weeks_of
-  some h = weeks_some (ltb (7 * week) (month_length (is_leap (suc year)) month)) week _ refl (month_long _ month m.month_from_lem m.month_to) h
+  some h = weeks_some (ltb (7 * week) (month_length (is_leap (suc year)) month)) week _ refl (month_long _ month m.month_from m.month_to) h
 
   five : week ≡ 5 → weeks_of year month week ≡ month_length (is_leap (suc year)) month
   unfolding weeks_of
-  five h = weeks_five (ltb (7 * week) (month_length (is_leap (suc year)) month)) week _ refl (month_short _ month m.month_from_lem m.month_to) h
+  five h = weeks_five (ltb (7 * week) (month_length (is_leap (suc year)) month)) week _ refl (month_short _ month m.month_from m.month_to) h
 
   pub month_meant : WeekdayOf (first_of year month) (month_length (is_leap (suc year)) month) week weekday (day_of (Month month week weekday) year)
   unfolding day_of
@@ -89,7 +89,7 @@ module _ (year n : ℕ) (from : 1 ≤ n) (to : n ≤ 365) where
         month = suc month_of.step;
         date = n - days_of_months false month_of.step;
         common = record {
-          month_from_lem = omega arith;
+          month_from = omega arith;
           month_to = omega (arith, month_few);
           day_from = omega (arith, month_of.from);
           day_to = omega

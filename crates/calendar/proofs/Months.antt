@@ -25,16 +25,16 @@ unfolding days_of_months
 months_up leap n = omega arith
 
 -- a year is its twelve months
-pub year_length_lem : (leap : Bool) → days_of_months leap 12 ≡ (if leap then 366 else 365)
+pub months_of_year : (leap : Bool) → days_of_months leap 12 ≡ (if leap then 366 else 365)
 unfolding days_of_months month_length
-year_length_lem true = refl
-year_length_lem false = refl
+months_of_year true = refl
+months_of_year false = refl
 
 -- a year more adds its twelve months
 pub year_more : (year : ℕ) → 1 ≤ year → days_of_years year ≡ days_of_years (year - 1) + days_of_months (is_leap year) 12
 unfolding days_of_years year_length
 year_more zero h = absurd (omega arith)
-year_more (suc n) h = rw (sub-one, year_length_lem)
+year_more (suc n) h = rw (sub-one, months_of_year)
 
 -- the three ways of the closed form
 module _ (leap : Bool) (n : ℕ) (few : n ≤ 12) where
@@ -55,7 +55,7 @@ module _ (leap : Bool) (place month : ℕ) (from : 1 ≤ month) (to : month ≤ 
 
   pub placed : days_of_months leap (month - 1) ≤ place → place < days_of_months leap month → PlaceOf leap place month (place - days_of_months leap (month - 1) + 1)
   placed h k =
-      record { months = record { month_from_lem = from; month_to = to; day_from = omega arith; day_to = omega (arith, month_more leap month from) }; there = omega arith }
+      record { months = record { month_from = from; month_to = to; day_from = omega arith; day_to = omega (arith, month_more leap month from) }; there = omega arith }
 
 -- a month has 28 to 31 days
 pub month_long : (leap : Bool) (month : ℕ) → 1 ≤ month → month ≤ 12 → 28 ≤ month_length leap month

@@ -12,7 +12,7 @@ module _ (f : ℕ → ℕ) (up : (n : ℕ) → f n ≤ f (suc n)) where
 
   -- a number lies between one step's two counts only
   pub between : (x a b : ℕ) → 1 ≤ a → 1 ≤ b → f (a - 1) ≤ x → x < f a → f (b - 1) ≤ x → x < f b → a ≡ b
-  between x a b ha hb la ua lb ub = let not_below_lem : a ≤ b - 1 → ⊥ = λ h. omega (arith, rises a (b - 1) h) in
+  between x a b ha hb la ua lb ub = let never_below : a ≤ b - 1 → ⊥ = λ h. omega (arith, rises a (b - 1) h) in
       let not_above : b ≤ a - 1 → ⊥ = λ h. omega (arith, rises b (a - 1) h) in omega arith
 
 -- a number between two steps of a sequence

@@ -1,6 +1,6 @@
 -- The sums that the code works out. Assumes nothing.
 use Rattle.numbers.{proofs.Prelude.{ℕ, suc, ◌+◌, ◌-◌, ◌*◌, ◌≤◌, ◌<◌, lt-ltb, le-ltb, ltb, Bool, true, false, ◌≡◌, sym, ap, ◌∙◌, add-one, arith}, specs.Answer.{if◌then◌else◌}}
-use Rattle.calendar.proofs.{Laws.{mean_high}, Months.{month_short, months_up, year_length_lem}, Rising.{rises}, Within.{weeks_long}}
+use Rattle.calendar.proofs.{Laws.{mean_high}, Months.{month_short, months_up, months_of_year}, Rising.{rises}, Within.{weeks_long}}
 use Rattle.calendar.specs.{Calendar.{is_leap, month_length, days_of_years, days_of_months}, Rules.{leap_day, last_on, first_of, weeks_of, day_of, IsMonth, IsWhen}, declared.rule.When.{When}}
 use Rattle.calendar.specs.declared.rule.When.TheVariants.{Julian, Zero, Month}
 
@@ -46,10 +46,10 @@ days_few year h = omega (arith, mean_high year)
 pub first_few : (year month : ℕ) → year ≤ 11000 → month ≤ 12 → first_of year month ≤ 4100366
 unfolding first_of
 first_few year month h k = omega
-    (arith, days_few year h, rises (days_of_months (is_leap (suc year))) (months_up _) (month - 1) 12 (omega arith), year_length_lem (is_leap (suc year)), months_few (is_leap (suc year)))
+    (arith, days_few year h, rises (days_of_months (is_leap (suc year))) (months_up _) (month - 1) 12 (omega arith), months_of_year (is_leap (suc year)), months_few (is_leap (suc year)))
 
 pub weeks_few : (year month week weekday : ℕ) → IsMonth month week weekday → (7 ≤ weeks_of year month week) × (weeks_of year month week ≤ 31)
-weeks_few year month week weekday m = omega (arith, weeks_long year month week weekday m, month_short (is_leap (suc year)) month m.month_from_lem m.month_to)
+weeks_few year month week weekday m = omega (arith, weeks_long year month week weekday m, month_short (is_leap (suc year)) month m.month_from m.month_to)
 
 pub leap_few : (year n : ℕ) → leap_day year n ≤ 1
 unfolding leap_day

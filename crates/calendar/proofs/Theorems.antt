@@ -39,7 +39,7 @@ pub week_day_unique : (past month week weekday : ℕ) → IsMonth month week wee
 unfolding Meant
 week_day_unique past month week weekday m =
     subst (λ (first : ℕ). Only (λ day. WeekdayOf first (month_length (is_leap (suc past)) month) week weekday day) (day_of (Month month week weekday) past)) (sym (first_number past month))
-    (record { holds = meant; alone = λ other p. one_weekday (first_of past month) (month_length (is_leap (suc past)) month) week weekday other _ m.week_from_lem m.week_to p meant }) where
+    (record { holds = meant; alone = λ other p. one_weekday (first_of past month) (month_length (is_leap (suc past)) month) week weekday other _ m.week_from m.week_to p meant }) where
       meant : WeekdayOf (first_of past month) (month_length (is_leap (suc past)) month) week weekday (day_of (Month month week weekday) past)
       meant = month_meant past month week weekday m
 

@@ -21,7 +21,7 @@ module _ (first length week weekday : ℕ) where
             omega (arith, rises (count_on weekday first) count_up (suc (a - first)) (b - first) (omega (arith, p.inside.from)), count_here (a - first) (ap weekday_of here ∙ p.named))
 
   pub one_weekday : (a b : ℕ) → 1 ≤ week → week ≤ 5 → WeekdayOf first length week weekday a → WeekdayOf first length week weekday b → a ≡ b
-  one_weekday a b from to p q = let not_below_lem : a < b → ⊥ = none_after a b from to p q in let not_above : b < a → ⊥ = none_after b a from to q p in omega arith
+  one_weekday a b from to p q = let never_below : a < b → ⊥ = none_after a b from to p q in let not_above : b < a → ⊥ = none_after b a from to q p in omega arith
 
 -- the n-th day of a common year is one date
 pub one_julian : (year n a b : ℕ) → JulianDay year n a → JulianDay year n b → a ≡ b

@@ -1,6 +1,6 @@
 -- A day comes later in each year than in the one before, and lies in the year or on the day after it. Assumes nothing.
 use Rattle.numbers.{proofs.Prelude.{ℕ, suc, ◌+◌, ◌-◌, ◌*◌, ◌≤◌, ◌<◌, ltb-true, ltb, Bool, true, false, ◌≡◌, refl, arith}, specs.Answer.{if◌then◌else◌}}
-use Rattle.calendar.proofs.{Months.{month_long, month_more, months_up, year_length_lem}, Rising.{rises}}
+use Rattle.calendar.proofs.{Months.{month_long, month_more, months_up, months_of_year}, Rising.{rises}}
 use Rattle.calendar.specs.{Calendar.{is_leap, year_length, month_length, days_of_years, days_of_months}, Rules.{leap_day, last_on, first_of, weeks_of, day_of, IsMonth, IsWhen}, declared.rule.When.{When}}
 use Rattle.calendar.specs.declared.rule.When.TheVariants.{Julian, Zero, Month}
 
@@ -36,11 +36,11 @@ weeks_cases false weeks length e h k = omega arith
 module _ (year month week weekday : ℕ) (m : IsMonth month week weekday) where
   pub weeks_long : (7 ≤ weeks_of year month week) × (weeks_of year month week ≤ month_length (is_leap (suc year)) month)
   unfolding weeks_of
-  weeks_long = weeks_cases _ (7 * week) _ refl (omega (arith, m.week_from_lem)) (month_long _ month m.month_from_lem m.month_to)
+  weeks_long = weeks_cases _ (7 * week) _ refl (omega (arith, m.week_from)) (month_long _ month m.month_from m.month_to)
 
   months_short : days_of_months (is_leap (suc year)) (month - 1) + month_length (is_leap (suc year)) month ≤ year_length (suc year)
   unfolding year_length
-  months_short = omega (arith, month_more (is_leap (suc year)) month m.month_from_lem, rises (days_of_months (is_leap (suc year))) (months_up _) month 12 m.month_to, year_length_lem (is_leap (suc year)))
+  months_short = omega (arith, month_more (is_leap (suc year)) month m.month_from, rises (days_of_months (is_leap (suc year))) (months_up _) month 12 m.month_to, months_of_year (is_leap (suc year)))
 
   year_end : days_of_years (suc year) ≡ days_of_years year + year_length (suc year)
   unfolding days_of_years

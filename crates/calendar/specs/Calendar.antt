@@ -1,5 +1,6 @@
 -- The Gregorian calendar, counted day by day. Day 0 is Monday, 1 January of the year 1; 1 January 1970, a Thursday, is day 719162.
-use Rattle.numbers.specs.{Answer.{if◌then◌else◌}, Prelude.{ℕ, zero, suc, ◌+◌, ◌-◌, ◌%◌, ◌≤◌, ◌<◌, eqb, get_or, Bool, List, [], ◌∷◌}}
+use Rattle.std.specs.Prelude.{if◌then◌else◌, ◌+◌, ◌-◌, ◌%◌, ◌≤◌, ◌<◌, ◌∷◌}
+use Rattle.numbers.specs.Prelude.{ℕ, zero, suc, eqb, get_or, Bool, List, []}
 
 -- every fourth year is a leap year, but of the full centuries only every fourth
 unfoldable pub is_leap : ℕ → Bool
@@ -52,7 +53,7 @@ pub record InYear (year day : ℕ) : Type 0 where
 
 -- a month and a day in it, of a leap year or of another
 pub record InMonths (leap : Bool) (month day : ℕ) : Type 0 where
-  pub month_from_lem : 1 ≤ month
+  pub month_from : 1 ≤ month
   pub month_to : month ≤ 12
   pub day_from : 1 ≤ day
   pub day_to : day ≤ month_length leap month

@@ -1,5 +1,6 @@
 -- The date and the time of day that a clock shows, so many seconds east of UT.
-use Rattle.numbers.specs.{Answer.{if◌then◌else◌}, Prelude.{ℕ, zero, suc, ◌+◌, ◌-◌, ◌*◌, ◌/◌, ◌%◌, ◌≤◌, ltb, leb, ℤ, pos, negsuc, ◌+ℤ◌, Bool, ◌≡◌}}
+use Rattle.std.specs.Prelude.{if◌then◌else◌, ◌+◌, ◌-◌, ◌*◌, ◌/◌, ◌%◌, ◌≤◌, ◌+ℤ◌, ◌≡◌}
+use Rattle.numbers.specs.Prelude.{ℕ, zero, suc, ltb, leb, ℤ, pos, negsuc, Bool}
 use Rattle.calendar.specs.{Calendar.{is_leap, days_of_years, days_of_months, day_number, weekday_of, IsDate}, Moments.{seconds_to, instant_of, MomentOf}, declared.civil.Civil.{Civil}}
 use Rattle.calendar.specs.declared.civil.Reading.{Reading}
 use Rattle.calendar.specs.declared.civil.Civil.TheVariants as civil

@@ -1,5 +1,6 @@
 -- Dates of days, counted from 0.
-use Rattle.numbers.specs.Prelude.{ℕ, ◌+◌, ◌-◌, Bool, ◌≡◌}
+use Rattle.std.specs.Prelude.{◌+◌, ◌-◌, ◌≡◌}
+use Rattle.numbers.specs.Prelude.{ℕ, Bool}
 use Rattle.calendar.specs.Calendar.{days_of_months, day_number, InMonths, IsDate}
 
 -- the month and the day of the month, for a day of the year

@@ -1,5 +1,6 @@
 -- The days counted from 1970, year by year: forwards, and backwards past the year 1.
-use Rattle.numbers.specs.Prelude.{ℕ, zero, suc, ◌+◌, ◌-◌}
+use Rattle.std.specs.Prelude.{◌+◌, ◌-◌}
+use Rattle.numbers.specs.Prelude.{ℕ, zero, suc}
 use Rattle.calendar.specs.Calendar.{year_length}
 
 -- the days from 1 January 1970 to 1 January so many years later

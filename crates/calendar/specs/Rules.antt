@@ -1,5 +1,6 @@
 -- The day that a rule of a TZ string means in a year. A year is told by how many come before it: the year 1 by 0.
-use Rattle.numbers.specs.{Answer.{if◌then◌else◌}, Prelude.{ℕ, zero, suc, ◌+◌, ◌-◌, ◌*◌, ◌%◌, ◌≤◌, ◌<◌, eqb, ltb, false, ◌≡◌}}
+use Rattle.std.specs.Prelude.{if◌then◌else◌, ◌+◌, ◌-◌, ◌*◌, ◌%◌, ◌≤◌, ◌<◌, ◌≡◌}
+use Rattle.numbers.specs.Prelude.{ℕ, zero, suc, eqb, ltb, false}
 use Rattle.calendar.specs.{Calendar.{is_leap, month_length, days_of_years, days_of_months, day_number, weekday_of, InMonths}, declared.rule.When.{When, TheVariants.{Julian, Zero, Month}}}
 
 -- the leap day, where the n-th day of a year without it comes after it
@@ -26,9 +27,9 @@ day_of (Month month week weekday) past = last_on weekday (first_of past month + 
 
 -- the numbers of a rule M
 pub record IsMonth (month week weekday : ℕ) : Type 0 where
-  pub month_from_lem : 1 ≤ month
+  pub month_from : 1 ≤ month
   pub month_to : month ≤ 12
-  pub week_from_lem : 1 ≤ week
+  pub week_from : 1 ≤ week
   pub week_to : week ≤ 5
   pub weekday_to : weekday ≤ 6
 

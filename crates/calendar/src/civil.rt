@@ -6,7 +6,7 @@ use crate::date::{date_at, weekday_of};
 use crate::moment::{Moment, moment_of};
 
 // What a clock shows: months and days counted from 1, weekday 0 is Sunday.
-#[derive(Drop)]
+#[derive(Clone, Copy)]
 pub struct Reading {
     pub year: u64,
     pub month: u64,
@@ -18,7 +18,7 @@ pub struct Reading {
 }
 
 // What a clock shows, or it is outside the years 1 to 9999.
-#[derive(Drop)]
+#[derive(Clone, Copy)]
 pub enum Civil {
     Shown(Reading),
     Outside,

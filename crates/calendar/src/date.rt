@@ -6,7 +6,7 @@ use crate::month::month_at;
 use crate::year::{days_of_years, is_leap, year_at};
 
 // A date, its month and its day counted from 1.
-#[derive(Drop)]
+#[derive(Clone, Copy)]
 pub struct Date {
     pub year: u64,
     pub month: u64,

@@ -2,7 +2,7 @@
 ghost use Rattle.calendar.specs.Moments.{MomentOf};
 
 // A second of a day of the years 1 to 9999.
-#[derive(Drop)]
+#[derive(Clone, Copy)]
 pub enum Moment {
     At { day: u64, second: u64 },
     Outside,

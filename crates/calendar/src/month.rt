@@ -3,7 +3,7 @@ ghost use Rattle.std.specs.Prelude.{◌≡◌, ◌≤◌, ◌<◌};
 ghost use Rattle.calendar.specs.{Calendar.{month_length, days_of_months}, Dates.{PlaceOf}};
 
 // A month of the year and a day of the month, each counted from 1.
-#[derive(Drop)]
+#[derive(Clone, Copy)]
 pub struct MonthDay {
     pub month: u64,
     pub day: u64,

@@ -7,7 +7,7 @@ use crate::month::{days_of_months, month_length};
 use crate::year::{days_of_years, is_leap};
 
 // Which day of a year is meant.
-#[derive(Drop)]
+#[derive(Clone, Copy)]
 pub enum When {
     // J n: the n-th day, from 1; 29 February is never counted.
     Julian(u64),

@@ -92,9 +92,9 @@ module _ (instant offset a b : ℤ) (p : a ≡ instant) (q : b ≡ offset) (mome
   unfolding MomentOf
   at_days e = rw e at is
 
-  pub civil_at_lem : {day second : ℕ} {reading : Reading} → moment ≡ At day second → Shows (instant_of day second) reading → CivilOf instant offset (civil.Shown reading)
+  pub civil_shown_at : {day second : ℕ} {reading : Reading} → moment ≡ At day second → Shows (instant_of day second) reading → CivilOf instant offset (civil.Shown reading)
   unfolding CivilOf
-  civil_at_lem {reading = reading} e s = subst (λ (z : ℤ). Shows z reading) (at_days e).1 s
+  civil_shown_at {reading = reading} e s = subst (λ (z : ℤ). Shows z reading) (at_days e).1 s
 
   pub civil_outside : moment ≡ Outside → CivilOf instant offset civil.Outside
   unfolding CivilOf

@@ -1,0 +1,25 @@
+-- `calendar::civil::local_moment` meets its contract: no i32 leads from outside the bounds into the years.
+use Rattle.numbers.proofs.Prelude.{w64, to_z-of_z}
+use Rattle.calendar.proofs.civil.{Clock.{too_early, too_late, offset_fits, sum_fits, of_sum}}
+use Rattle.calendar.proofs.civil.local_moment.Goals as goal
+
+pub returns-then-instant-ltminus70000000000 : goal.returns-then-instant-ltminus70000000000
+returns-then-instant-ltminus70000000000 c =
+    too_early _ _ _ (to_z-of_z w64 _ c.ranges.instant) c.ranges.offset c.if-instant-ltminus70000000000.true
+
+pub returns-then-instant-gt260000000000 : goal.returns-then-instant-gt260000000000
+returns-then-instant-gt260000000000 c =
+    too_late _ _ _ (to_z-of_z w64 _ c.ranges.instant) c.ranges.offset c.if-instant-gt260000000000.true
+
+pub overflow_cast-offset : goal.overflow_cast-offset
+overflow_cast-offset c =
+    offset_fits _ _ _ (to_z-of_z w64 _ c.ranges.instant) c.ranges.offset
+
+pub overflow_add-instant : goal.overflow_add-instant
+overflow_add-instant c =
+    sum_fits _ _ _ (to_z-of_z w64 _ c.ranges.instant) c.ranges.offset c.if-instant-ltminus70000000000.false c.if-instant-gt260000000000.false
+
+pub returns : goal.returns
+returns c =
+    of_sum _ _ _ (to_z-of_z w64 _ c.ranges.instant) c.ranges.offset c.if-instant-ltminus70000000000.false c.if-instant-gt260000000000.false c.moment_of.result
+    c.moment_of.ensures
