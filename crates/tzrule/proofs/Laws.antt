@@ -20,10 +20,10 @@ unfolding told_string
 string_fault is e = sym e ∙ ap told_string is
 
 -- what was read can be asked
-pub is_ruled_lem : (end : ℕ) (tz : Tz) → IsTz end tz → Ruled tz
+pub tz_is_ruled : (end : ℕ) (tz : Tz) → IsTz end tz → Ruled tz
 unfolding IsTz Ruled
-is_ruled_lem end (Fixed clock) g = tt
-is_ruled_lem end (Changing rule) g = g.good
+tz_is_ruled end (Fixed clock) g = tt
+tz_is_ruled end (Changing rule) g = g.good
 
 -- the clock that holds is one of the string's
 clock_held : (end : ℕ) (tz : Tz) (u : ℕ) → IsTz end tz → IsClock end (clock_at tz u).clock

@@ -143,10 +143,10 @@ module _ (text other : List ℕ) (from : ℕ) (size : length text ≡ length oth
     is : end ≡ end'
     next : low ≤ end
 
-  name_end_lem : (most : ℕ) (quoted : Bool) (at : ℕ) → from ≤ at → EndFrom (name_end most quoted text at) (name_end most quoted other at) at
+  same_name_end : (most : ℕ) (quoted : Bool) (at : ℕ) → from ≤ at → EndFrom (name_end most quoted text at) (name_end most quoted other at) at
   unfolding name_end
-  name_end_lem zero quoted at h = record { is = refl; next = omega arith }
-  name_end_lem (suc more) quoted at h = rw (← byte at h) (go (in_name quoted (byte_at text at)) (name_end_lem more quoted (at + 1) (omega arith))) where
+  same_name_end zero quoted at h = record { is = refl; next = omega arith }
+  same_name_end (suc more) quoted at h = rw (← byte at h) (go (in_name quoted (byte_at text at)) (same_name_end more quoted (at + 1) (omega arith))) where
     go : (t : Bool) → EndFrom (name_end more quoted text (at + 1)) (name_end more quoted other (at + 1)) (at + 1) →
         EndFrom (if t then name_end more quoted text (at + 1) else at) (if t then name_end more quoted other (at + 1) else at) at
     go true e = record { is = e.is; next = omega (arith, e.next) }
@@ -154,7 +154,7 @@ module _ (text other : List ℕ) (from : ℕ) (size : length text ≡ length oth
 
   end : (quoted : Bool) (at : ℕ) → from ≤ at → EndFrom (end_of quoted text at) (end_of quoted other at) at
   unfolding end_of
-  end quoted at h = rw (← size) (name_end_lem (length text - at) quoted at h)
+  end quoted at h = rw (← size) (same_name_end (length text - at) quoted at h)
 
   SpanFrom : Span → Type 0
   SpanFrom span = from ≤ span.start
@@ -200,7 +200,8 @@ module _ (text other : List ℕ) (from : ℕ) (size : length text ≡ length oth
   whole : (wide : Bool) (at : ℕ) → from ≤ at → Alike from (TzFrom from) (string_of wide text at) (string_of wide other at)
   unfolding string_of TzFrom
   whole wide at h =
-      and_on (named_clock (signed_of day_hours text) (signed_of day_hours other) (signed day_hours) at h) (λ standard next g s. if_byte next 10 g (reads (omega arith) s) (changing wide standard s next g))
+      and_on (named_clock (signed_of day_hours text) (signed_of day_hours other) (signed day_hours) at h)
+      (λ standard next g s. if_byte next 10 g (reads (omega arith) s) (changing wide standard s next g))
 
   -- a string from the place on
   pub string_alike : (wide : Bool) (at : ℕ) → from ≤ at → Alike from (TzFrom from) (string_of wide text at) (string_of wide other at)

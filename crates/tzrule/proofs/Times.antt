@@ -82,7 +82,8 @@ module _ (text : List ℕ) (at sum : ℕ) {byte : ℕ} (b : byte ≡ byte_at tex
     unfolding told seconds_of onward
     seconds_fault e = simp (there, e)
 
-    pub minutes_read : {value next : ℕ} (answer : Number) → number_of sixty text (at + 1) ≡ read value next → told answer ≡ seconds_of text (sum + 60 * value) next → told answer ≡ minutes_of text sum at
+    pub minutes_read : {value next : ℕ} (answer : Number) → number_of sixty text (at + 1) ≡ read value next
+        → told answer ≡ seconds_of text (sum + 60 * value) next → told answer ≡ minutes_of text sum at
     unfolding minutes_of onward
     minutes_read answer e t = t ∙ simp (there, e)
 

@@ -1,5 +1,6 @@
 -- What reading answers: what stood there and the place behind it, or the place of a fault.
-use Rattle.numbers.specs.{Answer.{if◌then◌else◌}, Prelude.{ℕ, ◌+◌, ◌≤◌, eqb, List}}
+use Rattle.std.specs.Prelude.{if◌then◌else◌, ◌+◌, ◌≤◌}
+use Rattle.numbers.specs.Prelude.{ℕ, eqb, List}
 use Rattle.tzrule.specs.{Text.{byte_at}, declared.{date.Found.{Found}, number.Number.{Number}}}
 use Rattle.calendar.specs.{Rules.{IsWhen}, declared.rule.When.{When}}
 use Rattle.tzrule.specs.declared.number.Number.TheVariants as N

@@ -1,5 +1,6 @@
 -- What a TZ string says of an instant.
-use Rattle.numbers.specs.{Answer.{if◌then◌else◌}, Prelude.{ℕ, ◌+◌, ◌-◌, ◌^◌, leb, Bool, ◌&&◌}}
+use Rattle.std.specs.Prelude.{if◌then◌else◌, ◌+◌, ◌-◌, ◌^◌, ◌&&◌}
+use Rattle.numbers.specs.Prelude.{ℕ, leb, Bool}
 use Rattle.tzrule.specs.{Summer.{is_summer, IsRule}, declared.{ask.{Asked.{Asked, TheVariants.{Holds, Outside}}, Time.{Time}}, rule.Tz.{Tz, TheVariants.{Fixed, Changing}}}}
 
 -- an instant, which is given more 2 ^ 63, less a correction, which is given more 2 ^ 31

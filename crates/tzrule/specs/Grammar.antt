@@ -1,5 +1,6 @@
 -- The grammar of the numbers and times of a TZ string.
-use Rattle.numbers.specs.{Answer.{if◌then◌else◌}, Prelude.{ℕ, ◌+◌, ◌-◌, ◌*◌, ◌≤◌, ltb, List}}
+use Rattle.std.specs.Prelude.{if◌then◌else◌, ◌+◌, ◌-◌, ◌*◌, ◌≤◌}
+use Rattle.numbers.specs.Prelude.{ℕ, ltb, List}
 use Rattle.tzrule.specs.{Answer.{Answer, read, fault, ◌>>=◌, give, if_byte}, Text.{digits_of}, declared.number.{Digits.{Digits}, Shape.{Shape}}}
 use Rattle.calendar.specs.declared.rule.When.{When, TheVariants.{Julian, Zero, Month}}
 

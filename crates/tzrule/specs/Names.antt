@@ -1,5 +1,6 @@
 -- The names of a TZ string.
-use Rattle.numbers.specs.{Answer.{if◌then◌else◌}, Prelude.{ℕ, zero, suc, ◌+◌, ◌-◌, ◌≤◌, eqb, ltb, length, Bool, true, false, List}}
+use Rattle.std.specs.Prelude.{if◌then◌else◌, ◌+◌, ◌-◌, ◌≤◌}
+use Rattle.numbers.specs.Prelude.{ℕ, zero, suc, eqb, ltb, length, Bool, true, false, List}
 use Rattle.tzrule.specs.{Answer.{Answer, read, fault, if_byte}, Text.{byte_at, is_digit}, declared.name.{Named.{Named}, Span.{Span}}}
 use Rattle.tzrule.specs.declared.name.Named.TheVariants as N
 

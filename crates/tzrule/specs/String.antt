@@ -1,5 +1,6 @@
 -- The whole TZ string: std offset [dst [offset] , date [/time] , date [/time]], and the newline that closes it.
-use Rattle.numbers.specs.{Answer.{if◌then◌else◌}, Prelude.{ℕ, ◌-◌, eqb, Bool, List}}
+use Rattle.std.specs.Prelude.{if◌then◌else◌, ◌-◌}
+use Rattle.numbers.specs.Prelude.{ℕ, eqb, Bool, List}
 use Rattle.tzrule.specs.{Answer.{Answer, read, fault, ◌>>=◌, give, if_byte}, Grammar.{later_of, signed_of, date_of}, Names.{name_of}, Text.{byte_at}, declared.number.Shape.{Shape}}
 use Rattle.tzrule.specs.declared.rule.{Change.{Change}, Clock.{Clock}, Tz.{Tz, TheVariants.{Fixed, Changing}}}
 

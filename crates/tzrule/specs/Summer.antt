@@ -1,5 +1,6 @@
 -- Summer time. Instants are seconds from the first midnight of the first year, more 1209600: a week for the time and one for the offset.
-use Rattle.numbers.specs.{Answer.{if◌then◌else◌}, Prelude.{ℕ, zero, suc, ◌+◌, ◌*◌, ◌≤◌, ◌<◌, ltb, leb, Bool, true, false}}
+use Rattle.std.specs.Prelude.{if◌then◌else◌, ◌+◌, ◌*◌, ◌≤◌, ◌<◌}
+use Rattle.numbers.specs.Prelude.{ℕ, zero, suc, ltb, leb, Bool, true, false}
 use Rattle.calendar.specs.Rules.{day_of, IsWhen}
 use Rattle.tzrule.specs.declared.rule.{Change.{Change}, Rule.{Rule}}
 

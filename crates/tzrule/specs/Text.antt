@@ -1,5 +1,6 @@
 -- The numbers of a TZ string, read from a place on.
-use Rattle.numbers.specs.{Answer.{if◌then◌else◌}, Prelude.{ℕ, zero, suc, ◌+◌, ◌-◌, ◌*◌, ltb, get_or, Bool, false, List}}
+use Rattle.std.specs.Prelude.{if◌then◌else◌, ◌+◌, ◌-◌, ◌*◌}
+use Rattle.numbers.specs.Prelude.{ℕ, zero, suc, ltb, get_or, Bool, false, List}
 use Rattle.tzrule.specs.declared.number.Digits.{Digits}
 
 -- the byte at a place; 0, which is no letter, digit or sign, past the end

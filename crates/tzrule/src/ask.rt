@@ -1,19 +1,18 @@
 // A TZ string, asked at an instant.
-ghost use mathlib.Core.{Path.{◌≡◌}, Bool.{true}};
-ghost use Rattle.std.specs.Prelude.{◌^◌, ◌<◌};
+ghost use Rattle.std.specs.Prelude.{◌≡◌, ◌^◌, ◌<◌, true};
 ghost use Rattle.tzrule.specs.Ask.{Ruled, corrected, in_years, clock_at, ask};
 
 use crate::rule::{Clock, Tz};
 use crate::summer::summer_at;
 
 // Which clock holds; 1 for summer time, else 0.
-#[derive(Drop)]
+#[derive(Clone, Copy)]
 pub struct Time {
     pub clock: Clock,
     pub daylight: u8,
 }
 
-#[derive(Drop)]
+#[derive(Clone, Copy)]
 pub enum Asked {
     Holds(Time),
     Outside,

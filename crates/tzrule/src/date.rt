@@ -6,7 +6,7 @@ use crate::number::{Number, Shape, byte_at, number_at};
 use calendar::rule::When;
 
 // A date and the place behind it, or the place of a fault.
-#[derive(Drop)]
+#[derive(Clone, Copy)]
 pub enum Found {
     Day { when: When, next: usize },
     Fault(usize),

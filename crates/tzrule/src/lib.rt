@@ -1,4 +1,6 @@
 // The TZ string of a TZif footer: its text, and the summer time of its rule.
+#![tactic(auto)]
+
 pub mod ask;
 pub mod date;
 pub mod name;

@@ -5,14 +5,14 @@ ghost use Rattle.tzrule.specs.Names.{is_letter, in_name, end_of, bare_of, quoted
 use crate::number::{byte_at, is_digit, wide};
 
 // Where a name stands.
-#[derive(Drop)]
+#[derive(Clone, Copy)]
 pub struct Span {
     pub start: usize,
     pub end: usize,
 }
 
 // A name and the place behind it, or the place of a fault.
-#[derive(Drop)]
+#[derive(Clone, Copy)]
 pub enum Named {
     Name { span: Span, next: usize },
     Fault(usize),

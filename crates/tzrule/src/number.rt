@@ -3,14 +3,14 @@ ghost use Rattle.std.specs.Prelude.{◌≡◌, ◌+◌, ◌≤◌, ◌<◌, leng
 ghost use Rattle.tzrule.specs.{Answer.{told, Within}, Grammar.{IsShape, number_of}, Text.{byte_at, is_digit, digits_of}};
 
 // Digits that were read: their number, and the place behind them.
-#[derive(Drop)]
+#[derive(Clone, Copy)]
 pub struct Digits {
     pub value: u64,
     pub next: usize,
 }
 
 // How many digits a number has, and its range.
-#[derive(Drop)]
+#[derive(Clone, Copy)]
 pub struct Shape {
     pub least: usize,
     pub most: usize,
@@ -19,7 +19,7 @@ pub struct Shape {
 }
 
 // A number and the place behind it, or the place of a fault.
-#[derive(Drop)]
+#[derive(Clone, Copy)]
 pub enum Number {
     Read { value: u64, next: usize },
     Fault(usize),

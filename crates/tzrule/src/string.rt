@@ -10,37 +10,37 @@ use crate::rule::{Change, Clock, Rule, Tz};
 use crate::time::{later_at, signed_at};
 
 // A clock, a change, a string, each with the place behind it; or the place of a fault.
-#[derive(Drop)]
+#[derive(Clone, Copy)]
 pub struct ClockAt {
     pub clock: Clock,
     pub next: usize,
 }
 
-#[derive(Drop)]
+#[derive(Clone, Copy)]
 pub enum Clocked {
     Clock(ClockAt),
     Fault(usize),
 }
 
-#[derive(Drop)]
+#[derive(Clone, Copy)]
 pub struct ChangeAt {
     pub change: Change,
     pub next: usize,
 }
 
-#[derive(Drop)]
+#[derive(Clone, Copy)]
 pub enum Changed {
     Change(ChangeAt),
     Fault(usize),
 }
 
-#[derive(Drop)]
+#[derive(Clone, Copy)]
 pub struct StringAt {
     pub tz: Tz,
     pub next: usize,
 }
 
-#[derive(Drop)]
+#[derive(Clone, Copy)]
 pub enum Parsed {
     String(StringAt),
     Fault(usize),

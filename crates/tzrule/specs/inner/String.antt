@@ -1,5 +1,6 @@
 -- What the functions that read a TZ string say of each other.
-use Rattle.numbers.specs.Prelude.{ℕ, ◌≤◌}
+use Rattle.std.specs.Prelude.{◌≤◌}
+use Rattle.numbers.specs.Prelude.{ℕ}
 use Rattle.tzrule.specs.{Answer.{Answer, read, fault}, Summer.{IsChange, IsRule}, declared.rule.{Change.{Change}, Clock.{Clock}, Rule.{Rule}, Tz.{Tz, TheVariants.{Fixed, Changing}}}}
 use Rattle.tzrule.specs.declared.string.{Changed.{Changed}, Clocked.{Clocked}, Parsed.{Parsed}}
 use Rattle.tzrule.specs.declared.string.Changed.TheVariants as changed

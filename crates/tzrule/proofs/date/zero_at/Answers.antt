@@ -1,0 +1,21 @@
+-- `tzrule::date::zero_at` meets its contract.
+use Rattle.tzrule.proofs.{Signs.{zero_read, zero_fault}, Times.{read_is, read_within, fault_is, fault_within}}
+use Rattle.tzrule.specs.Answer.{GoodDate}
+use Rattle.calendar.specs.Rules.{IsWhen}
+use Rattle.tzrule.proofs.date.zero_at.Goals as goal
+
+pub returns-in-Read : goal.returns-in-Read
+unfolding GoodDate IsWhen
+returns-in-Read c = (
+  zero_read _ _ (read_is c.in-Read.is c.number_at-part.ensures.0),
+  (
+    (read_within c.in-Read.is c.number_at-part.ensures.1).0,
+    (read_within c.in-Read.is
+        c.number_at-part.ensures.1).1,
+  ),
+)
+
+pub returns-in-Fault : goal.returns-in-Fault
+unfolding GoodDate
+returns-in-Fault c =
+    (zero_fault _ _ (fault_is c.in-Fault.is c.number_at-part.ensures.0), fault_within c.in-Fault.is _ c.number_at-part.ensures.1)
