@@ -69,6 +69,7 @@ module _ (f : List ℕ) (version : Version) (base : ℕ) (begun : Bool) (place l
   steps place' left' run' by moves turn rest first p (q ∷ qs) (W.step m l) =
       sym (gives_trace f (encoded_in version base) (state first p) (on_way true place' left' run' (if begun then first else q) q) (sym (turn first p q (sym m))))
       ∙ ap (point q) (rest (if begun then first else q) q qs l)
+  steps place' left' run' by moves turn rest first p [] l = elim l [ ]
 
   -- a turn that reads on
   pub reads_on : (place' left' : ℕ) (run' : Run) (moves : List RawPoint) → ((first p : Point) → turn_of false f version base (state first p) ≡ found (again (on_way begun place' left' run' first p)))
@@ -80,6 +81,7 @@ module _ (f : List ℕ) (version : Version) (base : ℕ) (begun : Bool) (place l
   pub closes_with : (place' left' : ℕ) → ((first p : Point) → turn_of false f version base (state first p) ≡ found (gives (closing (on_way begun place' left' Idle first p))))
       → Reads f version base begun place left run []
   unfolding points_then
+  closes_with place' left' turn first p (_ ∷ _) l = elim l [ ]
   closes_with place' left' turn first p [] W.stays = let end = closing (on_way begun place' left' Idle first p) in
       sym (gives_trace f (encoded_in version base) (state first p) end (sym (turn first p))) ∙ ap (point first) (sym (ends_trace f (encoded_in version base) end
       (sym (closed_ends false f version base end refl)))) ∙ ap (λ (q : Point). point q closed) (same begun) where

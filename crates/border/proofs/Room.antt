@@ -1,6 +1,6 @@
 -- How much can still be read. Each turn that gives a point or goes round again leaves less. Assumes nothing.
 use Rattle.numbers.proofs.Prelude.{ℕ, suc, ◌+◌, ◌-◌, ◌*◌, ◌≤◌, ◌<◌, min, eqb, leb, length, Bool, true, false, List, ◌≡◌, refl, le_refl, suc-mul, mul-le-mul_right, arith}
-use Rattle.numbers.{proofs.{Answers.{All, then-all, any}, Laws.{Read, Before, backward_read}, Readings.{reading_read}}, specs.Answer.{Answer, found, failed, if◌then◌else◌, ◌>>=◌}}
+use Rattle.numbers.{proofs.{Answers.{All, then_all, any}, Laws.{Read, Before, backward_read}, Readings.{reading_read}}, specs.Answer.{Answer, found, failed, if◌then◌else◌, ◌>>=◌}}
 use Rattle.numbers.specs.{Point.{point_of, signed_of}, Varint.{Numeral, reading_of, backward_at}, declared.point.RawPoint.{RawPoint}}
 use native.Mathlib.Nat.{min-le_right}
 use Rattle.border.specs.{Place.{move_by, is_still, moved_by, negated}, Reader.{Turn, Reading, gives, again, ends, onward, arrived, closing, advanced, shown_by, plain_move, plain_pair, plain_turn}}
@@ -61,13 +61,13 @@ module _ (f : List ℕ) (b : ℕ) where
   after : (strict : Bool) (place : ℕ) (next : Numeral → Answer Turn) → ((n : Numeral) → place < length f → place < n.place → All (Less f b) (next n))
       → All (Less f b) (reading_of strict f place >>= next)
   after strict place next k =
-      then-all (λ (number : Numeral). Read f place number.value number.place) (Less f b) (reading_of strict f place) next (reading_read strict f place) (λ n h. k n h.inside h.grows)
+      then_all (λ (number : Numeral). Read f place number.value number.place) (Less f b) (reading_of strict f place) next (reading_read strict f place) (λ n h. k n h.inside h.grows)
 
   before : (place : ℕ) (next : Numeral → Answer Turn) → ((n : Numeral) → place < length f → n.place < place → All (Less f b) (next n)) → All (Less f b) (backward_at f place >>= next)
-  before place next k = then-all (Before f place) (Less f b) (backward_at f place) next (backward_read f place) (λ n h. k n h.inside h.falls)
+  before place next k = then_all (Before f place) (Less f b) (backward_at f place) next (backward_read f place) (λ n h. k n h.inside h.falls)
 
   whatever : {A : Type 0} (answer : Answer A) (next : A → Answer Turn) → ((a : A) → All (Less f b) (next a)) → All (Less f b) (answer >>= next)
-  whatever {A} answer next k = then-all (λ (a : A). Unit {0}) (Less f b) answer next (any answer) (λ a h. k a)
+  whatever {A} answer next k = then_all (λ (a : A). Unit {0}) (Less f b) answer next (any answer) (λ a h. k a)
 
   advanced_less : (s : Reader) (by : RawPoint) → left f s < b → All (Less f b) (advanced s by)
   unfolding advanced

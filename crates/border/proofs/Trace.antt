@@ -2,7 +2,7 @@
 use Rattle.numbers.proofs.Prelude.{ℕ, zero, suc, ◌*◌, ◌≤◌, ◌<◌, length, List, ◌≡◌, refl, sym, ap, subst, ◌∙◌, le_refl, le_of_lt, lt_of_lt_of_le}
 use Rattle.numbers.{proofs.Answers.{All}, specs.Answer.{Answer, found, ◌>>=◌}}
 use native.Mathlib.Nat.{le_of_suc-le-suc, not-suc-le-zero, lt_trans, lt-suc_self}
-use Rattle.border.specs.{Reader.{Turn, gives, again, ends, turn_of}, Trace.{Given, reaches, ended, round_again, turns, next_within, next_point, Trace, point, closed, failed, refused, trace_then}}
+use Rattle.border.specs.{Reader.{Turn, gives, again, ends, turn_of}, Trace.{Given, reaches, ended, round_again, turns, next_within, next_point, Trace, point, closed, trace_then}}
 use Rattle.border.specs.{Trace.{trace_within, trace_of}, declared.reader.{Encoding.{Encoding}, Reader.{Reader}}}
 use Rattle.border.proofs.Room.{left, room_most, Less, turn_lowers}
 use Rattle.numbers.specs.Answer as A

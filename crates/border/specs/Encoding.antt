@@ -1,5 +1,6 @@
 -- The encoding of a file's borders: their version, the place that references count from, and whether numbers are read strictly.
-use Rattle.numbers.specs.{Answer.{if◌then◌else◌}, Prelude.{ℕ, eqb, Bool, false}}
+use Rattle.std.specs.Prelude.{if◌then◌else◌}
+use Rattle.numbers.specs.Prelude.{ℕ, eqb, Bool, false}
 use Rattle.border.specs.declared.reader.{Encoding.{Encoding}, Version.{Version, TheVariants.{Plain, Packed}}}
 
 -- a version by its number

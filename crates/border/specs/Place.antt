@@ -1,5 +1,6 @@
 -- Fixed points and the moves between them, as document 01 has them.
-use Rattle.numbers.specs.{Answer.{Answer, found, checked, ◌>>=◌}, Prelude.{eqb, ℤ, pos, negsuc, ◌+ℤ◌, neg_ℤ, Bool, false, ◌&&◌}, declared.point.RawPoint.{RawPoint}}
+use Rattle.std.specs.Prelude.{◌+ℤ◌, ◌&&◌}
+use Rattle.numbers.specs.{Answer.{Answer, found, checked, ◌>>=◌}, Prelude.{eqb, ℤ, pos, negsuc, neg_ℤ, Bool, false}, declared.point.RawPoint.{RawPoint}}
 use Rattle.border.specs.declared.place.Point.{Point}
 
 -- a point and a move by their numbers

@@ -1,6 +1,7 @@
 -- The points of a border, one turn of the reader's loop at a time: document 01, "Points, verdict, merge".
-use Rattle.numbers.specs.Prelude.{ℕ, zero, suc, ◌+◌, ◌-◌, ◌%◌, ◌^◌, eqb, ltb, leb, ℤ, pos, negsuc, ◌+ℤ◌, ◌-ℤ◌, Bool, true, List}
-use Rattle.numbers.specs.{Answer.{Answer, found, failed, checked, if◌then◌else◌, ◌>>=◌}, Point.{low32, signed_of, point_of}, Varint.{Numeral, reading_of, backward_at}, declared.point.RawPoint.{RawPoint}}
+use Rattle.std.specs.Prelude.{◌+◌, ◌-◌, ◌%◌, ◌^◌, ◌+ℤ◌, ◌-ℤ◌, if◌then◌else◌}
+use Rattle.numbers.specs.Prelude.{ℕ, zero, suc, eqb, ltb, leb, ℤ, pos, negsuc, Bool, true, List}
+use Rattle.numbers.specs.{Answer.{Answer, found, failed, checked, ◌>>=◌}, Point.{low32, signed_of, point_of}, Varint.{Numeral, reading_of, backward_at}, declared.point.RawPoint.{RawPoint}}
 use Rattle.border.specs.{Place.{move_by, is_still, moved_by, negated}, declared.{place.Point.{Point}, reader.{Reader.{Reader}, Run.{Run, TheVariants.{Idle, Forward, Backward}}}}}
 use Rattle.border.specs.declared.reader.Version.{Version, TheVariants.{Plain, Packed}}
 

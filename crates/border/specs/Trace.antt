@@ -1,5 +1,6 @@
 -- The next point of a border, and the points of a whole border with how it ends.
-use Rattle.numbers.specs.{Answer.{Answer, found, ◌>>=◌}, Prelude.{ℕ, zero, suc, ◌*◌, pos, length, false, List}}
+use Rattle.std.specs.Prelude.{◌*◌}
+use Rattle.numbers.specs.{Answer.{Answer, found, ◌>>=◌}, Prelude.{ℕ, zero, suc, pos, length, false, List}}
 use Rattle.border.specs.{Place.{point_at}, Reader.{Turn, gives, again, ends, turn_of}, declared.{place.Point.{Point}, reader.{Encoding.{Encoding}, Reader.{Reader}, Run.TheVariants.{Idle}}}}
 use Rattle.numbers.specs.Answer as A
 

@@ -1,5 +1,6 @@
 -- What stands in a file as a written border: document 01, "The writer". It says what the bytes are, not how they are read.
-use Rattle.numbers.specs.Prelude.{ℕ, ◌+◌, ◌≤◌, ◌<◌, pos, neg_ℤ, length, false, List, [], ◌∷◌, ◌++◌, ◌≡◌}
+use Rattle.std.specs.Prelude.{◌+◌, ◌≤◌, ◌<◌, ◌∷◌, ◌++◌, ◌≡◌}
+use Rattle.numbers.specs.Prelude.{ℕ, pos, neg_ℤ, length, false, List, []}
 use Rattle.numbers.specs.{Answer.{found}, Limits.{largest_file}, Point.{signed_of, point_of}, Spelling.{Whole}, declared.point.RawPoint.{RawPoint}}
 use Rattle.border.specs.{Place.{point_at, move_by, is_still, moved_by, negated}, Trace.{Trace, point, closed}, declared.{place.Point.{Point}, reader.Version.{Version}}}
 use Rattle.border.specs.declared.reader.Version.TheVariants.{Plain, Packed}

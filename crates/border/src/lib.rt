@@ -1,3 +1,5 @@
 // Borders: their points as they are read.
+#![tactic(auto)]
+
 pub mod place;
 pub mod reader;

@@ -5,13 +5,13 @@ ghost use Rattle.border.specs.{Place.{is_still, moved_by, negated}, inner.Told.{
 
 use numbers::point::RawPoint;
 
-#[derive(Drop)]
+#[derive(Clone, Copy)]
 pub struct FixedLat(pub i32);
 
-#[derive(Drop)]
+#[derive(Clone, Copy)]
 pub struct FixedLon(pub i32);
 
-#[derive(Drop)]
+#[derive(Clone, Copy)]
 pub struct Point {
     pub lat: FixedLat,
     pub lon: FixedLon,
@@ -24,7 +24,7 @@ pub fn fits_i32(wide: i64) -> bool
     -2147483648 <= wide && wide <= 2147483647
 }
 
-#[derive(Drop)]
+#[derive(Clone, Copy)]
 pub(crate) enum Moved {
     To(Point),
     Over,
@@ -48,7 +48,7 @@ pub(crate) fn move_by(p: Point, by: RawPoint) -> Moved
     })
 }
 
-#[derive(Drop)]
+#[derive(Clone, Copy)]
 pub enum Away {
     By(RawPoint),
     Over,

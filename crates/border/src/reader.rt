@@ -11,7 +11,7 @@ use numbers::refusal::OUT_OF_RANGE;
 use numbers::varint::{Number, Varint, read_backward, read_number};
 
 // How borders are written: version 0 and version 1.
-#[derive(Drop)]
+#[derive(Clone, Copy)]
 pub enum Version {
     Plain,
     Packed,
@@ -19,7 +19,7 @@ pub enum Version {
 
 // The encoding of a file's borders: their version, where the data section begins that references count from, and whether a number that
 // the file's end cuts is refused.
-#[derive(Drop)]
+#[derive(Clone, Copy)]
 pub struct Encoding {
     pub version: Version,
     pub data: u32,
@@ -27,14 +27,14 @@ pub struct Encoding {
 }
 
 // A reference that is being read: its next place and its end.
-#[derive(Drop)]
+#[derive(Clone, Copy)]
 pub enum Run {
     Idle,
     Forward { next: usize, end: usize },
     Backward { next: usize, end: usize },
 }
 
-#[derive(Drop)]
+#[derive(Clone, Copy)]
 pub struct Reader {
     pub place: usize,
     // Version 0: moves that are left; with none left, the closing pair is next.
@@ -49,7 +49,7 @@ pub struct Reader {
 }
 
 // One turn of the reader's loop. The point that is given is the state's own.
-#[derive(Drop)]
+#[derive(Clone, Copy)]
 enum Turn {
     Gives(Reader),
     Again(Reader),
@@ -201,7 +201,7 @@ fn plain_turn(file: &[u8], strict: bool, reader: Reader) -> Turn
 }
 
 // A reference, or that its end leaves the i64.
-#[derive(Drop)]
+#[derive(Clone, Copy)]
 enum Opened {
     Run(Run),
     Over,
@@ -416,7 +416,7 @@ fn turn_once(file: &[u8], encoding: Encoding, reader: Reader) -> Turn
 }
 
 // The next point of a border, which is the state's own.
-#[derive(Drop)]
+#[derive(Clone, Copy)]
 pub enum Next {
     Point(Reader),
     Ended,
@@ -471,7 +471,7 @@ pub fn open_border(place: usize) -> Reader
 }
 
 // What the thin form answers.
-#[derive(Drop)]
+#[derive(Clone, Copy)]
 pub enum Reply {
     Point(Point),
     Ended,
@@ -480,7 +480,7 @@ pub enum Reply {
 }
 
 // A reply beside the state after it.
-#[derive(Drop)]
+#[derive(Clone, Copy)]
 struct Stepped {
     reader: Reader,
     reply: Reply,

@@ -1,5 +1,6 @@
 -- What the cases of the reader's answers say, and what the thin form answers and leaves.
-use Rattle.numbers.specs.{Answer.{Answer, found, failed, refused, if◌then◌else◌, ◌>>=◌}, Prelude.{eqb}, Varint.{Numeral}, declared.{point.RawPoint.{RawPoint}, varint.Varint.{Varint}}}
+use Rattle.std.specs.Prelude.{if◌then◌else◌}
+use Rattle.numbers.specs.{Answer.{Answer, found, failed, refused, ◌>>=◌}, Prelude.{eqb}, Varint.{Numeral}, declared.{point.RawPoint.{RawPoint}, varint.Varint.{Varint}}}
 use Rattle.border.specs.{Reader.{Turn, gives, again, ends, Reading}, Trace.{Given, reaches, ended, round_again}, declared.place.{Away.{Away, TheVariants.{By}}, Moved.{Moved}}}
 use Rattle.border.specs.declared.{place.{Moved.TheVariants.{To}, Point.{Point}}, reader.{Next.{Next}, Opened.{Opened}, Reader.{Reader}, Run.{Run}, Stepped.{Stepped}}}
 use Rattle.numbers.specs.Varint as varint
