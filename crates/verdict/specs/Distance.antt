@@ -1,6 +1,6 @@
 -- The squared distance of a location from an edge. The longitude counts twice: it has half the scale.
-use Rattle.numbers.specs.{Answer.{if◌then◌else◌}, Float.{cut64, ◌⊟◌}, Prelude.{ℕ, ◌+◌, ◌*◌, ◌%◌, ◌^◌, min, ℤ, ◌-ℤ◌, nat_abs, Bool}}
-use Rattle.std.specs.Prelude.{◌*ℤ◌}
+use Rattle.numbers.specs.{Float.{cut64, ◌⊟◌}, Prelude.{ℕ, min, ℤ, nat_abs, Bool}}
+use Rattle.std.specs.Prelude.{◌*ℤ◌, if◌then◌else◌, ◌+◌, ◌*◌, ◌%◌, ◌^◌, ◌-ℤ◌}
 use Rattle.verdict.specs.{Edge.{in_box, spot_of, edge_of, closest_on, cut_of}, Step.{Step, found, refused, ◌>>=◌, checked}, declared.distance.Distance.{Distance, TheVariants.{Is, Over}}}
 use Rattle.verdict.specs.declared.{edge.Spot.{Spot}, step.Tally.{Tally}}
 use Rattle.border.specs.declared.place.Point.{Point}

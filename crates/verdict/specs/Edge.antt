@@ -1,5 +1,6 @@
 -- Edges of a border in f32, each operation rounded once, in the Rust's order; boxes; quadrants.
-use Rattle.numbers.specs.{Answer.{if◌then◌else◌}, Float.{to_f32, cut32, ◌⊞◌, ◌⊟◌, ◌⊠◌, ◌⊘◌}, Prelude.{ℕ, Float, fin, ℤ, pos, le_z, Bool, false, ◌&&◌, ◌||◌}}
+use Rattle.std.specs.Prelude.{if◌then◌else◌, ◌&&◌, ◌||◌}
+use Rattle.numbers.specs.{Float.{to_f32, cut32, ◌⊞◌, ◌⊟◌, ◌⊠◌, ◌⊘◌}, Prelude.{ℕ, Float, fin, ℤ, pos, le_z, Bool, false}}
 use Rattle.border.specs.{Place.{point_at}, declared.place.Point.{Point}}
 use Rattle.verdict.specs.declared.edge.{Edge.{Edge, TheVariants.{Sloped, EqualLongitude, EqualLatitude}}, Slope.{Slope}, Spot.{Spot}}
 

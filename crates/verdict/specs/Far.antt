@@ -1,5 +1,6 @@
 -- Boxes so far from a location that no edge in them comes nearer than the least squared distance.
-use Rattle.numbers.specs.{Answer.{if◌then◌else◌}, Prelude.{ℕ, ◌+◌, ◌-◌, ◌*◌, ltb, leb, ℤ, pos, negsuc, ◌+ℤ◌, nat_abs, lt_z, Bool, ◌&&◌}}
+use Rattle.std.specs.Prelude.{if◌then◌else◌, ◌+◌, ◌-◌, ◌*◌, ◌+ℤ◌, ◌&&◌}
+use Rattle.numbers.specs.Prelude.{ℕ, ltb, leb, ℤ, pos, negsuc, nat_abs, lt_z, Bool}
 use Rattle.border.specs.declared.place.Point.{Point}
 
 -- less than 2 ^ 22 in size, where a whole number and the floats about it are told apart

@@ -1,5 +1,6 @@
 -- What a step along a border comes to.
-use Rattle.numbers.specs.{Answer.{in_range, if◌then◌else◌}, Prelude.{ℕ, ℤ}}
+use Rattle.std.specs.Prelude.{if◌then◌else◌}
+use Rattle.numbers.specs.{Answer.{in_range}, Prelude.{ℕ, ℤ}}
 use Rattle.verdict.specs.declared.step.{Passed.{Passed, TheVariants.{On, Meets, Over}}, Tally.{Tally}, Verdict.{Verdict}}
 
 -- it goes on with what was found, or meets the location on the border, or is refused by a number

@@ -1,5 +1,6 @@
 -- A stretch of a border, for what is judged by its box or over so many edges.
-use Rattle.numbers.specs.Prelude.{ℕ, zero, suc, ◌+◌, ◌-◌, ◌%◌, Bool, true, ◌≡◌}
+use Rattle.std.specs.Prelude.{◌+◌, ◌-◌, ◌%◌, ◌≡◌}
+use Rattle.numbers.specs.Prelude.{ℕ, zero, suc, Bool, true}
 use Rattle.border.specs.{Box.{Box, holds}, Trace.{Trace, point, closed, failed, refused}, declared.place.Point.{Point}}
 use Rattle.verdict.specs.{Edge.{quadrant_of}, Step.{Step, found, ◌>>=◌}, Verdict.{Last, after, passing}, Winding.{quarter_by}, declared.step.Tally.{Tally}}
 

@@ -1,5 +1,6 @@
 -- A border's verdict on a location: a judge over the trace of its points, which may answer before the trace ends.
-use Rattle.numbers.specs.{Answer.{if◌then◌else◌}, Prelude.{ℕ, pos, negsuc, Bool, List}}
+use Rattle.std.specs.Prelude.{if◌then◌else◌}
+use Rattle.numbers.specs.Prelude.{ℕ, pos, negsuc, Bool, List}
 use Rattle.border.specs.{Trace.{Trace, point, closed, trace_of, border_at}, declared.{place.{FixedLat.{FixedLat}, FixedLon.{FixedLon}, Point.{Point}}, reader.Encoding.{Encoding}}}
 use Rattle.verdict.specs.{Distance.{measured}, Edge.{same_z, same_point}, Step.{Step, found, meets, ◌>>=◌}, Winding.{wound_by}, declared.{judge.Judged.{Judged}, step.Tally.{Tally}}}
 use Rattle.verdict.specs.declared.step.Verdict.{Verdict, TheVariants.{NotInZone, InZone, InExcludedZone, OnBorderVertex, OnBorderSegment}}

@@ -11,7 +11,7 @@ use crate::step::{Passed, Tally};
 use border::place::{Point, fits_i32};
 use numbers::float::cut::to_i64;
 
-#[derive(Drop)]
+#[derive(Clone, Copy)]
 pub enum Distance {
     Is(u64),
     Over,

@@ -8,21 +8,21 @@ use numbers::float::cut::to_i32;
 use numbers::float::nearest::of_i32;
 
 // A point of the grid in f32.
-#[derive(Drop)]
+#[derive(Clone, Copy)]
 pub struct Spot {
     pub lat: f32,
     pub lon: f32,
 }
 
 // latitude = a * longitude + b
-#[derive(Drop)]
+#[derive(Clone, Copy)]
 pub struct Slope {
     pub a: f32,
     pub b: f32,
 }
 
 // An edge is sloped, with its line, or all of it has one longitude or one latitude.
-#[derive(Drop)]
+#[derive(Clone, Copy)]
 pub enum Edge {
     Sloped(Slope),
     EqualLongitude(FixedLon),
@@ -30,7 +30,7 @@ pub enum Edge {
 }
 
 // A point with what is kept of it for the next edge: its quadrant, and its floats if the distance is asked for.
-#[derive(Drop)]
+#[derive(Clone, Copy)]
 pub struct Seen {
     pub point: Point,
     pub quadrant: u8,

@@ -28,7 +28,7 @@ fn lifted(x: i32) -> u64
 }
 
 // A point's coordinates, so counted.
-#[derive(Drop)]
+#[derive(Clone, Copy)]
 pub(crate) struct Place {
     pub lat: u64,
     pub lon: u64,

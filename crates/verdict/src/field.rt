@@ -7,14 +7,14 @@ ghost use Rattle.verdict.specs.inner.Gliding.{in_span, beside, aside, within, He
 use border::place::Point;
 
 // The numbers between two others.
-#[derive(Drop)]
+#[derive(Clone, Copy)]
 pub(crate) struct Span {
     pub low: i32,
     pub high: i32,
 }
 
 // The points whose latitude and longitude lie in two spans.
-#[derive(Drop)]
+#[derive(Clone, Copy)]
 pub(crate) struct Field {
     pub lat: Span,
     pub lon: Span,
@@ -62,7 +62,7 @@ pub(crate) fn field_of(fix: Point, p: Point) -> Field
 }
 
 // A field in which nothing changes, or none.
-#[derive(Drop)]
+#[derive(Clone, Copy)]
 pub(crate) enum Open {
     About(Field),
     Shut,

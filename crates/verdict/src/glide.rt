@@ -12,7 +12,7 @@ use numbers::point::{RawPoint, decode_point, signed};
 use numbers::varint::{Varint, read_backward, read_number, read_short};
 
 // A point whose coordinates are held wide, each by itself: a point that is one word is taken apart and put together at every move.
-#[derive(Drop)]
+#[derive(Clone, Copy)]
 pub(crate) struct Wide {
     pub lat: i64,
     pub lon: i64,
@@ -38,7 +38,7 @@ fn narrow(w: Wide) -> Point
 }
 
 // Where a move leads inside the field.
-#[derive(Drop)]
+#[derive(Clone, Copy)]
 pub(crate) enum Led {
     To(Wide),
     Out,
@@ -60,7 +60,7 @@ fn lead(field: Field, p: Wide, by: RawPoint) -> Led
 }
 
 // A place of the border, and the point there.
-#[derive(Drop)]
+#[derive(Clone, Copy)]
 pub(crate) struct Glided {
     pub place: usize,
     pub point: Point,
@@ -148,7 +148,7 @@ fn glide_back(file: &[u8], field: Field, start: usize, end: usize, from: Point) 
 }
 
 // A place of the border, the moves that are left, and the point there.
-#[derive(Drop)]
+#[derive(Clone, Copy)]
 pub(crate) struct Counted {
     pub place: usize,
     pub moves: u64,

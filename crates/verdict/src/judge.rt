@@ -19,7 +19,7 @@ use border::reader::{Encoding, Next, Reader, next_point, open_border};
 use numbers::refusal::OUT_OF_RANGE;
 
 // A failed border's distances count too.
-#[derive(Drop)]
+#[derive(Clone, Copy)]
 pub enum Judged {
     Answered { verdict: Verdict, least: u64 },
     Failed { least: u64 },
@@ -132,7 +132,7 @@ pub fn stopped(passed: Passed, asked: bool, least: u64) -> Judged
 }
 
 // How a walk along a border ends: there is no further point, or a step does not go on, or it has passed as many edges as it was to.
-#[derive(Drop)]
+#[derive(Clone, Copy)]
 pub(crate) enum Walk {
     Ended { next: Next, tally: Tally },
     Stopped { passed: Passed, least: u64 },

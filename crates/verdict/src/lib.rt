@@ -1,4 +1,6 @@
 // What a border says of a location.
+#![tactic(auto)]
+
 pub mod afar;
 pub mod distance;
 pub mod edge;

@@ -1,6 +1,6 @@
 // What a walk along a border carries, and how a step of it ends.
 
-#[derive(Drop)]
+#[derive(Clone, Copy)]
 pub enum Verdict {
     NotInZone,
     InZone,
@@ -10,14 +10,14 @@ pub enum Verdict {
 }
 
 // The winding and the least squared distance so far.
-#[derive(Drop)]
+#[derive(Clone, Copy)]
 pub struct Tally {
     pub winding: i32,
     pub least: u64,
 }
 
 // A step along the border: on, or the location is on the border, or a number passes its range.
-#[derive(Drop)]
+#[derive(Clone, Copy)]
 pub enum Passed {
     On(Tally),
     Meets(Verdict),

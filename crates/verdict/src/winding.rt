@@ -9,7 +9,7 @@ use border::place::{FixedLon, Point, fits_i32};
 use numbers::float::cut::to_i32;
 
 // Where an edge crosses two quadrants: the turn, or the location is on the edge, or a bound passes an i32.
-#[derive(Drop)]
+#[derive(Clone, Copy)]
 pub enum Crossing {
     Turns(i32),
     OnSegment,

@@ -1,5 +1,6 @@
 -- Fields so far from a location that no edge in them comes nearer than the least distance. No promise of a public function speaks of it.
-use Rattle.numbers.specs.Prelude.{ℕ, ◌+◌, ◌*◌, ◌≤◌, ℤ, pos, ◌+ℤ◌, ◌-ℤ◌, mag, true, ◌⊎◌, ◌≡◌}
+use Rattle.std.specs.Prelude.{◌+◌, ◌*◌, ◌≤◌, ◌+ℤ◌, ◌-ℤ◌, ◌⊎◌, ◌≡◌}
+use Rattle.numbers.specs.Prelude.{ℕ, ℤ, pos, mag, true}
 use Rattle.border.specs.{Box.{Box}, declared.place.Point.{Point}}
 use Rattle.verdict.specs.{declared.field.{Field.{Field}, Span.{Span}}, inner.Gliding.{nearby, far_from}}
 

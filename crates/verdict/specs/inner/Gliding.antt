@@ -1,5 +1,6 @@
 -- Points of a border that change nothing about a location. No promise of a public function speaks of it.
-use Rattle.numbers.specs.Prelude.{ℕ, suc, ◌+◌, ◌*◌, ◌≤◌, ℤ, pos, negsuc, ◌+ℤ◌, ◌-ℤ◌, mag, lt_z, le_z, Bool, true, false, ◌&&◌, ◌||◌, List, ◌≡◌, w32, FitsSigned}
+use Rattle.numbers.specs.Prelude.{ℕ, suc, ℤ, pos, negsuc, mag, lt_z, le_z, Bool, true, false, List, w32}
+use Rattle.std.specs.Prelude.{FitsSigned, ◌+◌, ◌*◌, ◌≤◌, ◌+ℤ◌, ◌-ℤ◌, ◌&&◌, ◌||◌, ◌≡◌}
 use Rattle.numbers.specs.{Answer.{found}, declared.point.RawPoint.{RawPoint}}
 use Rattle.border.specs.{Encoding.{encoded_by}, Place.{point_at, moved_by}, Trace.{Trace, point, trace_of}, declared.{place.Point.{Point}, reader.{Encoding.{Encoding}, Reader.{Reader}, Run.{Run}}}}
 use Rattle.border.specs.declared.reader.{Run.TheVariants.{Idle, Backward}, Version.TheVariants.{Plain, Packed}}

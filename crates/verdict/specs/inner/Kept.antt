@@ -1,5 +1,6 @@
 -- What inner functions of the verdict keep from edge to edge and say to each other. No promise of a public function speaks of it.
-use Rattle.numbers.specs.{Answer.{if◌then◌else◌}, Prelude.{Bool, ◌≡◌}}
+use Rattle.std.specs.Prelude.{if◌then◌else◌, ◌≡◌}
+use Rattle.numbers.specs.Prelude.{Bool}
 use Rattle.verdict.specs.{Edge.{quadrant_of, spot_of}, Verdict.{Judgement, failed, refused, Last, none, after, closed_at}, declared.{edge.{Seen.{Seen}, Spot.{Spot}}, step.Tally.{Tally}}}
 use Rattle.border.specs.declared.{place.Point.{Point}, reader.Next.{Next}}
 use Rattle.border.specs.declared.reader.Next.TheVariants as N

@@ -1,5 +1,6 @@
 -- What a walk along a border comes to. No promise of a public function speaks of it.
-use Rattle.numbers.specs.Prelude.{ℕ, Bool, true, false, List, ◌≡◌}
+use Rattle.std.specs.Prelude.{◌≡◌}
+use Rattle.numbers.specs.Prelude.{ℕ, Bool, true, false, List}
 use Rattle.border.specs.{Trace.{trace_of}, declared.{place.Point.{Point}, reader.{Encoding.{Encoding}, Reader.{Reader}}}}
 use Rattle.verdict.specs.{Step.{Step, found, told}, Stretch.{passing_first}, Verdict.{Judgement, refused, none, after, closed_at, then_on, judge}, declared.field.Open.{Open, TheVariants.{About}}}
 use Rattle.verdict.specs.{declared.{field.Open.TheVariants.{Shut}, judge.Walk.{Walk, TheVariants.{Ended, Stopped, Enough}}, step.Tally.{Tally}}, inner.{Gliding.{Opens}, Kept.{ended_at}}}

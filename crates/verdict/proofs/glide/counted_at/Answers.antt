@@ -1,0 +1,6 @@
+-- `verdict::glide::counted_at` meets its contract.
+use Rattle.verdict.proofs.glide.counted_at.Goals as goal
+
+pub returns : goal.returns
+returns c =
+    rw c.narrow.ensures

@@ -1,0 +1,71 @@
+-- `verdict::glide::glide_back` meets its contract. The loop's invariant is the contract itself, of points that are held wide; the measure is the place, which falls.
+use Rattle.numbers.proofs.Prelude.{ℕ, List, ◌≡◌, sym, subst}
+use Rattle.border.specs.declared.place.Point.{Point}
+use Rattle.verdict.proofs.{Gliding.{back_stays, back_on, less_below}}
+use Rattle.verdict.specs.{declared.{field.Field.{Field}, glide.Glided.{Glided}}, inner.Gliding.{GlidesBack}}
+use Rattle.verdict.proofs.glide.glide_back.Goals as goal
+
+-- what is returned where the loop is left
+left : {file : List ℕ} {field : Field} {end start place : ℕ} {from begun p : Point} {r : Glided}
+    → begun ≡ from → GlidesBack file field end start begun place p → r ≡ record { place = place; point = p } → GlidesBack file field end start from r.place r.point
+left {file} {field} {end} {start} {place} {from} {begun} {p} e h k =
+    subst (λ (g : Glided). GlidesBack file field end start from g.place g.point) (sym k) (subst (λ (q : Point). GlidesBack file field end start q place p) e h)
+
+pub loop-number-init : goal.loop-number-init
+loop-number-init c =
+    (back_stays _ _ _ _ _, c.widen-point.ensures.1)
+
+pub glided_at-requires : goal.glided_at-requires
+glided_at-requires c =
+    c.loop-number.invariant.1
+
+pub returns-in_default : goal.returns-in_default
+returns-in_default c =
+    left c.widen-point.ensures.0 c.loop-number.invariant.0 c.glided_at.ensures
+
+pub glided_at-requires-then-number-eq0 : goal.glided_at-requires-then-number-eq0
+glided_at-requires-then-number-eq0 c =
+    c.loop-number.invariant.1
+
+pub returns-then-number-eq0 : goal.returns-then-number-eq0
+returns-then-number-eq0 c =
+    left c.widen-point.ensures.0 c.loop-number.invariant.0 c.glided_at-then-number-eq0.ensures
+
+pub glided_at-requires-then-number-end : goal.glided_at-requires-then-number-end
+glided_at-requires-then-number-end c =
+    c.loop-number.invariant.1
+
+pub returns-then-number-end : goal.returns-then-number-end
+returns-then-number-end c =
+    left c.widen-point.ensures.0 c.loop-number.invariant.0 c.glided_at-then-number-end.ensures
+
+pub glided_at-requires-in_default-negate : goal.glided_at-requires-in_default-negate
+glided_at-requires-in_default-negate c =
+    c.loop-number.invariant.1
+
+pub returns-in_default-negate : goal.returns-in_default-negate
+returns-in_default-negate c =
+    left c.widen-point.ensures.0 c.loop-number.invariant.0 c.glided_at-in_default-negate.ensures
+
+pub lead-requires : goal.lead-requires
+lead-requires c =
+    c.loop-number.invariant.1
+
+pub glided_at-requires-in_default-lead : goal.glided_at-requires-in_default-lead
+glided_at-requires-in_default-lead c =
+    c.loop-number.invariant.1
+
+pub returns-in_default-lead : goal.returns-in_default-lead
+returns-in_default-lead c =
+    left c.widen-point.ensures.0 c.loop-number.invariant.0 c.glided_at-in_default-lead.ensures
+
+pub loop-number-smaller : goal.loop-number-smaller
+loop-number-smaller c =
+    less_below c.args.file.now c.args.field c.args.end c.loop-number.place (rw c.in-Number.is at c.read_backward-n.ensures)
+
+pub loop-number-preserved : goal.loop-number-preserved
+loop-number-preserved c =
+    let led = rw c.in-To.is at c.lead.ensures in
+    let number = rw c.in-Number.is at c.read_backward-n.ensures in
+    let negated = rw (c.in-By.is, c.decode_point.ensures) at c.negate.ensures in
+    (back_on c.args.file.now c.args.field c.args.end c.loop-number.invariant.0 number c.if-number-eq0.false c.if-number-end.false negated led.0 led.1, led.2)

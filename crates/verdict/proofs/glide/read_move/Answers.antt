@@ -1,0 +1,7 @@
+-- `verdict::glide::read_move` meets its contract.
+use Rattle.numbers.{proofs.{Prelude.{sym, ap, ◌∙◌}, varint.Short.{short_is_number}}, specs.Varint.{told}}
+use Rattle.verdict.proofs.glide.read_move.Goals as goal
+
+pub returns : goal.returns
+returns c =
+    short_is_number c.args.file.now c.args.place c.args.strict (sym (ap told c.in-Number.is) ∙ c.read_short-n.ensures)

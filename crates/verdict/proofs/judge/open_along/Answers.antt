@@ -1,0 +1,13 @@
+-- `verdict::judge::open_along` meets its contract: without a limit the field is the one that was opened.
+use Rattle.numbers.proofs.Prelude.{Bool, false, ◌≡◌}
+use Rattle.border.specs.declared.place.Point.{Point}
+use Rattle.verdict.specs.{declared.{field.Open.{Open, TheVariants.{About, Shut}}, step.Tally.{Tally}}, inner.{Gliding.{Opens}, Walk.{OpensUnless}}}
+use Rattle.verdict.proofs.judge.open_along.Goals as goal
+
+opens : (limited : Bool) (fix : Point) (asked : Bool) (t : Tally) (p : Point) (o : Open) → limited ≡ false → Opens fix asked t p o → OpensUnless limited fix asked t p o
+opens limited fix asked t p (About field) e h = (e, h)
+opens limited fix asked t p Shut e h = tt
+
+pub returns : goal.returns
+returns c =
+    opens c.args.limited c.args.fix c.args.asked c.args.tally c.args.p c.open_field.result c.if-limited.false c.open_field.ensures
