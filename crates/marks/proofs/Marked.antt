@@ -2,7 +2,7 @@
 use Rattle.numbers.proofs.Prelude.{ℕ, zero, suc, ◌+◌, ◌-◌, ◌*◌, ◌≤◌, ◌<◌, min, ltb-true, ltb-false, ltb, length, length-append, Bool, true, false, List, ◌≡◌, refl, sym, ap, subst, ◌∙◌, zero-mul}
 use Rattle.numbers.proofs.Prelude.{suc-mul, arith}
 use Rattle.border.specs.{Box.{Box, grown}, declared.{place.Point.{Point}, reader.{Encoding.{Encoding}, Reader.{Reader}}}}
-use Rattle.verdict.specs.{Step.{Step}, Verdict.{after}, declared.step.Tally.{Tally}}
+use Rattle.verdict.specs.{Step.{Step}, declared.step.Tally.{Tally}}
 use Rattle.marks.specs.Judging.{stretch_by, end_in, points_by, stretches_by, groups_by}
 use Rattle.marks.specs.{Marks.{next_or, span_over, span_from, mark_of, marks_from, is_narrow, stretch_edges, group_wide, group_edges, groups_of}, Words.{mark_wide}}
 use Rattle.marks.proofs.{Groups.{last_over, last_none, last_both, last_round, last_ended, marks_both}, Parts.{Judges, judges_none, judges_both, judges_ended}}

@@ -1,7 +1,7 @@
 -- A border that is judged by its marks is judged as by all its points, at every location, with the distance too. Assumes nothing.
 use Rattle.numbers.proofs.Prelude.{ℕ, zero, suc, ◌+◌, ◌-◌, ◌*◌, ◌/◌, ◌≤◌, ◌<◌, lt-ltb, le-leb, ltb-true, ltb, pos, length, length-append, Bool, true, false, List, [], ◌∷◌, ◌++◌, ◌≡◌, refl, sym, ap}
 use Rattle.numbers.{proofs.{Prelude.{subst, ◌∙◌, arith}, Tests.{differ}}, specs.Answer.{Answer, found, if◌then◌else◌}}
-use Rattle.border.{proofs.Trace.{point_trace}, specs.{Trace.{Given, point, reaches, ended, next_point, trace_of, border_at}, declared.place.{FixedLat.{FixedLat}, FixedLon.{FixedLon}, Point.{Point}}}}
+use Rattle.border.{proofs.Trace.{point_trace}, specs.{Trace.{Given, reaches, ended, next_point, trace_of, border_at}, declared.place.{FixedLat.{FixedLat}, FixedLon.{FixedLon}, Point.{Point}}}}
 use Rattle.border.specs.declared.reader.{Encoding.{Encoding}, Reader.{Reader}}
 use Rattle.verdict.{proofs.NearerStart.{Below, nearer_start}, specs.{Edge.{same_point}, Step.{Step, meets, ◌>>=◌}, Verdict.{Judgement, none, after, along, passing, closed_at, then_on, judge, judged_at}}}
 use Rattle.verdict.specs.declared.step.{Tally.{Tally}, Verdict.TheVariants.{OnBorderVertex}}

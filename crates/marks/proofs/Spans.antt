@@ -1,6 +1,6 @@
 -- The stretch from a state on: its box holds its points, and behind it the border goes on round. Assumes nothing.
 use Rattle.numbers.{proofs.Prelude.{ℕ, zero, suc, ◌-◌, true, List, ◌≡◌, sym, subst, arith}, specs.Answer.{found}}
-use Rattle.border.{proofs.Trace.{trace_step, point_trace}, specs.{Box.{Box, grown, holds}, Trace.{Trace, point, closed, ended, next_point, trace_then, trace_of}, declared.place.Point.{Point}}}
+use Rattle.border.{proofs.Trace.{trace_step, point_trace}, specs.{Box.{Box, grown, holds}, Trace.{Trace, closed, ended, next_point, trace_then, trace_of}, declared.place.Point.{Point}}}
 use Rattle.border.specs.declared.reader.{Encoding.{Encoding}, Reader.{Reader}}
 use Rattle.verdict.specs.Stretch.{Stretch, stays, leads}
 use Rattle.marks.specs.Marks.{next_or, Span, span_over}

@@ -1,6 +1,7 @@
 -- A border's verdict by its marks: of a stretch, or a group of stretches, whose box does not hold the location and, with the distance, is far from it, only its one edge is judged,
 -- and its points are not read.
-use Rattle.numbers.specs.{Answer.{if◌then◌else◌}, Prelude.{ℕ, zero, suc, ◌+◌, ◌-◌, ◌*◌, ◌/◌, min, ltb, leb, pos, length, Bool, true, false, ◌&&◌, not, List}}
+use Rattle.std.specs.Prelude.{if◌then◌else◌, ◌+◌, ◌-◌, ◌*◌, ◌/◌, ◌&&◌}
+use Rattle.numbers.specs.Prelude.{ℕ, zero, suc, min, ltb, leb, pos, length, Bool, true, false, not, List}
 use Rattle.border.specs.{Trace.{trace_of}, declared.{place.{FixedLat.{FixedLat}, FixedLon.{FixedLon}, Point.{Point}}, reader.Encoding.{Encoding}}}
 use Rattle.verdict.specs.{Distance.{to_vertex}, Edge.{in_box}, Far.{is_afar}, Step.{Step, found, meets, ◌>>=◌}, Stretch.{leapt, passing_first}}
 use Rattle.verdict.specs.{Verdict.{Judgement, reached, failed, refused, none, after, passing, closed_at, then_on}, declared.step.Tally.{Tally}}

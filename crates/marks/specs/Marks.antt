@@ -1,6 +1,7 @@
 -- Marks along a border, as document 04 has them: for each 128 edges the box of the stretch's points, its first point, and what a reader needs to go on from there; behind them the same for each
 -- sixteen of these stretches.
-use Rattle.numbers.specs.{Answer.{Answer, found, if◌then◌else◌}, Prelude.{ℕ, zero, suc, ◌+◌, ◌/◌, ◌%◌, ◌^◌, ltb, ℤ, mag, Bool, true, ◌&&◌, not, List, [], ◌∷◌, ◌++◌, w32, of_z}}
+use Rattle.std.specs.Prelude.{if◌then◌else◌, ◌+◌, ◌/◌, ◌%◌, ◌^◌, ◌&&◌, ◌∷◌, ◌++◌}
+use Rattle.numbers.specs.{Answer.{Answer, found}, Prelude.{ℕ, zero, suc, ltb, ℤ, mag, Bool, true, not, List, [], w32, of_z}}
 use Rattle.border.specs.{Box.{Box, grown}, Trace.{Given, reaches, ended, next_point, border_at}, declared.{place.Point.{Point}, reader.{Encoding.{Encoding}, Reader.{Reader}, Run.{Run}}}}
 use Rattle.border.specs.declared.reader.Run.TheVariants.{Idle, Forward, Backward}
 use Rattle.verdict.specs.Edge.{same_point}

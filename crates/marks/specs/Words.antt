@@ -1,5 +1,6 @@
 -- A mark, read from words.
-use Rattle.numbers.specs.{Answer.{if◌then◌else◌}, Point.{read_i32}, Prelude.{ℕ, ◌+◌, eqb, get_or, true, false, List}}
+use Rattle.std.specs.Prelude.{if◌then◌else◌, ◌+◌}
+use Rattle.numbers.specs.{Point.{read_i32}, Prelude.{ℕ, eqb, get_or, true, false, List}}
 use Rattle.border.specs.{Place.{point_at}, declared.{place.Point.{Point}, reader.{Reader.{Reader}, Run.{Run, TheVariants.{Idle, Forward, Backward}}}}}
 
 -- a word, 0 behind the last

@@ -1,0 +1,19 @@
+-- `marks::judge::can_pass` meets its contract, by its tests.
+use Rattle.numbers.proofs.Prelude.{sym, ◌∙◌}
+use Rattle.marks.specs.Judging.{can_pass}
+use Rattle.marks.proofs.judge.can_pass.Goals as goal
+
+pub returns-then-in_box : goal.returns-then-in_box
+unfolding can_pass
+returns-then-in_box c =
+    rw (sym c.in_box.ensures ∙ c.if-in_box.true)
+
+pub returns-then-asked : goal.returns-then-asked
+unfolding can_pass
+returns-then-asked c =
+    rw (sym c.in_box.ensures ∙ c.if-in_box.false, c.if-asked.true) c.is_afar.ensures
+
+pub returns : goal.returns
+unfolding can_pass
+returns c =
+    rw (sym c.in_box.ensures ∙ c.if-in_box.false, c.if-asked.false)

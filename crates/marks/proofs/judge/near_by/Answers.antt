@@ -1,0 +1,28 @@
+-- `marks::judge::near_by` meets its contract, by the tests that led to each answer.
+use Rattle.numbers.proofs.Prelude.{ℕ, ◌+◌, rules, sym, ap, ◌∙◌, arith}
+use Rattle.marks.proofs.judge.{Turns.{nearest_done}}
+use Rattle.marks.specs.Judging.{count_in, nearest_of}
+use Rattle.marks.proofs.judge.near_by.Goals as goal
+
+pub returns-then-not-asked : goal.returns-then-not-asked
+returns-then-not-asked c =
+    rw c.if-not-asked.true
+
+pub returns-then-count-eq0 : goal.returns-then-count-eq0
+returns-then-count-eq0 c =
+    rw c.if-not-asked.false (nearest_done c.args.words.now c.args.fix (count_in c.args.words.now c.args.at) (c.args.at + 1) c.args.least (sym
+    c.count_at-count.ensures.0 ∙ c.if-count-eq0.true))
+
+pub overflow_add-at : goal.overflow_add-at
+overflow_add-at c =
+    let bound = c.count_at-count.ensures.1 (omega (arith, c.if-count-eq0.false)) in
+    search rules
+
+pub nearest-requires : goal.nearest-requires
+nearest-requires c =
+    let bound = c.count_at-count.ensures.1 (omega (arith, c.if-count-eq0.false)) in
+    omega (arith, bound)
+
+pub returns : goal.returns
+returns c =
+    rw c.if-not-asked.false (c.nearest.ensures ∙ ap (λ (n : ℕ). nearest_of c.args.words.now c.args.fix n (c.args.at + 1) c.args.least) c.count_at-count.ensures.0)
