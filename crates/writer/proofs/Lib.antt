@@ -10,7 +10,6 @@ pub mod Accepting
 pub mod Faults
 pub mod Replying
 pub mod Packing
-pub mod Records
 pub mod Inverse
 pub mod Standing
 pub mod WrittenTrace

@@ -1,5 +1,6 @@
 -- How a border's moves are written: document 01, "Moves as in the reader, shortest varints, odd only for negatives".
-use Rattle.numbers.specs.{Prelude.{ℕ, eqb, ℤ, pos, ◌-ℤ◌, neg_ℤ, Bool, ◌&&◌, not, List, ◌∷◌, ◌++◌, zip_with}, Spelling.{varint_of, signed_form, interleaved}, declared.point.RawPoint.{RawPoint}}
+use Rattle.std.specs.Prelude.{◌-ℤ◌, ◌&&◌, ◌∷◌, ◌++◌}
+use Rattle.numbers.specs.{Prelude.{ℕ, eqb, ℤ, pos, neg_ℤ, Bool, not, List, zip_with}, Spelling.{varint_of, signed_form, interleaved}, declared.point.RawPoint.{RawPoint}}
 use Rattle.border.specs.{Place.{point_at, move_by, is_still}, declared.place.Point.{Point}}
 
 -- a move in version 0, two numbers

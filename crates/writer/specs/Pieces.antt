@@ -1,7 +1,7 @@
 -- Pieces: runs of the earlier data that stand for moves of a version 1 border.
-use Rattle.numbers.specs.Prelude.{ℕ, zero, suc, ◌+◌, ◌-◌, ◌*◌, ◌/◌, eqb, ltb, leb, length, take, drop, get_or, Bool, false, ◌&&◌, ◌||◌, not, List, [], ◌∷◌, ◌++◌, map, flat_map}
-use Rattle.numbers.specs.{Answer.{Answer, found, failed, refused, if◌then◌else◌}, Point.{point_of}, Spelling.{varint_of}, Varint.{Numeral, is_last, forward_at}, declared.point.RawPoint.{RawPoint}}
-use Rattle.std.specs.Prelude.{reverse}
+use Rattle.numbers.specs.Prelude.{ℕ, zero, suc, eqb, ltb, leb, length, take, drop, get_or, Bool, false, not, List, [], map, flat_map}
+use Rattle.numbers.specs.{Answer.{Answer, found, failed, refused}, Point.{point_of}, Spelling.{varint_of}, Varint.{Numeral, is_last, forward_at}, declared.point.RawPoint.{RawPoint}}
+use Rattle.std.specs.Prelude.{reverse, ◌+◌, ◌-◌, ◌*◌, ◌/◌, ◌&&◌, ◌||◌, ◌∷◌, ◌++◌, if◌then◌else◌}
 use Rattle.std.proofs.Math.Seq.{slice}
 use Rattle.writer.specs.{Moves.{packed_move_bytes, turned_back, same_move}, declared.write.Piece.{Piece}}
 

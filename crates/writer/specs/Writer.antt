@@ -1,5 +1,6 @@
 -- What the writer writes, and when it refuses: document 01, "The writer".
-use Rattle.numbers.specs.{Answer.{if◌then◌else◌}, Limits.{largest_file}, Lists.{zeros, padded}, Prelude.{ℕ, eqb, ltb, leb, ℤ, nat_abs, length, take, drop, Bool, true, ◌&&◌, List, [], ◌∷◌, ◌++◌}}
+use Rattle.std.specs.Prelude.{if◌then◌else◌, ◌&&◌, ◌∷◌, ◌++◌}
+use Rattle.numbers.specs.{Limits.{largest_file}, Lists.{zeros, padded}, Prelude.{ℕ, eqb, ltb, leb, ℤ, nat_abs, length, take, drop, Bool, true, List, []}}
 use Rattle.numbers.specs.{Prelude.{flat_map}, Reply.{Reply, given, refused, refusal, plain, demand, ◌>>◌}, Spelling.{varint_of}, declared.point.RawPoint.{RawPoint}}
 use Rattle.writer.specs.{Limits.{most_points, most_pieces}, Moves.{plain_move_bytes, moves_of, is_move}, Pieces.{good_pieces, packed_from}, declared.write.{Piece.{Piece}, Written.{Written}}}
 use Rattle.writer.specs.declared.write.Written.TheVariants as W

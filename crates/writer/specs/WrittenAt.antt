@@ -1,5 +1,6 @@
 -- A border that the writer wrote, at a place of a file.
-use Rattle.numbers.specs.{Prelude.{ℕ, ℤ, List, ◌≡◌}, Reply.{given}}
+use Rattle.std.specs.Prelude.{◌≡◌}
+use Rattle.numbers.specs.{Prelude.{ℕ, ℤ, List}, Reply.{given}}
 use Rattle.writer.specs.{Writer.{border_of}, declared.write.Piece.{Piece}}
 use Rattle.border.specs.Written.{Placed}
 

@@ -1,4 +1,6 @@
 // How a border is written, and how much it may have.
+#![tactic(auto)]
+
 pub mod limits;
 pub mod write;
 

@@ -1,8 +1,8 @@
 // The moves of a border, by the indexes of its points, and their bytes.
 ghost use mathlib.Core.{Path.{◌≡◌}, List.{◌∷◌, flat_map}};
-ghost use Rattle.std.specs.Prelude.{◌+◌, ◌^◌, ◌≤◌, ◌<◌};
+ghost use Rattle.std.specs.Prelude.{◌+◌, ◌^◌, ◌≤◌, ◌<◌, if◌then◌else◌};
 ghost use lib.{IntN.{pos, neg_ℤ, ◌-ℤ◌}, ListN.{length, get_or}, Dec.{eqb}, Seq.{slice}};
-ghost use Rattle.numbers.specs.{Answer.{if◌then◌else◌}, Point.{point_of}, Spelling.{signed_form}};
+ghost use Rattle.numbers.specs.{Point.{point_of}, Spelling.{signed_form}};
 ghost use Rattle.writer.specs.{Moves.{packed_number, plain_move_bytes, packed_move_bytes, moves_of, is_move, turned_back, same_move}, inner.Stored.{Stored, gap_at, move_at}};
 
 use crate::bytes::{put_two, put_varint};
@@ -12,7 +12,7 @@ use numbers::write::{form_of, interleave};
 // The coordinate before the ith one; before the first it is 0.
 fn before(list: &[i32], i: usize) -> i32
     requires { i ≤ length list.now }
-    ensures { result ≡ get_or (pos 0 ∷ (λ x. x.now) list.entry) i (pos 0) }
+    ensures { result ≡ get_or (pos 0 ∷ list.now) i (pos 0) }
 {
     if i == 0 {
         return 0;

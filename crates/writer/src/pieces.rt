@@ -1,8 +1,7 @@
 // The check of a list of pieces, and a piece's bytes.
 ghost use mathlib.Core.{Path.{◌≡◌}, List.{List, [], ◌∷◌, ◌++◌}};
-ghost use Rattle.std.specs.Prelude.{ℕ, ◌+◌, ◌-◌, ◌*◌, ◌/◌, ◌^◌, ◌≤◌, ◌<◌};
+ghost use Rattle.std.specs.Prelude.{ℕ, ◌+◌, ◌-◌, ◌*◌, ◌/◌, ◌^◌, ◌≤◌, ◌<◌, if◌then◌else◌};
 ghost use lib.{IntN.{ℤ}, ListN.{length}, Dec.{eqb}};
-ghost use Rattle.numbers.specs.Answer.{if◌then◌else◌};
 ghost use Rattle.writer.specs.{Moves.{moves_of}, Pieces.{lent_moves, spells, clear_before, accepted, piece_bytes, piece_at, pieces_of}, inner.Stored.{Stored, Checked}};
 
 use crate::bytes::put_two;
@@ -16,7 +15,7 @@ const TOO_MANY: usize = MOST_PIECES + 1;
 
 // What the check knows of a list: how many pieces there are (`TOO_MANY` for more than the most), how many are good before the first bad one,
 // the first move behind them, and the pieces themselves.
-#[derive(Drop)]
+#[derive(Clone, Copy)]
 pub struct Check {
     pub seen: usize,
     pub good: usize,

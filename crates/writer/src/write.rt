@@ -1,8 +1,8 @@
 // The border writer: document 01, "The writer".
 ghost use mathlib.Core.{Path.{◌≡◌}, List.{List, [], ◌∷◌, ◌++◌, flat_map}};
-ghost use Rattle.std.specs.Prelude.{◌≤◌, min};
+ghost use Rattle.std.specs.Prelude.{◌≤◌, min, if◌then◌else◌};
 ghost use lib.{ListN.{length, take}, Dec.{leb}};
-ghost use Rattle.numbers.specs.{Answer.{if◌then◌else◌}, Lists.{zeros}, Spelling.{varint_of}};
+ghost use Rattle.numbers.specs.{Lists.{zeros}, Spelling.{varint_of}};
 ghost use Rattle.writer.specs.{Moves.{plain_move_bytes, moves_of}, Pieces.{packed_from, pieces_of}, inner.Stored.{Stored, Checked}, Writer.{border_of, replied, fitted}};
 
 use crate::bytes::{put_two, put_varint, zero_bytes};
@@ -13,7 +13,7 @@ use crate::pieces::{Check, check_pieces, check_words, no_pieces, put_piece};
 use numbers::refusal::{BAD_PIECES, NO_ROOM};
 
 // A run of the earlier data that stands for some of the border's moves; direction 0 is forward, others backward.
-#[derive(Drop)]
+#[derive(Clone, Copy)]
 pub struct Piece {
     pub start: u32,
     pub bytes: u32,
@@ -22,7 +22,7 @@ pub struct Piece {
     pub count: u32,
 }
 
-#[derive(Drop)]
+#[derive(Clone, Copy)]
 pub enum Written {
     // How many bytes.
     Wrote(usize),

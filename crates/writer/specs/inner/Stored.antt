@@ -1,5 +1,6 @@
 -- What the writer's inner functions say of each other.
-use Rattle.numbers.specs.{Prelude.{ℕ, ◌+◌, ◌≤◌, min, ℤ, pos, ◌-ℤ◌, length, take, get_or, sets, List, [], ◌∷◌, ◌≡◌}, declared.point.RawPoint.{RawPoint}}
+use Rattle.std.specs.Prelude.{◌+◌, ◌≤◌, ◌-ℤ◌, ◌∷◌, ◌≡◌}
+use Rattle.numbers.specs.{Prelude.{ℕ, min, ℤ, pos, length, take, get_or, sets, List, []}, declared.point.RawPoint.{RawPoint}}
 use Rattle.border.specs.Place.{move_by}
 use Rattle.writer.specs.{Limits.{most_pieces}, Pieces.{good_pieces}, declared.{pieces.Check.{Check}, write.Piece.{Piece}}}
 
