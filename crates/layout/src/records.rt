@@ -6,7 +6,7 @@ ghost use Rattle.layout.specs.inner.{Layout.{next}, Answers.{WordSize, WordsSize
 
 use numbers::write::write_varint;
 
-#[derive(Drop)]
+#[derive(Clone, Copy)]
 pub enum Laid {
     // The records' length.
     Records(u64),

@@ -1,5 +1,6 @@
 -- What each answer of the code says.
-use Rattle.numbers.specs.{Answer.{if◌then◌else◌}, Lists.{zeros}, Prelude.{ℕ, ◌*◌, ◌^◌, ◌≤◌, ◌<◌, leb, length, Bool, List, ◌≡◌}}
+use Rattle.std.specs.Prelude.{if◌then◌else◌, ◌*◌, ◌^◌, ◌≤◌, ◌<◌, ◌≡◌}
+use Rattle.numbers.specs.{Lists.{zeros}, Prelude.{ℕ, leb, length, Bool, List}}
 use Rattle.layout.specs.{Order.{key_of, sorted_by}, declared.records.Laid.{Laid, TheVariants.{Records, TooLong}}, inner.Layout.{word_size, words_size, Fits, Least}}
 
 -- the bytes of a word, at most five

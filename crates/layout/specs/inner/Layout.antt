@@ -1,6 +1,7 @@
 -- How long the records of a metadata section are. A value that stands in the records more than once is kept behind them, and a word
 -- in the record says where: 256 + the text's place in the section. So the words' lengths hang on the records' length, and it on theirs.
-use Rattle.numbers.specs.{Answer.{if◌then◌else◌}, Prelude.{ℕ, zero, suc, ◌+◌, ◌≤◌, eqb, length, List, [], ◌∷◌, ◌≡◌}, Spelling.{varint_of}}
+use Rattle.std.specs.Prelude.{if◌then◌else◌, ◌+◌, ◌≤◌, ◌∷◌, ◌≡◌}
+use Rattle.numbers.specs.{Prelude.{ℕ, zero, suc, eqb, length, List, []}, Spelling.{varint_of}}
 
 -- the bytes of a word if the records take this length: 0 stands for a value that needs no word, 1 + n for a text that lies n bytes behind the records
 unfoldable pub word_size : ℕ → ℕ → ℕ
