@@ -63,16 +63,16 @@ module _ {P : ℕ → Type 0} (has : (n : ℕ) → Listed header_numbers n → P
   sums : (bits sum : ℕ) → NumberedReply P (fits bits sum)
   sums bits sum = demands (ltb sum (2 ^ bits)) (plain 13) (has 13 refl)
 
-  sections_from_lem : (length end metadata start rest : ℕ) → NumberedReply P (sections_from length end metadata start rest)
+  sections_numbered : (length end metadata start rest : ℕ) → NumberedReply P (sections_from length end metadata start rest)
   unfolding sections_from
-  sections_from_lem length end metadata start rest = let whole = rest + (end + start) in
+  sections_numbered length end metadata start rest = let whole = rest + (end + start) in
       and_then (sums 32 (end + start)) (and_then (sums 64 whole) (and_then (demands (eqb whole length) (refusal 11 0 whole) (has 11 refl)) answers))
 
   sections : (file : List ℕ) (place : ℕ) → NumberedReply P (sections_at strict file place)
   unfolding sections_at
   sections file place =
       then_reply (size file place 8 (has 8 refl)) (λ first. then_reply (size file first.place 9 (has 9 refl)) (λ second. and_then
-      (sums 32 (first.value % 2 ^ 32 + second.value % 2 ^ 32)) (then_reply (size file second.place 10 (has 10 refl)) (λ third. sections_from_lem (length file)
+      (sums 32 (first.value % 2 ^ 32 + second.value % 2 ^ 32)) (then_reply (size file second.place 10 (has 10 refl)) (λ third. sections_numbered (length file)
       third.place (first.value % 2 ^ 32) (first.value % 2 ^ 32 + second.value % 2 ^ 32) third.value))))
 
   contents : (file : List ℕ) → NumberedReply P (contents_by strict file)

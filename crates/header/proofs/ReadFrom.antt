@@ -42,7 +42,7 @@ pub record Sized (strict : Bool) (file : List ℕ) (place : ℕ) (s : Sections) 
   pub third_read : found third ≡ reading_of strict file second.place
   pub table : s.table ≡ third.place
   pub metadata : s.metadata ≡ third.place + first.value % 2 ^ 32
-  pub data_place_lem : s.«data» ≡ third.place + (first.value % 2 ^ 32 + second.value % 2 ^ 32)
+  pub data_stands : s.«data» ≡ third.place + (first.value % 2 ^ 32 + second.value % 2 ^ 32)
   pub small : s.«data» < 2 ^ 32
   pub exact : third.value + s.«data» ≡ length file
 
@@ -54,7 +54,7 @@ sized strict file place {s} e = let first = given_from (size_at strict file plac
     let end = third.it.place + sum in let one = demanded (ltb end (2 ^ 32)) (plain 13) third.onto in
     let two = demanded (ltb (third.it.value + end) (2 ^ 64)) (plain 13) one.1 in
     let three = demanded (eqb (third.it.value + end) (length file)) (refusal 11 0 (third.it.value + end)) two.1 in let form = given_one three.1 in
-    let data_place_lem = ap (λ (x : Sections). x.«data») form in record {
+    let data_stands = ap (λ (x : Sections). x.«data») form in record {
       first = first.it;
       second = second.it;
       third = third.it;
@@ -63,7 +63,7 @@ sized strict file place {s} e = let first = given_from (size_at strict file plac
       third_read = given_found (plain 10) (reading_of strict file second.it.place) third.is;
       table = ap (λ (x : Sections). x.table) form;
       metadata = ap (λ (x : Sections). x.metadata) form;
-      data_place_lem = data_place_lem;
-      small = omega (arith, data_place_lem, ltb-true end (2 ^ 32) one.0);
-      exact = omega (arith, data_place_lem, eqb-true (third.it.value + end) (length file) three.0);
+      data_stands = data_stands;
+      small = omega (arith, data_stands, ltb-true end (2 ^ 32) one.0);
+      exact = omega (arith, data_stands, eqb-true (third.it.value + end) (length file) three.0);
     }

@@ -1,6 +1,6 @@
 -- Files of one length that open and share their bytes up to the metadata of the first have the same header. Assumes nothing.
 use Rattle.numbers.proofs.Prelude.{ℕ, zero, suc, ◌+◌, ◌-◌, ◌%◌, ◌^◌, ◌≤◌, ◌<◌, eqb, ltb, leb, length, take, get_or, Bool, true, false, List, [], ◌∷◌, ◌≡◌, refl, sym, ap, subst, ◌∙◌, le_refl, arith}
-use Rattle.numbers.proofs.{Answers.{found-one, found_from, all_found, not-failed}, ReadAlike.{reading_alike}, Readings.{reading_grows}, Replies.{given_from, given_one, demanded}}
+use Rattle.numbers.proofs.{Answers.{found_one, found_from, all_found, not_failed}, ReadAlike.{reading_alike}, Readings.{reading_grows}, Replies.{given_from, given_one, demanded}}
 use Rattle.numbers.specs.{Answer.{Answer, found, if◌then◌else◌}, Reply.{given, refused, not_utf8, refusal, plain}, Varint.{Numeral, reading_of}}
 use Rattle.header.proofs.ReadFrom.{read_from, sized}
 use Rattle.header.specs.{Header.{magic_of, is_kind, preamble_of, blame_of, Texts, texts_from, sections_at, head_by}, Text.{within, remote_at, string_at, bytes_of, or_blamed, text_at}, Utf8.{is_utf8}}
@@ -22,8 +22,8 @@ unfolding within
 inside_next file text {t} e = empty (eqb text.size 0) e where
   empty : (test : Bool) → found t ≡ (if test then found (record { start = 0; size = 0; next = text.next }) else (if leb (text.start + text.size)
       (length file) then found text else A.refused 14)) → t.next ≡ text.next
-  empty true e = ap (λ (x : Text). x.next) (found-one e)
-  empty false e = ap (λ (x : Text). x.next) (found-one (whole (leb (text.start + text.size) (length file)) e)) where
+  empty true e = ap (λ (x : Text). x.next) (found_one e)
+  empty false e = ap (λ (x : Text). x.next) (found_one (whole (leb (text.start + text.size) (length file)) e)) where
     whole : (test : Bool) → found t ≡ (if test then found text else A.refused 14) → found t ≡ found text
     whole true e = e
     whole false e = let z : ◌≡◌ {A = ℕ} 0 1 = cc in absurd (omega arith)
@@ -31,7 +31,7 @@ inside_next file text {t} e = empty (eqb text.size 0) e where
 remote_next : (strict : Bool) (file : List ℕ) (place next : ℕ) {t : Text} → found t ≡ remote_at strict file place next → t.next ≡ next
 unfolding remote_at
 remote_next strict file place next e = let read = found_from (reading_of strict file place) _ e in
-    inside_next file _ (not-failed (leb read.it.value 256) read.onto).1
+    inside_next file _ (not_failed (leb read.it.value 256) read.onto).1
 
 string_begun : (strict : Bool) (file : List ℕ) (metadata place : ℕ) {t : Text} → found t ≡ string_at strict file metadata place → Begun strict file place t.next
 unfolding string_at
@@ -103,7 +103,7 @@ preamble_form file e = let a = demanded (leb (length file) (2 ^ 30)) (plain 1) e
 
 module _ (strict : Bool) (file file' : List ℕ) (end : ℕ) (long : length file ≡ length file') (bytes : take end file ≡ take end file') where
   number_same : (place : ℕ) {n n' : Numeral} → found n ≡ reading_of strict file place → found n' ≡ reading_of strict file' place → n.place ≤ end → n ≡ n'
-  number_same place e e' h = found-one (reading_alike file file' end long bytes strict place e h ∙ sym e')
+  number_same place e e' h = found_one (reading_alike file file' end long bytes strict place e h ∙ sym e')
 
   texts_same : (names more index place : ℕ) {t t' : Texts} → given t ≡ texts_from strict file names more index place → given t' ≡ texts_from strict file' names more index place
       → t.place ≤ end → t.place ≡ t'.place
@@ -134,7 +134,7 @@ module _ (strict : Bool) (file file' : List ℕ) (end : ℕ) (long : length file
       let three : a.third ≡ b.third = number_same a.second.place a.third_read read-three third_in in
       let table : s.table ≡ s'.table = a.table ∙ ap (λ (n : Numeral). n.place) three ∙ sym b.table in
       let metadata : s.metadata ≡ s'.metadata = a.metadata ∙ (λ i. (three i).place + (one i).value % 2 ^ 32) ∙ sym b.metadata in
-      let places : s.«data» ≡ s'.«data» = a.data_place_lem ∙ (λ i. (three i).place + ((one i).value % 2 ^ 32 + (two i).value % 2 ^ 32)) ∙ sym b.data_place_lem in
+      let places : s.«data» ≡ s'.«data» = a.data_stands ∙ (λ i. (three i).place + ((one i).value % 2 ^ 32 + (two i).value % 2 ^ 32)) ∙ sym b.data_stands in
       λ i. record { table = table i; metadata = metadata i; «data» = places i }
 
   preamble_same : 7 ≤ end → {p p' : Preamble} → given p ≡ preamble_of file → given p' ≡ preamble_of file' → p ≡ p'
@@ -158,4 +158,4 @@ same_head strict file file' {head} {head'} e e' long bytes = let end = head.sect
 -- A header's metadata start fits 32 bits.
 pub metadata_small : (strict : Bool) (file : List ℕ) {head : Head} → given head ≡ head_by strict file → head.sections.metadata < 2 ^ 32
 metadata_small strict file e = let o = read_from strict file e in let a = sized strict file o.texts.place o.sections in
-    omega (arith, a.metadata, a.data_place_lem, a.small)
+    omega (arith, a.metadata, a.data_stands, a.small)

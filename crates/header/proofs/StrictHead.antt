@@ -74,9 +74,9 @@ module _ (file : List ℕ) where
       (λ preamble. then_same (texts_of true file preamble.count) (texts_of false file preamble.count) (texts_strictly preamble.count (preamble.count + 1) 0 7)
       (λ texts. then_same (sections_at true file texts.place) (sections_at false file texts.place) (sections_strictly texts.place) (λ sections. alike refl)))
 
-  pub head_strictly_lem : Unless 31 unstrict (head_strictly file) (head_of file)
+  pub head_strictly_unless : Unless 31 unstrict (head_strictly file) (head_of file)
   unfolding head_by
-  head_strictly_lem = unless_then (contents_by true file) (contents_by false file) contents_strictly (λ a b e. alike (ap (λ (c : Contents). given c.head) e))
+  head_strictly_unless = unless_then (contents_by true file) (contents_by false file) contents_strictly (λ a b e. alike (ap (λ (c : Contents). given c.head) e))
 
   -- ---- opening
   fitting_strictly : (room : ℕ) → Unless 31 unstrict_contents (fitting_of true file room) (fitting_of false file room)
@@ -101,4 +101,4 @@ module _ (file : List ℕ) where
 -- a file that opens holds its whole table
 pub table_within : (strict : Bool) (file : List ℕ) {head : Head} → head_by strict file ≡ given head → head.sections.metadata ≤ length file
 table_within strict file e = let o = read_from strict file (sym e) in let a = sized strict file o.texts.place o.sections in
-    omega (arith, a.metadata, a.data_place_lem, a.exact)
+    omega (arith, a.metadata, a.data_stands, a.exact)

@@ -1,5 +1,5 @@
 -- Strings: where a remote one stands, and how the bytes of one go out. Assumes nothing.
-use Rattle.numbers.proofs.{Answers.{not-failed, All}, Laws.{Read}, Prelude.{ℕ, ◌+◌, ◌-◌, ◌%◌, ◌^◌, ◌≤◌, leb-true, ltb-true, tag_of, declared, eqb, ltb, leb, length, take, drop, length-drop}}
+use Rattle.numbers.proofs.{Answers.{not_failed, All}, Laws.{Read}, Prelude.{ℕ, ◌+◌, ◌-◌, ◌%◌, ◌^◌, ◌≤◌, leb-true, ltb-true, tag_of, declared, eqb, ltb, leb, length, take, drop, length-drop}}
 use Rattle.numbers.{proofs.{Prelude.{length-take-le, Bool, true, false, List, map, ◌≡◌, refl, sym, ap, ◌∙◌, arith}, Readings.{reading_read}}, specs.Answer.{Answer, found, failed, refused}}
 use Rattle.numbers.specs.{Answer.{if◌then◌else◌, ◌>>=◌}, Reply.{given, refusal}, Varint.{Numeral, reading_of}}
 use native.Mathlib.Nat.{add-mod-mod}
@@ -50,7 +50,7 @@ module _ (file : List ℕ) (text : Text) where
 
   remote_lies : (strict : Bool) (place next : ℕ) → found text ≡ remote_at strict file place next → Lies file text
   unfolding remote_at
-  remote_lies strict place next e = let n = found_from (reading_of strict file place) _ e in let small = not-failed (leb n.it.value 256) n.onto in
+  remote_lies strict place next e = let n = found_from (reading_of strict file place) _ e in let small = not_failed (leb n.it.value 256) n.onto in
       within_lies (record { start = n.it.place; size = n.it.value; next = next }) (leb-true _ _ small.0) small.1
 
   pub string_lies : (strict : Bool) (metadata place : ℕ) → found text ≡ string_at strict file metadata place → Lies file text

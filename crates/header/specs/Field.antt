@@ -1,5 +1,6 @@
 -- Strings as they go out, and what a lent text then holds.
-use Rattle.numbers.specs.{Lists.{over}, Prelude.{ℕ, ◌/◌, ◌%◌, leb, length, Bool, List, ◌∷◌}, Reply.{Reply, given, refused, plain, demand, ◌>>=◌, ◌>>◌}}
+use Rattle.std.specs.Prelude.{◌/◌, ◌%◌, ◌∷◌}
+use Rattle.numbers.specs.{Lists.{over}, Prelude.{ℕ, leb, length, Bool, List}, Reply.{Reply, given, refused, plain, demand, ◌>>=◌, ◌>>◌}}
 use Rattle.header.specs.{Text.{bytes_of, text_at}, declared.field.{Sent.{Sent}, Written.{Written}}}
 use Rattle.header.specs.declared.field.Written.TheVariants as W
 

@@ -1,5 +1,6 @@
 -- The header, in document 01's order, its numbers read strictly or not.
-use Rattle.numbers.specs.{Answer.{if◌then◌else◌}, Limits.{largest_file}, Prelude.{ℕ, zero, suc, ◌+◌, ◌*◌, ◌%◌, ◌^◌, eqb, ltb, leb, length, get_or, Bool, true, false, ◌||◌, List, [], ◌++◌}}
+use Rattle.std.specs.Prelude.{if◌then◌else◌, ◌+◌, ◌*◌, ◌%◌, ◌^◌, ◌||◌, ◌++◌}
+use Rattle.numbers.specs.{Limits.{largest_file}, Prelude.{ℕ, zero, suc, eqb, ltb, leb, length, get_or, Bool, true, false, List, []}}
 use Rattle.numbers.specs.{Reply.{Reply, given, refused, refusal, plain, demand, ◌or_else◌, ◌>>=◌, ◌>>◌}, Varint.{Numeral, reading_of}, declared.varint.Varint.{Varint}}
 use Rattle.header.specs.{Field.{entry}, Text.{stopped_of, text_at, bytes_of}, declared.header.{Head.{Head}, Headed.{Headed}, PlaceAnswer.{PlaceAnswer}, Preamble.{Preamble}}}
 use Rattle.header.specs.declared.{header.{PreambleAnswer.{PreambleAnswer}, Sections.{Sections}, SectionsAnswer.{SectionsAnswer}, SizeAnswer.{SizeAnswer}}, text.Blame.{Blame}}

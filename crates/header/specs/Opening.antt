@@ -1,5 +1,6 @@
 -- Opening: the reply and the whole lent text.
-use Rattle.numbers.specs.{Lists.{zeros, padded}, Prelude.{ℕ, ◌≤◌, ◌<◌, leb, length, Bool, true, false, List, ◌≡◌}, Reply.{Reply, given, refused, plain, demand, ◌>>=◌, ◌>>◌}}
+use Rattle.std.specs.Prelude.{◌≤◌, ◌<◌, ◌≡◌}
+use Rattle.numbers.specs.{Lists.{zeros, padded}, Prelude.{ℕ, leb, length, Bool, true, false, List}, Reply.{Reply, given, refused, plain, demand, ◌>>=◌, ◌>>◌}}
 use Rattle.header.specs.{Header.{Texts, Contents, contents_by}, declared.opening.{Opened.{Opened}, Opening.{Opening}, Wrote.{Wrote}}}
 use Rattle.header.specs.declared.opening.Opened.TheVariants as O
 use Rattle.header.specs.declared.opening.Wrote.TheVariants as W

@@ -1,5 +1,6 @@
 -- Strings of the file, as document 01 has them, their numbers read strictly or not.
-use Rattle.numbers.specs.{Answer.{Answer, found, failed, refused, if◌then◌else◌, ◌>>=◌}, Prelude.{ℕ, ◌+◌, ◌-◌, ◌%◌, ◌^◌, eqb, ltb, leb, length, take, drop, Bool, List, map}}
+use Rattle.std.specs.Prelude.{if◌then◌else◌, ◌+◌, ◌-◌, ◌%◌, ◌^◌}
+use Rattle.numbers.specs.{Answer.{Answer, found, failed, refused, ◌>>=◌}, Prelude.{ℕ, eqb, ltb, leb, length, take, drop, Bool, List, map}}
 use Rattle.numbers.specs.{Reply.{Reply, given, encoding, not_utf8, refusal, plain}, Varint.{told, reading_of}, declared.varint.Varint.{Varint}}
 use Rattle.header.specs.{Utf8.{unmasked, is_utf8}, declared.text.{Blame.{Blame}, Read.{Read}, String.{String}, Text.{Text}}}
 use Rattle.numbers.specs.Reply as R

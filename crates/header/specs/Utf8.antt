@@ -1,5 +1,6 @@
 -- UTF-8, after the grammar of RFC 3629, section 4.
-use Rattle.numbers.specs.{Answer.{if◌then◌else◌}, Prelude.{ℕ, ◌-◌, eqb, leb, replicate, Bool, true, false, ◌&&◌, List, [], ◌∷◌, ◌++◌, ◌≡◌}}
+use Rattle.std.specs.Prelude.{if◌then◌else◌, ◌-◌, ◌&&◌, ◌∷◌, ◌++◌, ◌≡◌}
+use Rattle.numbers.specs.Prelude.{ℕ, eqb, leb, replicate, Bool, true, false, List, []}
 use Rattle.std.specs.Int.Bits.{bit_xor}
 use Rattle.header.specs.declared.utf8.{Due.{Due}, Step.{Step}}
 use Rattle.header.specs.declared.utf8.Step.TheVariants as S

@@ -9,13 +9,13 @@ use crate::text::{Blame, Read, read_text};
 use numbers::refusal::{Refusal, plain};
 
 // A field that went out: how many bytes of the text it took, and the place to read on from.
-#[derive(Drop)]
+#[derive(Clone, Copy)]
 pub struct Sent {
     pub size: usize,
     pub next: usize,
 }
 
-#[derive(Drop)]
+#[derive(Clone, Copy)]
 pub enum Written {
     Field(Sent),
     Refused(Refusal),

@@ -14,7 +14,7 @@ use numbers::refusal::{Refusal, plain, refuse};
 use numbers::varint::{Number, Varint, read_number};
 
 // The first seven bytes.
-#[derive(Drop)]
+#[derive(Clone, Copy)]
 pub struct Preamble {
     pub kind: u8,
     pub version: u8,
@@ -22,47 +22,47 @@ pub struct Preamble {
     pub count: u8,
 }
 
-#[derive(Drop)]
+#[derive(Clone, Copy)]
 enum PreambleAnswer {
     Preamble(Preamble),
     Refused(Refusal),
 }
 
 // Where the three sections begin.
-#[derive(Drop)]
+#[derive(Clone, Copy)]
 pub struct Sections {
     pub table: u32,
     pub metadata: u32,
     pub data: u32,
 }
 
-#[derive(Drop)]
+#[derive(Clone, Copy)]
 enum SectionsAnswer {
     Sections(Sections),
     Refused(Refusal),
 }
 
 // How a header was read, whatever it says of the file is read with it: strictly or not.
-#[derive(Drop)]
+#[derive(Clone, Copy)]
 pub struct Head {
     pub preamble: Preamble,
     pub sections: Sections,
     pub strict: bool,
 }
 
-#[derive(Drop)]
+#[derive(Clone, Copy)]
 pub enum Headed {
     Head(Head),
     Refused(Refusal),
 }
 
-#[derive(Drop)]
+#[derive(Clone, Copy)]
 enum PlaceAnswer {
     Place(usize),
     Refused(Refusal),
 }
 
-#[derive(Drop)]
+#[derive(Clone, Copy)]
 enum SizeAnswer {
     Number(Number),
     Refused(Refusal),

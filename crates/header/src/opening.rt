@@ -9,7 +9,7 @@ use crate::header::{Headed, head_by, read_header_text};
 use crate::text::Read;
 use numbers::refusal::{Refusal, plain};
 
-#[derive(Drop)]
+#[derive(Clone, Copy)]
 pub struct Opening {
     pub kind: u8,
     pub version: u8,
@@ -18,13 +18,13 @@ pub struct Opening {
     pub used: usize,
 }
 
-#[derive(Drop)]
+#[derive(Clone, Copy)]
 pub enum Opened {
     Opening(Opening),
     Refused(Refusal),
 }
 
-#[derive(Drop)]
+#[derive(Clone, Copy)]
 enum Wrote {
     Used(usize),
     NoRoom,

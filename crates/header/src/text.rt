@@ -9,14 +9,14 @@ use numbers::varint::{Varint, read_number};
 
 // A string of the file: where its bytes begin, how many there are, and the place to read on from. Of an empty one, which may stand past
 // the file's end, the start is 0.
-#[derive(Drop)]
+#[derive(Clone, Copy)]
 pub struct Text {
     pub start: usize,
     pub size: usize,
     pub next: usize,
 }
 
-#[derive(Drop)]
+#[derive(Clone, Copy)]
 pub enum String {
     Text(Text),
     // An encoding failure.
@@ -26,13 +26,13 @@ pub enum String {
 }
 
 // The refusal that a bad string is to be given: its number and detail.
-#[derive(Drop)]
+#[derive(Clone, Copy)]
 pub struct Blame {
     pub number: u8,
     pub detail: u64,
 }
 
-#[derive(Drop)]
+#[derive(Clone, Copy)]
 pub enum Read {
     Text(Text),
     Refused(Refusal),

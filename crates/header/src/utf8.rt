@@ -3,14 +3,14 @@ ghost use mathlib.Core.{Path.{◌≡◌}, List.{map}};
 ghost use Rattle.header.specs.Utf8.{pending_of, told_step, begun_by, followed, is_utf8, unmasked};
 
 // What a character that has begun still lacks: so many bytes, the first of them in a range, the others tails.
-#[derive(Drop)]
+#[derive(Clone, Copy)]
 struct Due {
     low: u8,
     high: u8,
     left: u8,
 }
 
-#[derive(Drop)]
+#[derive(Clone, Copy)]
 enum Step {
     Due(Due),
     // No character has this byte here.
