@@ -1,4 +1,4 @@
--- `nearest_to` gives the f32 nearest to a fraction, ties to even (`nearest_to_lem`). Assumes nothing.
+-- `nearest_to` gives the f32 nearest to a fraction, ties to even (`nearest_to_is_nearest`). Assumes nothing.
 use Rattle.numbers.proofs.Prelude.{ℕ, suc, ◌+◌, ◌-◌, ◌*◌, ◌/◌, ◌%◌, ◌^◌, ◌≤◌, ◌<◌, eqb-true, eqb, T, Float, binary32, fin, nan, inf, pos, pow_pos, pow_mono, pow-add, Bool, true, false, ◌⊎◌, inl, inr}
 use Rattle.numbers.proofs.Prelude.{◌≡◌, refl, sym, ap, subst, ◌∙◌, le_trans, le_of_lt, le_of_eq, lt_of_lt_of_le, mul_comm, mul_assoc, mul-one, one-mul, zero-mul, add-mul, mul-pos, mul-le-mul_right}
 use Rattle.numbers.proofs.Prelude.{mod-lt, div-lt_iff_lt-mul, arith}
@@ -353,9 +353,9 @@ zero_nearest fraction e =
           ]
 
 -- the f32 that a request's fraction means
-pub nearest_to_lem : (fraction : Fraction) → 0 < fraction.size.den → fraction.size.num / fraction.size.den < 16777216 → Nearest fraction (nearest_to fraction)
+pub nearest_to_is_nearest : (fraction : Fraction) → 0 < fraction.size.den → fraction.size.num / fraction.size.den < 16777216 → Nearest fraction (nearest_to fraction)
 unfolding nearest_to
-nearest_to_lem fraction D under = go (eqb fraction.size.num 0) refl where
+nearest_to_is_nearest fraction D under = go (eqb fraction.size.num 0) refl where
   go : (t : Bool) → eqb fraction.size.num 0 ≡ t → Nearest fraction (if t then fin false 0 (pos 0) else round binary32 fraction.minus fraction.size.num fraction.size.den)
   go false e = round_nearest fraction D under
   go true e = zero_nearest fraction (eqb-true fraction.size.num 0 e)

@@ -242,7 +242,8 @@ module _ (limit : ℕ) (text : List ℕ) (place : ℕ) {r : Sized} (e : told_siz
   unfolding degrees_of
   degrees_are is f = ap given f ∙ go (decimal_of limit (unsigned text)) (rw is at e) where
     go : (a : Answer Size) {num den : ℕ} → given (record { num = num; den = den }) ≡ at place a
-        → given (nearest_to (record { minus = is_minus text; size = record { num = num; den = den } })) ≡ shown (at place (a >>= λ size. found (record { minus = is_minus text; size = size }))) nearest_to
+        → given (nearest_to (record { minus = is_minus text; size = record { num = num; den = den } }))
+        ≡ shown (at place (a >>= λ size. found (record { minus = is_minus text; size = size }))) nearest_to
     go (found a) e = cc
     go failed e = absurd (let z : ◌≡◌ {A = ℕ} 0 1 = cc in omega arith)
     go (A.refused n) e = absurd (let z : ◌≡◌ {A = ℕ} 0 1 = cc in omega arith)

@@ -18,9 +18,9 @@ module _ (n : ℕ) (body : List ℕ) (from to : ℕ) (b : drop from body ≡ beh
   pub field_place : from ≤ length body → 1 + from ≡ place_of n body
   field_place h = ap (λ (k : ℕ). 1 + k) (place_is body (behind n body) from b h)
 
-  pub in_field_lem : to ≡ from + length (to_comma (drop from body)) → from ≤ length body → {A : Type 0} (reading : List ℕ → Answer A)
+  pub shown_in_field : to ≡ from + length (to_comma (drop from body)) → from ≤ length body → {A : Type 0} (reading : List ℕ → Answer A)
       → at (1 + from) (reading (take (to - from) (drop from body))) ≡ in_field n body reading
-  in_field_lem e h reading = ap (λ (l : List ℕ). at (1 + from) (reading l)) (field_is e) ∙ ap (λ (k : ℕ). at k (reading (field n body))) (field_place h)
+  shown_in_field e h reading = ap (λ (l : List ℕ). at (1 + from) (reading l)) (field_is e) ∙ ap (λ (k : ℕ). at k (reading (field n body))) (field_place h)
 
 -- the first field
 pub field_first : (body : List ℕ) (end : ℕ) → end ≡ 0 + length (to_comma body) → take end body ≡ field 0 body
@@ -273,8 +273,9 @@ module _ (line left : List ℕ) (from end : ℕ) (l : drop from line ≡ left) (
   pub next_is : (next : ℕ) → drop next line ≡ unblanked (drop end line) → drop next line ≡ next_word left
   next_is next n = n ∙ ap unblanked past_is
 
-  pub in_word_lem : from ≤ length line → {A B : Type 0} (reading : List ℕ → Answer A) (f : A → B) → shown (at from (reading (take (end - from) (drop from line)))) f ≡ shown (in_word line left reading) f
-  in_word_lem h reading f = ap (λ (t : List ℕ). shown (at from (reading t)) f) word_is ∙ ap (λ (k : ℕ). shown (at k (reading (word left))) f) (place_is line left from l h)
+  pub shown_in_word : from ≤ length line → {A B : Type 0} (reading : List ℕ → Answer A) (f : A → B)
+      → shown (at from (reading (take (end - from) (drop from line)))) f ≡ shown (in_word line left reading) f
+  shown_in_word h reading f = ap (λ (t : List ℕ). shown (at from (reading t)) f) word_is ∙ ap (λ (k : ℕ). shown (at k (reading (word left))) f) (place_is line left from l h)
 
 pub in_first : (line : List ℕ) (end : ℕ) → end ≡ 0 + length (word line) → {A B : Type 0} (reading : List ℕ → Answer A) (f : A → B)
     → shown (at 0 (reading (take end line))) f ≡ shown (in_word line line reading) f

@@ -2,7 +2,7 @@
 use Rattle.numbers.{proofs.{Prelude.{ℕ, List, ◌≡◌, refl, sym, ap, subst, ◌∙◌}, Refusals.{Listed}, Replies.{number_of_lem}}, specs.{Reply.{Reply, given, refused}, declared.refusal.Refusal.{Refusal}}}
 use lib.IntN.{+ℤ_idr}
 use Rattle.calendar.specs.Civil.{CivilOf}
-use Rattle.request.proofs.{Meanings.{Civilly, Ranged, spelt_meant}, Nearing.{nearest_to_lem}, Refusing.{five_numbers, request_told}, Replied.{shown_from}, Times.{in_date, in_time}}
+use Rattle.request.proofs.{Meanings.{Civilly, Ranged, spelt_meant}, Nearing.{nearest_to_is_nearest}, Refusing.{five_numbers, request_told}, Replied.{shown_from}, Times.{in_date, in_time}}
 use Rattle.request.specs.{Clock.{Date, Time, utc, instant_at}, Nearest.{Nearest}, Only.{OnlyAt}, Request.{Spelt, spelt_of, meaning, request_of}, Text.{line_of}, Told.{told}}
 use Rattle.request.specs.declared.read.{Asked.{Asked}, Fix.{Fix}}
 use Rattle.request.specs.declared.read.Asked.TheVariants as R
@@ -50,7 +50,7 @@ pub request_nearest : (text : List ℕ) {fix : Fix} {spelt : Spelt} → told (R.
 unfolding request_of meaning
 request_nearest text {fix = fix} {spelt = spelt} e s = let f = shown_from (spelt_of (line_of text)) meaning e in let same : spelt ≡ f.it = cc in
     let m = spelt_meant (line_of text) s in let is : fix ≡ meaning spelt = f.shows ∙ ap meaning (sym same) in (
-      subst (λ (x : Fix). Nearest spelt.lat x.lat) (sym is) (nearest_to_lem spelt.lat m.lat_fair.some m.lat_fair.small),
+      subst (λ (x : Fix). Nearest spelt.lat x.lat) (sym is) (nearest_to_is_nearest spelt.lat m.lat_fair.some m.lat_fair.small),
       subst (λ (x : Fix). Nearest spelt.lon x.lon) (sym is)
-          (nearest_to_lem spelt.lon m.lon_fair.some m.lon_fair.small),
+          (nearest_to_is_nearest spelt.lon m.lon_fair.some m.lon_fair.small),
     )

@@ -53,7 +53,7 @@ in_date d e = let f = both _ (leb d.day (month_length (is_leap d.year) d.month))
     let h = both _ (leb d.month 12) g.0 in let i = both _ (leb 1 d.month) h.0 in
     let j = both (leb 1 d.year) (leb d.year 9999) i.0 in record {
       range = record { from = leb-true _ _ j.0; to = leb-true _ _ j.1 };
-      months = record { month_from_lem = leb-true _ _ i.1; month_to = leb-true _ _ h.1; day_from = leb-true _ _ g.1; day_to = leb-true _ _ f.1 };
+      months = record { month_from = leb-true _ _ i.1; month_to = leb-true _ _ h.1; day_from = leb-true _ _ g.1; day_to = leb-true _ _ f.1 };
     }
 
 pub day_short : (d : Date) → is_date d ≡ true → C.day_of d < 3652059
@@ -145,9 +145,9 @@ module _ (text : List ℕ) (place : ℕ) (form : formed moment_form text ≡ tru
   moment_day e = simp (form, e)
 
   module _ (d : is_date (moment_date text) ≡ true) where
-    pub moment_time_lem : is_time (moment_time text) ≡ false → refused (refusal 84 0 place) ≡ shown (at place (moment_of text)) instant_at
+    pub no_moment_time : is_time (moment_time text) ≡ false → refused (refusal 84 0 place) ≡ shown (at place (moment_of text)) instant_at
     unfolding moment_of spelled
-    moment_time_lem e = simp (form, d, e)
+    no_moment_time e = simp (form, d, e)
 
     pub moment_is : is_time (moment_time text) ≡ true → {z : ℤ} → z ≡ instant_of (C.day_of (moment_date text)) (second_of (moment_time text)) → given z ≡ shown (at place (moment_of text)) instant_at
     unfolding moment_of instant_at spelled

@@ -1,5 +1,6 @@
 -- Dates, times of day and instants that a request spells.
-use Rattle.numbers.specs.{Answer.{Answer, if◌then◌else◌}, Prelude.{ℕ, ◌+◌, ◌-◌, ◌*◌, ◌^◌, eqb, ltb, leb, ℤ, pos, negsuc, length, Bool, ◌&&◌, List, [], ◌∷◌}}
+use Rattle.std.specs.Prelude.{if◌then◌else◌, ◌+◌, ◌-◌, ◌*◌, ◌^◌, ◌&&◌, ◌∷◌}
+use Rattle.numbers.specs.{Answer.{Answer}, Prelude.{ℕ, eqb, ltb, leb, ℤ, pos, negsuc, length, Bool, List, []}}
 use Rattle.calendar.specs.{Calendar.{is_leap, month_length, day_number}, Moments.{instant_of}}
 use Rattle.request.specs.{Number.{spelled, part_of, value_of, has_form, unsigned, is_minus}, Text.{digits, formed}}
 

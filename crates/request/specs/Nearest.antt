@@ -1,5 +1,6 @@
 -- What "the f32 nearest to a fraction, ties to even" means, over whole numbers: a finite f32 is in size a whole number of times 2 ^ -149.
-use Rattle.numbers.specs.{Answer.{if◌then◌else◌}, Float.Root.{units_of}, Prelude.{ℕ, ◌+◌, ◌-◌, ◌*◌, ◌/◌, ◌%◌, ◌^◌, ◌≤◌, T, Float, binary32, fin, nan, inf, Bool, false, ◌≡◌}}
+use Rattle.std.specs.Prelude.{if◌then◌else◌, ◌+◌, ◌-◌, ◌*◌, ◌/◌, ◌%◌, ◌^◌, ◌≤◌, ◌≡◌}
+use Rattle.numbers.specs.{Float.Root.{units_of}, Prelude.{ℕ, T, Float, binary32, fin, nan, inf, Bool, false}}
 use Rattle.std.specs.Bool.{beq}
 use lib.Ieee.{size, fits, Scale.{finite}}
 use Rattle.request.specs.Number.{Fraction}

@@ -1,6 +1,7 @@
 -- Numbers that digits spell, degrees as exact fractions, and the f32 nearest to one.
-use Rattle.numbers.specs.Prelude.{ℕ, ◌+◌, ◌-◌, ◌*◌, ◌^◌, eqb, leb, Float, binary32, fin, pos, length, take, drop, get_or, Bool, true, false, ◌&&◌, ◌||◌, List, [], ◌∷◌}
-use Rattle.numbers.specs.Answer.{Answer, found, failed, refused, if◌then◌else◌, ◌>>=◌}
+use Rattle.std.specs.Prelude.{◌+◌, ◌-◌, ◌*◌, ◌^◌, ◌&&◌, ◌||◌, ◌∷◌, if◌then◌else◌}
+use Rattle.numbers.specs.Prelude.{ℕ, eqb, leb, Float, binary32, fin, pos, length, take, drop, get_or, Bool, true, false, List, []}
+use Rattle.numbers.specs.Answer.{Answer, found, failed, refused, ◌>>=◌}
 use Rattle.std.specs.Float.Ieee.{round}
 use Rattle.request.specs.Text.{is_digit, digits, formed, until}
 

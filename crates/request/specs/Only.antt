@@ -1,5 +1,6 @@
 -- What `request_instant` says of a request: the one instant at which a clock in UTC shows its date and time.
-use Rattle.numbers.specs.Prelude.{ℤ, pos, ◌≡◌}
+use Rattle.std.specs.Prelude.{◌≡◌}
+use Rattle.numbers.specs.Prelude.{ℤ, pos}
 use Rattle.calendar.specs.{Calendar.{weekday_of, day_number}, Civil.{CivilOf}, declared.civil.{Civil.TheVariants.{Shown}, Reading.{Reading}}}
 use Rattle.request.specs.Clock.{Date, Time}
 

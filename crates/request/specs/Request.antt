@@ -1,6 +1,7 @@
 -- S-1, the request: a sentence of a receiver or a plain line, its refusals in their order, and what it means.
-use Rattle.numbers.specs.Prelude.{ℕ, ◌+◌, ◌-◌, ◌/◌, ◌%◌, eqb, ltb, leb, length, take, drop, get_or, Bool, true, false, ◌&&◌, ◌||◌, not, List, [], ◌∷◌}
-use Rattle.numbers.specs.{Answer.{Answer, found, failed, if◌then◌else◌}, Reply.{Reply, given, refused, refusal, plain, demand, ◌>>=◌, ◌>>◌}}
+use Rattle.std.specs.Prelude.{◌+◌, ◌-◌, ◌/◌, ◌%◌, ◌&&◌, ◌||◌, ◌∷◌, if◌then◌else◌}
+use Rattle.numbers.specs.Prelude.{ℕ, eqb, ltb, leb, length, take, drop, get_or, Bool, true, false, not, List, []}
+use Rattle.numbers.specs.{Answer.{Answer, found, failed}, Reply.{Reply, given, refused, refusal, plain, demand, ◌>>=◌, ◌>>◌}}
 use Rattle.request.specs.{Clock.{When, utc, time_of, date_of, when_of, instant_at}, Number.{Fraction, angle_of, side_of, degrees_of, nearest_to}}
 use Rattle.request.specs.{Text.{every, formed, count, xors, behind, field, word, past_word, next_word, line_of}, declared.read.Fix.{Fix}}
 use Rattle.numbers.specs.Answer as A

@@ -1,5 +1,6 @@
 -- Bytes of a line: what they are, and the fields and words that they make.
-use Rattle.numbers.specs.{Answer.{if◌then◌else◌}, Prelude.{ℕ, zero, suc, ◌+◌, ◌-◌, eqb, leb, length, take, drop, get_or, Bool, true, false, ◌&&◌, ◌||◌, List, [], ◌∷◌}}
+use Rattle.std.specs.Prelude.{if◌then◌else◌, ◌+◌, ◌-◌, ◌&&◌, ◌||◌, ◌∷◌}
+use Rattle.numbers.specs.Prelude.{ℕ, zero, suc, eqb, leb, length, take, drop, get_or, Bool, true, false, List, []}
 use Rattle.std.specs.Int.Bits.{bit_xor}
 
 -- 0 to 9

@@ -1,5 +1,6 @@
 -- What the code's answers say, and what its inner functions say to each other.
-use Rattle.numbers.specs.{Answer.{Answer, found, if◌then◌else◌}, Prelude.{ℕ, ◌-◌, ◌*◌, ◌/◌, ◌^◌, ◌<◌, eqb, leb, Float, ℤ, Bool, ◌&&◌, ◌||◌}, Reply.{Reply, given, refused, ◌>>=◌}}
+use Rattle.std.specs.Prelude.{if◌then◌else◌, ◌-◌, ◌*◌, ◌/◌, ◌^◌, ◌<◌, ◌&&◌, ◌||◌}
+use Rattle.numbers.specs.{Answer.{Answer, found}, Prelude.{ℕ, eqb, leb, Float, ℤ, Bool}, Reply.{Reply, given, refused, ◌>>=◌}}
 use Rattle.request.specs.{Clock.{Date, Time, is_date, is_time, day_of, second_of, signed_of}, Number.{Size}, Text.{is_digit, is_capital}, declared.clock.{Instant.{Instant}, Whole.{Whole}}}
 use Rattle.request.specs.declared.{degrees.{Degrees.{Degrees}, Sided.{Sided}, Sized.{Sized}}, read.{Asked.{Asked}, Fix.{Fix}}}
 use Rattle.numbers.specs.Answer as A

@@ -1,6 +1,5 @@
 // Dates, times of day and instants of a request.
-ghost use mathlib.Core.{Path.{◌≡◌}, Bool.{true}};
-ghost use Rattle.std.specs.Prelude.{◌≤◌, ◌<◌};
+ghost use Rattle.std.specs.Prelude.{◌≡◌, ◌≤◌, ◌<◌, true};
 ghost use Rattle.calendar.specs.{Calendar.{days_of_months}, Moments.{instant_of}};
 ghost use Rattle.request.specs.{Text.{formed}, Clock.{is_time, time_of, full_year, date_of, moment_form, moment_of, seconds_of, when_of, day_of, second_of, instant_at}, Request.{at}, Told.{shown, told_whole, told_instant, timely, dated, is_month, signed_to, Below}};
 
@@ -11,13 +10,13 @@ use calendar::rule::{When, day_of};
 use calendar::year::is_leap;
 use numbers::refusal::{Refusal, refuse};
 
-#[derive(Drop)]
+#[derive(Clone, Copy)]
 pub enum Whole {
     Is(u64),
     Refused(Refusal),
 }
 
-#[derive(Drop)]
+#[derive(Clone, Copy)]
 pub enum Instant {
     Is(i64),
     Refused(Refusal),

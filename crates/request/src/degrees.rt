@@ -8,20 +8,20 @@ use crate::text::{find, formed};
 use numbers::refusal::{Refusal, refuse};
 
 // A size: num / den.
-#[derive(Drop)]
+#[derive(Clone, Copy)]
 pub enum Sized {
     Is { num: u64, den: u64 },
     Refused(Refusal),
 }
 
 // The side of a size: is it the minus side?
-#[derive(Drop)]
+#[derive(Clone, Copy)]
 pub enum Sided {
     Is(bool),
     Refused(Refusal),
 }
 
-#[derive(Drop)]
+#[derive(Clone, Copy)]
 pub enum Degrees {
     Are(f32),
     Refused(Refusal),

@@ -1,6 +1,6 @@
 // A fraction of whole numbers to the nearest f32, in one rounding: 24 digits of the quotient and its remainder are worked out exactly.
-ghost use mathlib.Core.{Path.{◌≡◌}, Bool.{false}};
-ghost use Prim.Native.Nat.{◌*◌, ◌/◌, ◌≤◌, ◌<◌, compare};
+ghost use Rattle.std.specs.Prelude.{◌≡◌, ◌*◌, ◌/◌, ◌≤◌, ◌<◌, false};
+ghost use Prim.Native.Nat.{compare};
 ghost use Rattle.std.specs.Float.{binary32};
 ghost use Rattle.std.specs.Float.Ieee.{nearest, units, round};
 ghost use Rattle.request.specs.Number.{nearest_to};

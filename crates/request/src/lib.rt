@@ -1,4 +1,6 @@
 // A request, document 03's S-1: a sentence of a receiver or a plain line, as the fix and the instant that are asked about.
+#![tactic(auto)]
+
 pub mod clock;
 pub mod degrees;
 pub mod fraction;

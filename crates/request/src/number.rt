@@ -5,7 +5,7 @@ ghost use Rattle.request.specs.Number.{digit_of, value_from, part_of, is_tail, h
 use crate::text::every;
 
 // A number, and ten for each of its digits.
-#[derive(Drop)]
+#[derive(Clone, Copy)]
 pub struct Digits {
     pub value: u64,
     pub scale: u64,

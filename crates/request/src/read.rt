@@ -9,14 +9,14 @@ use crate::text::without;
 use numbers::refusal::{Refusal, refuse};
 
 // Degrees, and seconds from 1970.
-#[derive(Drop)]
+#[derive(Clone, Copy)]
 pub struct Fix {
     pub lat: f32,
     pub lon: f32,
     pub instant: i64,
 }
 
-#[derive(Drop)]
+#[derive(Clone, Copy)]
 pub enum Asked {
     Fix(Fix),
     Refused(Refusal),

@@ -1,8 +1,5 @@
 // Bytes of a line.
-ghost use mathlib.Core.{Path.{◌≡◌}, Bool.{◌||◌}};
-ghost use Rattle.std.specs.Prelude.{◌+◌, ◌≤◌};
-ghost use lib.{Dec.{eqb}, ListN.{length, take, drop}};
-ghost use Rattle.numbers.specs.Answer.{if◌then◌else◌};
+ghost use Rattle.std.specs.Prelude.{◌≡◌, ◌+◌, ◌≤◌, ◌||◌, eqb, length, take, drop, if◌then◌else◌};
 ghost use Rattle.request.specs.{Text.{is_digit, every, formed, count, xors, until, unblanked, unended}, Told.{taken, likened}};
 
 fn is_digit(byte: u8) -> bool
