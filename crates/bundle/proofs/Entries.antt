@@ -3,7 +3,7 @@ use Rattle.numbers.proofs.Prelude.{ℕ, zero, suc, ◌+◌, ◌-◌, ◌*◌, �
 use Rattle.numbers.proofs.Prelude.{List·getD-append, List·getD-eq-default, drop-drop, get_or-drop, get_or-append-add, Bool, true, false, ◌&&◌, List, [], ◌∷◌, ◌++◌, map, ◌≡◌, refl, sym, ap, subst, ◌∙◌}
 use Rattle.numbers.proofs.Prelude.{arith}
 use Rattle.numbers.{proofs.{Replies.{demanded}, Tests.{both}}, specs.{Answer.{found, failed, if◌then◌else◌}, Reply.{given, refused, refusal, plain}, declared.refusal.Refusal.{Refusal}}}
-use mathlib.Core.Bool.{and-false}
+use Rattle.std.proofs.Math.Bool.{and-false}
 use lib.Bits.{bit_xor}
 use Rattle.bundle.specs.{Bundle.{xored, word_at, agrees, magic, is_bundle, is_index, is_data, is_end, head_of, is_entry, seek_of, find_of}, declared.{find.File.{File}, head.Head.{Head}}}
 

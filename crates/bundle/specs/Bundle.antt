@@ -1,6 +1,7 @@
 -- S-2, a bundle: the TZif files of all zones, in the form of Android's `tzdata`.
-use Rattle.numbers.specs.Prelude.{ℕ, zero, suc, ◌+◌, ◌-◌, ◌*◌, ◌/◌, ◌%◌, ◌^◌, eqb, leb, length, drop, get_or, Bool, true, ◌&&◌, List, [], ◌∷◌}
-use Rattle.numbers.specs.{Answer.{Answer, found, failed, if◌then◌else◌}, Reply.{Reply, given, refusal, plain, demand, ◌or_else◌, ◌>>=◌, ◌>>◌}}
+use Rattle.std.specs.Prelude.{◌+◌, ◌-◌, ◌*◌, ◌/◌, ◌%◌, ◌^◌, ◌&&◌, ◌∷◌, if◌then◌else◌}
+use Rattle.numbers.specs.Prelude.{ℕ, zero, suc, eqb, leb, length, drop, get_or, Bool, true, List, []}
+use Rattle.numbers.specs.{Answer.{Answer, found, failed}, Reply.{Reply, given, refusal, plain, demand, ◌or_else◌, ◌>>=◌, ◌>>◌}}
 use Rattle.std.specs.Int.Bits.{bit_xor}
 use Rattle.bundle.specs.declared.{find.File.{File}, head.Head.{Head}}
 

@@ -1,5 +1,6 @@
 -- What `found_first` says of a bundle: where a zone's file lies.
-use Rattle.numbers.specs.{Prelude.{ℕ, ◌+◌, ◌*◌, ◌≤◌, ◌<◌, length, true, false, List, ◌≡◌}, Reply.{given}}
+use Rattle.std.specs.Prelude.{◌+◌, ◌*◌, ◌≤◌, ◌<◌, ◌≡◌}
+use Rattle.numbers.specs.{Prelude.{ℕ, length, true, false, List}, Reply.{given}}
 use Rattle.bundle.specs.{Bundle.{word_at, head_of, is_entry}, declared.{find.File.{File}, head.Head.{Head}}}
 
 -- an entry of the index has the name, and none before it has

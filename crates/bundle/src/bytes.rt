@@ -1,6 +1,5 @@
 // Bytes of a bundle.
-ghost use mathlib.Core.{Path.{◌≡◌}, List.{◌++◌, map}};
-ghost use Rattle.std.specs.Prelude.{◌+◌, ◌≤◌, ◌<◌, length, get_or, drop};
+ghost use Rattle.std.specs.Prelude.{◌≡◌, ◌++◌, map, ◌+◌, ◌≤◌, ◌<◌, length, get_or, drop};
 ghost use Rattle.bundle.specs.Bundle.{word_at, agrees, xored};
 
 fn wide(byte: u8) -> u64
@@ -23,7 +22,7 @@ pub(crate) fn word_at(bundle: &[u8], place: usize) -> u64
 
 // A byte of a name that stands in two parts under a mask; 0 behind it.
 pub(crate) fn byte_of(prefix: &[u8], id: &[u8], at: usize, mask: u8) -> u8
-    ensures { result ≡ get_or (map (xored mask) (prefix.now ++ (λ x. x.now) id.entry)) at 0 }
+    ensures { result ≡ get_or (map (xored mask) (prefix.now ++ id.now)) at 0 }
 {
     let size = prefix.len();
     if at < size {
@@ -46,7 +45,7 @@ pub(crate) fn agrees(
     mask: u8,
 ) -> bool
     requires { place + size ≤ length bundle.now }
-    ensures { result ≡ agrees size (drop place bundle.now) (map (xored mask) (prefix.now ++ (λ x. x.now) id.entry)) }
+    ensures { result ≡ agrees size (drop place bundle.now) (map (xored mask) (prefix.now ++ id.now)) }
 {
     let mut at: usize = 0;
     let mut left = size;

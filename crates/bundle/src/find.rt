@@ -1,6 +1,5 @@
 // A zone's file in a bundle. Its name comes in two parts under a mask, so that nobody needs room to join them as they stand in a map.
-ghost use mathlib.Core.{Path.{◌≡◌}, List.{◌++◌, map}};
-ghost use Rattle.std.specs.Prelude.{◌+◌, ◌*◌, ◌≤◌, ◌<◌, length, get_or};
+ghost use Rattle.std.specs.Prelude.{◌≡◌, ◌++◌, map, ◌+◌, ◌*◌, ◌≤◌, ◌<◌, length, get_or};
 ghost use Rattle.bundle.specs.{Bundle.{is_entry, seek_of, find_of, xored}, Told.{told_sought, told}};
 
 use crate::bytes::{agrees, byte_of, word_at};
@@ -8,20 +7,20 @@ use crate::head::{Headed, read_head};
 use numbers::refusal::{Refusal, plain, refuse};
 
 // Where a file begins in the bundle, and its length.
-#[derive(Drop)]
+#[derive(Clone, Copy)]
 pub struct File {
     pub start: u64,
     pub length: u64,
 }
 
-#[derive(Drop)]
+#[derive(Clone, Copy)]
 pub enum Found {
     At(File),
     Refused(Refusal),
 }
 
 // The place of an entry.
-#[derive(Drop)]
+#[derive(Clone, Copy)]
 pub enum Sought {
     Entry(usize),
     Nothing,
@@ -29,7 +28,7 @@ pub enum Sought {
 
 fn is_entry(bundle: &[u8], place: usize, prefix: &[u8], id: &[u8], mask: u8) -> bool
     requires { place + 40 ≤ length bundle.now }
-    ensures { result ≡ is_entry bundle.now (map (xored mask) (prefix.now ++ (λ x. x.now) id.entry)) place }
+    ensures { result ≡ is_entry bundle.now (map (xored mask) (prefix.now ++ id.now)) place }
 {
     if 40 < prefix.len() {
         return false;
@@ -64,8 +63,8 @@ fn is_here(
     probe: usize,
     byte: u8,
 ) -> bool
-    requires { (place + 40 ≤ length bundle.now) × (probe < 40) × (byte ≡ get_or (map (xored mask) (prefix.now ++ (λ x. x.now) id)) probe 0) }
-    ensures { result ≡ is_entry bundle.now (map (xored mask) (prefix.now ++ (λ x. x.now) id.entry)) place }
+    requires { (place + 40 ≤ length bundle.now) × (probe < 40) × (byte ≡ get_or (map (xored mask) (prefix.now ++ id.now)) probe 0) }
+    ensures { result ≡ is_entry bundle.now (map (xored mask) (prefix.now ++ id.now)) place }
 {
     if bundle[place + probe] != byte {
         return false;
@@ -76,7 +75,7 @@ fn is_here(
 // The first entry of the name, of so many from a place on.
 fn seek(bundle: &[u8], place: usize, count: usize, prefix: &[u8], id: &[u8], mask: u8) -> Sought
     requires { place + 52 * count ≤ length bundle.now }
-    ensures { told_sought result ≡ seek_of count bundle.now (map (xored mask) (prefix.now ++ (λ x. x.now) id.entry)) place }
+    ensures { told_sought result ≡ seek_of count bundle.now (map (xored mask) (prefix.now ++ id.now)) place }
 {
     let probe = probe_of(prefix, id);
     let byte = byte_of(prefix, id, probe, mask);
@@ -94,7 +93,7 @@ fn seek(bundle: &[u8], place: usize, count: usize, prefix: &[u8], id: &[u8], mas
 
 // The file of a zone whose name is the prefix and the id, joined, each byte XOR the mask.
 pub fn find(bundle: &[u8], prefix: &[u8], id: &[u8], mask: u8) -> Found
-    ensures { told result ≡ find_of bundle.now (map (xored mask) (prefix.now ++ (λ x. x.now) id.entry)) }
+    ensures { told result ≡ find_of bundle.now (map (xored mask) (prefix.now ++ id.now)) }
 {
     let head = match read_head(bundle) {
         Headed::Head(head) => head,

@@ -6,14 +6,14 @@ use crate::bytes::{agrees, word_at};
 use numbers::refusal::{Refusal, refuse};
 
 // Where the index begins, and where the data begins and ends.
-#[derive(Drop)]
+#[derive(Clone, Copy)]
 pub struct Head {
     pub index: u64,
     pub start: u64,
     pub end: u64,
 }
 
-#[derive(Drop)]
+#[derive(Clone, Copy)]
 pub enum Headed {
     Head(Head),
     Refused(Refusal),
