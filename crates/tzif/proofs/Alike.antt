@@ -62,9 +62,9 @@ module _ (file other : List ℕ) (block : Block) (wide : 4 ≤ block.width) (sam
   unfolding check_index
   index_checked i l = rw (same (indices_of block + i) (omega arith) (omega arith)) refl
 
-  pub nul_end_lem : nul_end file block ≡ nul_end other block
+  pub nul_end_same : nul_end file block ≡ nul_end other block
   unfolding nul_end
-  nul_end_lem = last_same (is_nul file block) (is_nul other block) block.charcnt (λ k l. ap (λ (b : ℕ). eqb b 0) (same (designations_of block + k) (omega arith) (omega arith)))
+  nul_end_same = last_same (is_nul file block) (is_nul other block) block.charcnt (λ k l. ap (λ (b : ℕ). eqb b 0) (same (designations_of block + k) (omega arith) (omega arith)))
 
   type_checked : (nul i : ℕ) → i < block.typecnt → check_type file block nul i ≡ check_type other block nul i
   unfolding check_type
@@ -94,16 +94,16 @@ module _ (file other : List ℕ) (block : Block) (wide : 4 ≤ block.width) (sam
   unfolding check_standard
   standard_checked i l = rw (same (standards_of block + i) (omega arith) (omega arith)) refl
 
-  is_standard_lem : (i : ℕ) → is_standard file block i ≡ is_standard other block i
+  is_standard_same : (i : ℕ) → is_standard file block i ≡ is_standard other block i
   unfolding is_standard
-  is_standard_lem i = go (ltb i block.isstdcnt) refl where
+  is_standard_same i = go (ltb i block.isstdcnt) refl where
     go : (t : Bool) → ltb i block.isstdcnt ≡ t → (t && eqb (octet file (standards_of block + i)) 1) ≡ (t && eqb (octet other (standards_of block + i)) 1)
     go true e = ap (λ (b : ℕ). eqb b 1) (same (standards_of block + i) (omega arith) (omega (arith, ltb-true i block.isstdcnt e)))
     go false e = refl
 
   ut_checked : (i : ℕ) → i < block.isutcnt → check_ut file block i ≡ check_ut other block i
   unfolding check_ut
-  ut_checked i l = rw (is_standard_lem i, same (uts_of block + i) (omega arith) (omega arith)) refl
+  ut_checked i l = rw (is_standard_same i, same (uts_of block + i) (omega arith) (omega arith)) refl
 
   leaps_checked : (fourth : Bool) → check_leaps file fourth block ≡ check_leaps other fourth block
   unfolding check_leaps
@@ -121,4 +121,4 @@ module _ (file other : List ℕ) (block : Block) (wide : 4 ≤ block.width) (sam
   unfolding check_block
   block_checked fourth = λ i. part_checked P.Times i >> (part_checked P.Indices i >> (parts i >> (leaps_checked fourth i >> (part_checked P.Standards i >> part_checked P.Uts i)))) where
     parts : check_part file block (P.Types (nul_end file block)) ≡ check_part other block (P.Types (nul_end other block))
-    parts = λ i. part_checked (P.Types (nul_end_lem i)) i
+    parts = λ i. part_checked (P.Types (nul_end_same i)) i

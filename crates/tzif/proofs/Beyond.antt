@@ -89,9 +89,9 @@ module _ (file other : List ℕ) (from : ℕ) (b : Beyond file other from) where
           ap (λ (k : ℕ). run_to 0 other (designations_of block + k) (block.charcnt - k)) index
 
     -- its abbreviation stands behind it too
-    pub type_behind_lem : (type : ℕ) → from ≤ (type_in file block type).place
+    pub type_place_behind : (type : ℕ) → from ≤ (type_in file block type).place
     unfolding type_in
-    type_behind_lem type = omega arith
+    type_place_behind type = omega arith
 
     pub behind_same : (n : ℕ) → type_behind file block n ≡ type_behind other block n
     unfolding type_behind

@@ -1,5 +1,5 @@
 -- The reply to a call, by how far it came. Assumes nothing.
-use Rattle.numbers.{proofs.Prelude.{ℕ, ◌+◌, ◌-◌, ◌≤◌, ◌<◌, le-leb, lt-leb, ℤ, length, List, [], ◌≡◌, ap, sub-zero, arith}, specs.Lists.{zeros, padded}}
+use Rattle.numbers.{proofs.Prelude.{ℕ, ◌+◌, ◌-◌, ◌≤◌, ◌<◌, le-leb, lt-leb, ℤ, List, [], ◌≡◌, ap, sub-zero, arith}, specs.Lists.{zeros, padded}}
 use Rattle.tzif.specs.{Local.{by_table, replied, named, lent, local_time_by, local_time}, Number.{lift}, Reply.{given, refused, refusal, ◌>>=◌}, Text.{slice}, Zone.{read_zone}}
 use Rattle.tzif.specs.declared.{local.{Found.{Found}, LocalTime.{LocalTime}}, refusal.Refusal.{Refusal}, zone.Zone.{Zone}}
 use Rattle.tzif.specs.declared.local.Answer.TheVariants as A

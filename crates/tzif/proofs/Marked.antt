@@ -83,9 +83,9 @@ held file p h = go (ltb p (length file)) refl where
   go false e = absurd (h (List·getD-eq-default file 0 {n = p} (ltb-false p (length file) e)))
 
 -- a header's counts
-block_at_lem : (file other : List ℕ) (wide : Bool) (at : ℕ) → ((p : ℕ) → at + 20 ≤ p → p < at + 44 → octet file p ≡ octet other p) → block_at file wide at ≡ block_at other wide at
+block_at_same : (file other : List ℕ) (wide : Bool) (at : ℕ) → ((p : ℕ) → at + 20 ≤ p → p < at + 44 → octet file p ≡ octet other p) → block_at file wide at ≡ block_at other wide at
 unfolding block_at
-block_at_lem file other wide at same = λ i. record {
+block_at_same file other wide at same = λ i. record {
   width = octets wide;
   isutcnt = count (at + 20) (omega arith) (omega arith) i;
   isstdcnt = count (at + 24) (omega arith) (omega arith) i;
@@ -213,14 +213,14 @@ module _ (file : List ℕ) (h : PlainFour file) where
   first_read : read_block rfc9636 file false 0 ≡ read_block rfc9636 other false 0
   unfolding second_version
   first_read =
-      block_read false 0 (begun 0 (λ p a b. elsewhere p (λ e. omega arith) (λ e. omega (arith, far)))) first_fits (block_at_lem file other false 0
+      block_read false 0 (begun 0 (λ p a b. elsewhere p (λ e. omega arith) (λ e. omega (arith, far)))) first_fits (block_at_same file other false 0
       (λ p a b. elsewhere p (λ e. omega arith) (λ e. omega (arith, far)))) h.one (λ p a b. elsewhere p (λ e. omega arith) (λ e. omega arith))
 
   second_read : read_block rfc9636 file true (end_of (first_block file)) ≡ read_block rfc9636 other true (end_of (first_block file))
   unfolding second_version
   second_read =
       block_read true (end_of (first_block file)) (begun (end_of (first_block file)) (λ p a b. elsewhere p (λ e. omega (arith, far)) (λ e. omega arith))) second_fits
-      (block_at_lem file other true (end_of (first_block file)) (λ p a b. elsewhere p (λ e. omega (arith, far)) (λ e. omega arith))) h.two
+      (block_at_same file other true (end_of (first_block file)) (λ p a b. elsewhere p (λ e. omega (arith, far)) (λ e. omega arith))) h.two
       (λ p a b. elsewhere p (λ e. omega (arith, far)) (λ e. omega arith))
 
   -- ---- the whole file

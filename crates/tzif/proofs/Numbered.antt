@@ -1,5 +1,5 @@
 -- Which numbers a call can be refused with. Assumes nothing.
-use Rattle.numbers.proofs.Prelude.{ℕ, zero, suc, eqb, leb, ℤ, length, Bool, true, false, ◌&&◌, List, [], ◌∷◌, ◌≡◌, refl, subst, arith}
+use Rattle.numbers.proofs.Prelude.{ℕ, zero, suc, eqb, leb, ℤ, Bool, true, false, ◌&&◌, List, [], ◌∷◌, ◌≡◌, refl, subst, arith}
 use Rattle.numbers.{proofs.Refusals.{Listed}, specs.{Answer.{if◌then◌else◌}, Lists.{zeros, padded}}}
 use Rattle.tzif.specs.{Block.{end_of}, Check.{is_expiry, nul_end, check_time, check_index, check_type, check_leap, check_leaps, check_standard, check_ut}}
 use Rattle.tzif.specs.{Header.{rfc9636, is_fourth, check_header, block_at, check_counts, check_block, read_block}, Local.{Replied, replied, lent, local_time_by, local_time}, Number.{octet}}

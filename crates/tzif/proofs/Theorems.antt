@@ -1,11 +1,11 @@
 -- What the promise of `local_time` means. Assumes nothing.
-use Rattle.numbers.proofs.Prelude.{ℕ, zero, suc, ◌+◌, ◌-◌, ◌<◌, ne_eqb, lt-ltb, le-ltb, leb-true, leb-false, eqb, ltb, leb, ℤ, length, lt_z, Bool, true, false, ◌&&◌, List, ◌↔◌, ◌≡◌, refl, sym, ap}
+use Rattle.numbers.proofs.Prelude.{ℕ, zero, suc, ◌+◌, ◌-◌, ◌<◌, ne_eqb, lt-ltb, le-ltb, leb-true, leb-false, eqb, ltb, leb, ℤ, lt_z, Bool, true, false, ◌&&◌, List, ◌↔◌, ◌≡◌, refl, sym, ap}
 use Rattle.numbers.{proofs.Prelude.{◌∙◌, w64, SFits, arith}, specs.{Answer.{if◌then◌else◌}, Lists.{zeros, padded}}}
 use Rattle.tzif.proofs.{Lasts.{last_within, last_holds, last_fails, last_same}, Laws.{Least, least_fault, fault_of_least}, Signs.{time_is_signed, signed_fits, lift_keeps}}
 use Rattle.tzif.specs.{Block.{time_place, indices_of}, Header.{rfc9636, read_block}, Last.{Octets, transition_time, LastNotAfter, by_transition, by_type_0}}
 use Rattle.tzif.specs.{Local.{type_behind, is_after_last, by_table, Replied, replied, lent, local_time_by, local_time}, Number.{octet, lift}, Reply.{Reply, given, refused, refusal, each, ◌>>=◌}}
 use Rattle.tzif.specs.{Text.{slice}, Times.{time_in, transitions_of, last_with, last_not_after, Rises}, Zone.{read_zone}, declared.{block.Block.{Block}, header.Reading.{Reading}}}
-use Rattle.tzif.specs.{declared.{local.{Answer.{Answer}, Found.{Found}, Local.{Local}, LocalTime.{LocalTime}}, refusal.Refusal.{Refusal}, zone.Read.{Read}}, inner.Told.{told_block, told_zone}}
+use Rattle.tzif.specs.{declared.{local.{Answer.{Answer}, Local.{Local}, LocalTime.{LocalTime}}, refusal.Refusal.{Refusal}, zone.Read.{Read}}, inner.Told.{told_block, told_zone}}
 use Rattle.tzif.specs.declared.header.Reading.TheVariants as R
 use Rattle.tzif.specs.declared.zone.Read.TheVariants as Z
 use Rattle.tzif.specs.declared.local.Answer.TheVariants as A

@@ -1,5 +1,6 @@
 -- A data block's parts, as RFC 8536 section 3.2 has them, one behind the other.
-use Rattle.numbers.specs.Prelude.{ℕ, ◌+◌, ◌*◌, ◌≤◌}
+use Rattle.std.specs.Prelude.{◌+◌, ◌*◌, ◌≤◌}
+use Rattle.numbers.specs.Prelude.{ℕ}
 use Rattle.tzif.specs.declared.block.Block.{Block}
 
 -- transition times: timecnt of them

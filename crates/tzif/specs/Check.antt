@@ -1,5 +1,6 @@
 -- The rules of RFC 8536 section 3.2, and of RFC 9636 for version 4, for one entry of each part of a data block, with their refusals.
-use Rattle.numbers.specs.{Answer.{if◌then◌else◌}, Prelude.{ℕ, ◌+◌, ◌-◌, ◌*◌, ◌^◌, eqb, ltb, leb, Bool, ◌&&◌, ◌||◌, not, List}}
+use Rattle.std.specs.Prelude.{if◌then◌else◌, ◌+◌, ◌-◌, ◌*◌, ◌^◌, ◌&&◌, ◌||◌}
+use Rattle.numbers.specs.Prelude.{ℕ, eqb, ltb, leb, Bool, not, List}
 use Rattle.tzif.specs.{Block.{time_place, indices_of, types_of, designations_of, leaps_of, standards_of, uts_of}, Number.{octet, be32, raised}, Reply.{Reply, given, refusal, demand, each, ◌>>◌}}
 use Rattle.tzif.specs.{Times.{time_in, transitions_of, occurrences_of, last_with, last_not_after}, declared.block.Block.{Block}}
 

@@ -1,5 +1,6 @@
 -- A header with its data block, as RFC 8536 and RFC 9636 section 3 have them: refusals 40 to 57 in file order.
-use Rattle.numbers.specs.{Answer.{if◌then◌else◌}, Prelude.{ℕ, ◌+◌, ◌^◌, ◌≤◌, ◌<◌, eqb, leb, length, Bool, false, ◌&&◌, ◌||◌, not, List, ◌≡◌}}
+use Rattle.std.specs.Prelude.{if◌then◌else◌, ◌+◌, ◌^◌, ◌≤◌, ◌<◌, ◌&&◌, ◌||◌, ◌≡◌}
+use Rattle.numbers.specs.Prelude.{ℕ, eqb, leb, length, Bool, false, not, List}
 use Rattle.tzif.specs.{Block.{end_of}, Check.{nul_end, check_leaps}, Number.{octet, be32, octets}, Part.{check_part}, Reply.{Reply, given, refusal, demand, ◌>>◌}, declared.block.Block.{Block}}
 use Rattle.tzif.specs.declared.part.Part.TheVariants as P
 

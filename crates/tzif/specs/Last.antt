@@ -1,5 +1,6 @@
 -- What `last_not_after_lem` says of a file: the transition that answers for an instant.
-use Rattle.numbers.specs.Prelude.{ℕ, ◌+◌, ◌<◌, ℤ, get_or, lt_z, true, false, List, ◌≡◌}
+use Rattle.std.specs.Prelude.{◌+◌, ◌<◌, ◌≡◌}
+use Rattle.numbers.specs.Prelude.{ℕ, ℤ, get_or, lt_z, true, false, List}
 use Rattle.tzif.specs.{Block.{time_place, indices_of}, Number.{octet, signed_at}, declared.block.Block.{Block}}
 
 -- a file's bytes are below 256

@@ -1,8 +1,9 @@
 -- Local time from a file: offset, daylight flag and abbreviation by its transitions.
-use Rattle.numbers.specs.{Answer.{if◌then◌else◌}, Lists.{zeros, padded}, Prelude.{ℕ, ◌+◌, ◌-◌, ◌≤◌, ◌<◌, eqb, ltb, leb, ℤ, length, Bool, ◌&&◌, List, w32, to_z}}
+use Rattle.std.specs.Prelude.{if◌then◌else◌, ◌+◌, ◌-◌, ◌≤◌, ◌<◌, ◌&&◌}
+use Rattle.numbers.specs.{Lists.{zeros, padded}, Prelude.{ℕ, eqb, ltb, leb, ℤ, length, Bool, List, w32, to_z}}
 use Rattle.tzif.specs.{Block.{Within, indices_of, designations_of}, Check.{type_place}, Header.{Rfc, rfc9636}, Number.{octet, be32, lift}, Reply.{Reply, given, refused, refusal, ◌>>=◌}}
 use Rattle.tzif.specs.{Text.{run_to, slice}, Times.{time_in, transitions_of, last_not_after, Rises}, Zone.{read_zone_by}, declared.{block.Block.{Block}, local.{Answer.{Answer}, Found.{Found}}}}
-use Rattle.tzif.specs.declared.local.{Local.{Local}, LocalTime.{LocalTime}}
+use Rattle.tzif.specs.declared.local.{LocalTime.{LocalTime}}
 use Rattle.tzif.specs.declared.local.Answer.TheVariants as A
 use Rattle.tzif.specs.declared.local.LocalTime.TheVariants as L
 

@@ -1,5 +1,6 @@
 -- Texts in the file, which end at a NUL or a newline; and a text at the start of a lent one.
-use Rattle.numbers.specs.{Answer.{if◌then◌else◌}, Prelude.{ℕ, zero, suc, ◌+◌, ◌≤◌, eqb, ltb, take, drop, Bool, ◌||◌, List, ◌≡◌}}
+use Rattle.std.specs.Prelude.{if◌then◌else◌, ◌+◌, ◌≤◌, ◌||◌, ◌≡◌}
+use Rattle.numbers.specs.Prelude.{ℕ, zero, suc, eqb, ltb, take, drop, Bool, List}
 use Rattle.tzif.specs.Number.{octet}
 
 -- the first index below a number of which the test holds; the number where there is none

@@ -1,5 +1,6 @@
 -- Times at equal distances in the file: a block's transition times, its leap-second occurrences; and the last of them that is not after an instant.
-use Rattle.numbers.specs.{Answer.{if◌then◌else◌}, Prelude.{ℕ, zero, suc, ◌+◌, ◌*◌, ◌≤◌, ◌<◌, leb, Bool, List}}
+use Rattle.std.specs.Prelude.{if◌then◌else◌, ◌+◌, ◌*◌, ◌≤◌, ◌<◌}
+use Rattle.numbers.specs.Prelude.{ℕ, zero, suc, leb, Bool, List}
 use Rattle.tzif.specs.{Block.{leaps_of}, Number.{time_at}, declared.{block.Block.{Block}, times.Times.{Times}}}
 
 -- the time at an index, more 2 ^ 63

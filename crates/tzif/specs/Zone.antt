@@ -1,5 +1,6 @@
 -- A whole file, as RFC 8536 and RFC 9636 section 3 have it: refusals 1 and 40 to 59 in file order.
-use Rattle.numbers.specs.{Answer.{if◌then◌else◌}, Limits.{largest_file}, Prelude.{ℕ, ◌+◌, ◌-◌, eqb, ltb, leb, length, Bool, true, false, ◌&&◌, List}}
+use Rattle.std.specs.Prelude.{if◌then◌else◌, ◌+◌, ◌-◌, ◌&&◌}
+use Rattle.numbers.specs.{Limits.{largest_file}, Prelude.{ℕ, eqb, ltb, leb, length, Bool, true, false, List}}
 use Rattle.tzif.specs.{Block.{end_of}, Header.{Rfc, rfc9636, read_block}, Number.{octet}, Reply.{Reply, given, refusal, demand, ◌>>=◌, ◌>>◌}, Text.{run_to}, declared.block.Block.{Block}}
 use Rattle.tzif.specs.declared.zone.Zone.{Zone}
 

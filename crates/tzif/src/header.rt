@@ -12,7 +12,7 @@ use crate::part::{Part, check_part};
 use crate::place::end_of;
 use crate::refusal::{Checked, Refusal, both, demand};
 
-#[derive(Drop)]
+#[derive(Clone, Copy)]
 pub enum Reading {
     Block(Block),
     Refused(Refusal),

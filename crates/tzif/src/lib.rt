@@ -1,4 +1,6 @@
 // TZif files as RFC 8536 and RFC 9636 have them: headers and data blocks with all their checks, the footer, and local time by the transitions.
+#![tactic(auto)]
+
 pub mod block;
 mod check;
 pub mod header;

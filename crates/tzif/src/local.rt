@@ -14,7 +14,7 @@ use crate::zone::{Read, read_zone};
 use numbers::point::bits_of;
 
 // A local time whose abbreviation stands in the file: seconds east of UT, 1 for daylight time and else 0, the place and length of the abbreviation.
-#[derive(Drop)]
+#[derive(Clone, Copy)]
 pub struct Found {
     pub offset: i32,
     pub daylight: u8,
@@ -22,21 +22,21 @@ pub struct Found {
     pub length: usize,
 }
 
-#[derive(Drop)]
+#[derive(Clone, Copy)]
 pub enum Answer {
     Found(Found),
     Unknown,
 }
 
 // A local time whose abbreviation stands at the start of the lent text, so long.
-#[derive(Drop)]
+#[derive(Clone, Copy)]
 pub struct Local {
     pub offset: i32,
     pub daylight: u8,
     pub length: usize,
 }
 
-#[derive(Drop)]
+#[derive(Clone, Copy)]
 pub enum LocalTime {
     Local(Local),
     Unknown,

@@ -6,7 +6,7 @@ use crate::block::Block;
 use crate::number::time_at;
 use crate::place::leaps_of;
 
-#[derive(Drop)]
+#[derive(Clone, Copy)]
 pub struct Times {
     pub begin: usize,
     pub stride: usize,

@@ -11,7 +11,7 @@ use crate::text::run_to;
 use numbers::limits::LARGEST_FILE;
 
 // What the checks of a file leave: its version's octet, the block that answers, the place and length of its TZ string.
-#[derive(Drop)]
+#[derive(Clone, Copy)]
 pub struct Zone {
     pub version: usize,
     pub block: Block,
@@ -19,13 +19,13 @@ pub struct Zone {
     pub size: usize,
 }
 
-#[derive(Drop)]
+#[derive(Clone, Copy)]
 pub enum Read {
     Zone(Zone),
     Refused(Refusal),
 }
 
-#[derive(Drop)]
+#[derive(Clone, Copy)]
 pub enum Footer {
     // How long its string is.
     Size(usize),
