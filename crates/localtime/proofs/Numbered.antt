@@ -2,10 +2,9 @@
 use Rattle.numbers.proofs.{Prelude.{ℕ, eqb, ltb, ℤ, List, [], ◌∷◌, ◌++◌, ◌≡◌, refl}, Refusals.{Listed, still_listed}}
 use Rattle.localtime.specs.{Local.{ask_in, or_sixty, string_in, rules_in, is_ruled, by_rule, answer_by, answer_at, local_time_by, local_time}, declared.rule.Rules.{Rules}}
 use Rattle.tzif.{proofs.Numbered.{NumberedReply, answers, refuses, then_reply, and_then, demands, either, zone_numbered, of_lent, local_numbers}, specs.{Header.{rfc9636}, Number.{lift}}}
-use Rattle.tzif.specs.{Reply.{Reply}, declared.{block.Block.{Block}, local.Answer.{Answer}, refusal.Refusal.{Refusal}, zone.Zone.{Zone}}}
+use Rattle.tzif.specs.{Reply.{Reply}, declared.{block.Block.{Block}, refusal.Refusal.{Refusal}, zone.Zone.{Zone}}}
 use Rattle.tzrule.specs.{String.{string_of}, declared.{ask.Asked.{Asked}, rule.Tz.{Tz}}}
 use Rattle.localtime.specs.declared.rule.Rules.TheVariants as R
-use Rattle.tzif.specs.declared.local.Answer.TheVariants as A
 use Rattle.tzif.specs.declared.local.LocalTime.TheVariants as L
 use Rattle.tzrule.specs.Answer as T
 use Rattle.tzrule.specs.declared.ask.Asked.TheVariants as K

@@ -3,7 +3,7 @@ use Rattle.numbers.{proofs.Prelude.{ℕ, zero, suc, ◌+◌, ◌-◌, ◌≤◌,
 use mathlib.Core.Path.{ap₂}
 use Rattle.localtime.specs.{Found.{found_of, same_octets, same_found}, Local.{ask_in, same_as, agrees, or_sixty, string_in, rules_in, is_ruled, by_rule, answer_by, answer_at, local_time_by, local_time}}
 use Rattle.localtime.specs.{Local.{scale_in, scale_or, scale_by, scale_at}, declared.{rule.Rules.{Rules}, scale.Scale.{Scale}}}
-use Rattle.tzif.proofs.Beyond.{Beyond, Behind, found_behind, refused_one, transition_same, correction_same, type_same, type_behind_lem, behind_same, after_same, table_same, table_behind, lent_same}
+use Rattle.tzif.proofs.Beyond.{Beyond, Behind, found_behind, refused_one, transition_same, correction_same, type_same, type_place_behind, behind_same, after_same, table_same, table_behind, lent_same}
 use Rattle.tzif.{proofs.{Marked.{PlainFour, marked_three, second_version, beyond, renamed, Second, ReadAlike, refuses, gives, zone_read}, Versions.{zone_v3_unchanged}}, specs.Block.{end_of}}
 use Rattle.tzif.specs.{Header.{rfc8536}, Local.{type_in, type_behind, by_table, lent}, Number.{octet, raised, lift}, Reply.{Reply, given, refused, refusal, demand, ◌>>=◌, ◌>>◌}}
 use Rattle.tzif.specs.{Times.{time_in, transitions_of}, declared.{block.Block.{Block}, local.{Answer.{Answer}, Found.{Found}}, refusal.Refusal.{Refusal}, zone.Zone.{Zone}}}
@@ -57,7 +57,7 @@ ask_from from tz u t = go (in_years u) where
 data RulesAlike (from : ℕ) : Reply Rules → Reply Rules → Type 0 where
   no_rules : {why : Refusal} → RulesAlike from (refused why) (refused why)
   without : RulesAlike from (given R.Without) (given R.Without)
-  by_rule_lem : {tz : Tz} → TzFrom from tz → RulesAlike from (given (R.By tz)) (given (R.By tz))
+  rule_alike : {tz : Tz} → TzFrom from tz → RulesAlike from (given (R.By tz)) (given (R.By tz))
 
 -- ---- two files that are the same from a place on
 module _ (file other : List ℕ) (from : ℕ) (b : Beyond file other from) where
@@ -96,7 +96,7 @@ module _ (file other : List ℕ) (from : ℕ) (b : Beyond file other from) where
       same : same_as file (type_in file block (type_behind file block block.timecnt)) (ask_in file block tz (time_in file (transitions_of block) (block.timecnt - 1)))
           ≡ same_as other (type_in other block (type_behind other block block.timecnt)) (ask_in other block tz (time_in other (transitions_of block) (block.timecnt - 1)))
       same =
-          as_same (type_in file block (type_behind file block block.timecnt)) (type_behind_lem file other from b block behind wide (type_behind file block block.timecnt))
+          as_same (type_in file block (type_behind file block block.timecnt)) (type_place_behind file other from b block behind wide (type_behind file block block.timecnt))
           (asked_from tz (time_in file (transitions_of block) (block.timecnt - 1)) t) ∙ ap₂ (same_as other) type asked
 
     ruled_same : (instant : ℕ) → is_ruled file block instant ≡ is_ruled other block instant
@@ -113,13 +113,13 @@ module _ (file other : List ℕ) (from : ℕ) (b : Beyond file other from) where
     unfolding ◌>>=◌ answer_by
     answer_same instant no_rules = refl
     answer_same instant without = ap given (table_same file other from b block behind wide instant)
-    answer_same instant (by_rule_lem {tz = tz} t) = λ i. if ruled_same instant i then by_rule (asked_same tz instant i) else given (table_same file other from b block behind wide instant i)
+    answer_same instant (rule_alike {tz = tz} t) = λ i. if ruled_same instant i then by_rule (asked_same tz instant i) else given (table_same file other from b block behind wide instant i)
 
     answer_behind : (instant : ℕ) {one two : Reply Rules} → RulesAlike from one two → Behind from (one >>= λ rules. answer_by file block rules instant)
     unfolding ◌>>=◌ answer_by
     answer_behind instant no_rules = refused_one
     answer_behind instant without = table_behind file other from b block behind instant
-    answer_behind instant (by_rule_lem {tz = tz} t) = go (is_ruled file block instant) where
+    answer_behind instant (rule_alike {tz = tz} t) = go (is_ruled file block instant) where
       go : (s : Bool) → Behind from (if s then by_rule (ask_in file block tz instant) else given (by_table file block instant))
       go true = rule_behind (asked_from tz instant t)
       go false = table_behind file other from b block behind instant
@@ -129,7 +129,7 @@ module _ (file other : List ℕ) (from : ℕ) (b : Beyond file other from) where
     passed : (tz : Tz) → TzFrom from tz → (s : Bool) → RulesAlike from (demand s (refusal 60 (end_of zone.block)) >> given (R.By tz))
         (demand s (refusal 60 (end_of zone.block)) >> given (R.By tz))
     unfolding demand ◌>>◌
-    passed tz t true = by_rule_lem t
+    passed tz t true = rule_alike t
     passed tz t false = no_rules
 
     rule : (tz : Tz) → TzFrom from tz → RulesAlike from (demand (agrees file zone.block tz) (refusal 60 (end_of zone.block)) >> given (R.By tz))
@@ -164,7 +164,7 @@ module _ (file other : List ℕ) (from : ℕ) (b : Beyond file other from) where
   unfolding scale_or ◌>>=◌
   scale_rest one two e no_rules = refl
   scale_rest one two e without = e
-  scale_rest one two e (by_rule_lem t) = e
+  scale_rest one two e (rule_alike t) = e
 
   scales_alike : (instant : ℤ) {one two : Reply Zone} → ReadAlike from one two → scale_or (one >>= λ zone. rules_in file zone >>= λ rules. given (scale_in file zone.block
       (lift instant))) ≡ scale_or (two >>= λ zone. rules_in other zone >>= λ rules. given (scale_in other zone.block (lift instant)))

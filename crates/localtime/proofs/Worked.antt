@@ -85,8 +85,8 @@ rule = record {
 good : IsRule rule
 unfolding IsWhen
 good =
-    let month : IsMonth 10 1 0 = record { month_from_lem = omega arith; month_to = omega arith; week_from_lem = omega arith; week_to = omega arith; weekday_to = omega arith } in
-    let month' : IsMonth 4 1 0 = record { month_from_lem = omega arith; month_to = omega arith; week_from_lem = omega arith; week_to = omega arith; weekday_to = omega arith } in
+    let month : IsMonth 10 1 0 = record { month_from = omega arith; month_to = omega arith; week_from = omega arith; week_to = omega arith; weekday_to = omega arith } in
+    let month' : IsMonth 4 1 0 = record { month_from = omega arith; month_to = omega arith; week_from = omega arith; week_to = omega arith; weekday_to = omega arith } in
     record { standard = omega arith; daylight = omega arith; start = record { when = month; time = omega arith }; end = record { when = month'; time = omega arith } }
 
 -- the first Sunday of a month of the years 2025 and 2026, told by 2424 and 2425
@@ -158,11 +158,11 @@ unfolding occurs_later correction_before correction_at correction_of one_apart i
     count_of check_of check_part demand each ◌>>=◌ ◌>>◌ first_with is_stop run_to time_in last_with last_not_after newline_at read_footer read_short read_long read_zone_by
 is_read = refl
 
-is_ruled_lem : rules_in sydney zone ≡ given (R.By (Changing rule))
+tz_is_ruled : rules_in sydney zone ≡ given (R.By (Changing rule))
 unfolding rules_in string_in or_sixty agrees string_of clock_of changing_of change_of time_of hours_of summer_of G.ranged G.number_of G.seconds_of G.minutes_of G.clock_of
     G.later_of G.earlier_of G.signed_of G.dotted_of G.weekday_from G.week_from G.month_from G.date_of is_letter in_name name_end N.end_of bare_of name_of byte_at is_digit
     digits_of onward demand ◌>>=◌ ◌>>◌
-is_ruled_lem = refl
+tz_is_ruled = refl
 
 summer_clock : clock_at (Changing rule) (2 ^ 63 + 1768435200) ≡ record { clock = rule.daylight; daylight = 1 }
 unfolding clock_at since
@@ -175,8 +175,8 @@ winter_clock = simp in_winter
 pub worked_south : WorkedSouth
 unfolding corrected correction_at correction_before last_not_after last_with lift in_years found_of east_of
 worked_south = record {
-  january = throughout_by_string sydney (pos 1768435200) 4 is_read is_ruled_lem refl refl ∙ ap (λ (t : Time). named sydney 4 (found_of t)) summer_clock;
-  july = throughout_by_string sydney (pos 1782864000) 4 is_read is_ruled_lem refl refl ∙ ap (λ (t : Time). named sydney 4 (found_of t)) winter_clock;
+  january = throughout_by_string sydney (pos 1768435200) 4 is_read tz_is_ruled refl refl ∙ ap (λ (t : Time). named sydney 4 (found_of t)) summer_clock;
+  july = throughout_by_string sydney (pos 1782864000) 4 is_read tz_is_ruled refl refl ∙ ap (λ (t : Time). named sydney 4 (found_of t)) winter_clock;
 }
 
 -- what `after_last_by_string` asks is met by Honolulu

@@ -1,5 +1,6 @@
 -- What a TZ string gives as a local time, and whether it is the same as another.
-use Rattle.numbers.specs.{Answer.{if◌then◌else◌}, Prelude.{ℕ, zero, suc, ◌+◌, ◌-◌, ◌≤◌, eqb, ℤ, pos, ◌-ℤ◌, Bool, true, false, List, w32, of_z}}
+use Rattle.std.specs.Prelude.{if◌then◌else◌, ◌+◌, ◌-◌, ◌≤◌, ◌-ℤ◌}
+use Rattle.numbers.specs.Prelude.{ℕ, zero, suc, eqb, ℤ, pos, Bool, true, false, List, w32, of_z}
 use Rattle.tzif.specs.{Number.{octet}, declared.local.Found.{Found}}
 use Rattle.tzrule.specs.declared.ask.Time.{Time}
 

@@ -1,5 +1,6 @@
 -- Local time with the footer's TZ string.
-use Rattle.numbers.specs.{Answer.{if◌then◌else◌}, Prelude.{ℕ, ◌-◌, eqb, ltb, ℤ, Bool, true, List}}
+use Rattle.std.specs.Prelude.{if◌then◌else◌, ◌-◌}
+use Rattle.numbers.specs.Prelude.{ℕ, eqb, ltb, ℤ, Bool, true, List}
 use Rattle.localtime.specs.{Found.{found_of, same_found}, declared.{local.Said.{Said}, rule.{Rules.{Rules}, Stated.{Stated}}, scale.Scale.{Scale}}}
 use Rattle.tzif.specs.{Block.{end_of}, Check.{correction_at}, Header.{Rfc, rfc9636}, Local.{type_in, type_behind, is_after_last, by_table, lent, Replied, Good, Held}, Number.{raised, lift}}
 use Rattle.tzif.specs.{Reply.{Reply, given, refused, refusal, demand, ◌>>=◌, ◌>>◌}, Times.{time_in, transitions_of, occurrences_of, Rises}, Zone.{read_zone_by}, declared.block.Block.{Block}}

@@ -15,7 +15,7 @@ use tzif::zone::{Read, read_zone};
 use tzrule::ask::Asked;
 
 // A local time whose abbreviation stands in the file, or none, or a refusal.
-#[derive(Drop)]
+#[derive(Clone, Copy)]
 pub enum Said {
     Found(Found),
     Unknown,
@@ -77,7 +77,7 @@ fn answer_by(file: &[u8], block: Block, rules: Rules, instant: usize) -> Said
 }
 
 // What a file says of an instant, and the scale on which it was read.
-#[derive(Drop)]
+#[derive(Clone, Copy)]
 pub struct Answered {
     pub said: Said,
     pub scale: Scale,
@@ -133,7 +133,7 @@ fn reply_said(file: &[u8], said: Said, text: &mut [u8]) -> LocalTime
 }
 
 // Local time, and the scale on which the instant was read.
-#[derive(Drop)]
+#[derive(Clone, Copy)]
 pub struct Timed {
     pub time: LocalTime,
     pub scale: Scale,

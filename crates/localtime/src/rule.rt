@@ -16,13 +16,13 @@ use tzrule::rule::Tz;
 use tzrule::string::{Parsed, string_at};
 
 // A file without a TZ string, or by the rule of one.
-#[derive(Drop)]
+#[derive(Clone, Copy)]
 pub enum Rules {
     Without,
     By(Tz),
 }
 
-#[derive(Drop)]
+#[derive(Clone, Copy)]
 pub enum Stated {
     Rules(Rules),
     Refused(Refusal),

@@ -1,5 +1,5 @@
 -- The ways through what a string gives, and through the comparison of two local times. Assumes nothing.
-use Rattle.numbers.proofs.Prelude.{ℕ, zero, suc, ◌+◌, ◌-◌, ◌^◌, ◌≤◌, ◌<◌, eq-eqb, ne_eqb, eqb, ltb, ℤ, pos, ◌-ℤ◌, length, mag, true, false, List, ◌≡◌, refl, sym, ap, subst, ◌∙◌, w32, w64, SFits, of_z}
+use Rattle.numbers.proofs.Prelude.{ℕ, zero, suc, ◌+◌, ◌-◌, ◌^◌, ◌≤◌, ◌<◌, eq-eqb, ne_eqb, eqb, ltb, ℤ, pos, ◌-ℤ◌, mag, true, false, List, ◌≡◌, refl, sym, ap, subst, ◌∙◌, w32, w64, SFits, of_z}
 use Rattle.numbers.proofs.{Prelude.{to_z, to_z-of_z, add-one, arith}, Signed.{mag_cond}}
 use mir.ValLaws.{to_z_pos}
 use Rattle.localtime.specs.Found.{east_of, found_of, same_octets, same_found}

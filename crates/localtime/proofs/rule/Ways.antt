@@ -55,20 +55,20 @@ module _ (file : List ℕ) (block : Block) (tz : Tz) where
   no_transitions e = simp (eq-eqb block.timecnt 0 e)
 
   module _ (some : block.timecnt ≡ 0 → ⊥) {last : ℕ} {asked : Asked} (l : last ≡ time_in file (transitions_of block) (block.timecnt - 1)) (a : asked ≡ ask_in file block tz last) where
-    same_as_lem : agrees file block tz ≡ same_as file (type_in file block (type_behind file block block.timecnt)) asked
+    agrees_as_same : agrees file block tz ≡ same_as file (type_in file block (type_behind file block block.timecnt)) asked
     unfolding agrees
-    same_as_lem = simp (ne_eqb block.timecnt 0 some) (ap (λ (x : Asked). same_as file (type_in file block (type_behind file block block.timecnt)) x) (sym (a ∙ ap (ask_in file block tz) l)))
+    agrees_as_same = simp (ne_eqb block.timecnt 0 some) (ap (λ (x : Asked). same_as file (type_in file block (type_behind file block block.timecnt)) x) (sym (a ∙ ap (ask_in file block tz) l)))
 
     pub not_asked : asked ≡ K.Outside → true ≡ agrees file block tz
     unfolding same_as
-    not_asked e = sym (same_as_lem ∙ ap (λ (x : Asked). same_as file (type_in file block (type_behind file block block.timecnt)) x) e)
+    not_asked e = sym (agrees_as_same ∙ ap (λ (x : Asked). same_as file (type_in file block (type_behind file block block.timecnt)) x) e)
 
     pub compared : {time : Time} {one other : Found} {same : Bool} → asked ≡ K.Holds time → one ≡ type_in file block (type_behind file block block.timecnt) → other ≡ found_of time →
         same ≡ same_found file one other → same ≡ agrees file block tz
     unfolding same_as
     compared {time} {one} {other} e p q s =
         s ∙ ap (λ (x : Found). same_found file x other) p ∙ ap (λ (x : Found). same_found file (type_in file block (type_behind file block block.timecnt)) x) q ∙
-        sym (same_as_lem ∙ ap (λ (x : Asked). same_as file (type_in file block (type_behind file block block.timecnt)) x) e)
+        sym (agrees_as_same ∙ ap (λ (x : Asked). same_as file (type_in file block (type_behind file block block.timecnt)) x) e)
 
 -- the four ways of the string
 module _ (file : List ℕ) (zone : Zone) where
