@@ -1,6 +1,6 @@
 -- What is read strictly beside the plain reading, by where it ends: the same, which the file holds, or nothing; and then the plain reading has nothing, or what
 -- ends behind the file. Assumes nothing.
-use Rattle.numbers.proofs.{Answers.{All, then-all}, Laws.{Read, forward_read}, Prelude.{ℕ, ◌≤◌, ◌<◌, leb-true, leb-false, length, Bool, true, false, List, ◌≡◌, refl, sym, arith}, Tests.{differ}}
+use Rattle.numbers.proofs.{Answers.{All, then_all}, Laws.{Read, forward_read}, Prelude.{ℕ, ◌≤◌, ◌<◌, leb-true, leb-false, length, Bool, true, false, List, ◌≡◌, refl, sym, arith}, Tests.{differ}}
 use Rattle.numbers.specs.{Answer.{Answer, found, failed, refused, if◌then◌else◌, ◌>>=◌}, Varint.{Numeral, forward_at, is_complete, whole_of, reading_of, nowhere, end_of}}
 use Rattle.table.specs.{Rest.{five_by}, Table.{steps_by, entry_by}, declared.table.Entry.{Entry}}
 
@@ -29,7 +29,7 @@ module _ (file : List ℕ) where
   -- there is no number behind the file
   past : {B : Type 0} (Q : B → Type 0) (place : ℕ) (next : Numeral → Answer B) → length file < place → All Q (forward_at file place >>= next)
   past Q place next h =
-      then-all (λ (number : Numeral). Read file place number.value number.place) Q (forward_at file place) next (forward_read file place) (λ number r. absurd (omega (arith, h, r.inside)))
+      then_all (λ (number : Numeral). Read file place number.value number.place) Q (forward_at file place) next (forward_read file place) (λ number r. absurd (omega (arith, h, r.inside)))
 
   past_number : (Q : Numeral → Type 0) (place : ℕ) → length file < place → All Q (forward_at file place)
   past_number Q place h = go (forward_at file place) (forward_read file place) where

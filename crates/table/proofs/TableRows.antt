@@ -1,6 +1,6 @@
 -- The rows of a table, one by one: the rows that their definition allows are never used up. Assumes nothing.
 use Rattle.numbers.proofs.Prelude.{ℕ, zero, suc, ◌-◌, ◌≤◌, ◌<◌, lt-ltb, le-ltb, ltb-true, ltb, Bool, true, false, ◌≡◌, refl, sym, ap, ◌∙◌, le_refl, le_of_lt, arith}
-use Rattle.numbers.{proofs.{Answers.{All, then-all}, Readings.{Grows}}, specs.{Answer.{Answer, found, if◌then◌else◌, ◌>>=◌}, Varint.{Numeral}}}
+use Rattle.numbers.{proofs.{Answers.{All, then_all}, Readings.{Grows}}, specs.{Answer.{Answer, found, if◌then◌else◌, ◌>>=◌}, Varint.{Numeral}}}
 use Rattle.table.specs.{Rows.{after, Rows, row, table_end, unreadable, refused, rows_then, row_by, rows_within, rows_from}, Table.{steps_by, entry_by}, declared.rows.{Cursor.{Cursor}, Row.{Row}}}
 use Rattle.table.specs.declared.table.Entry.{Entry}
 use Rattle.numbers.specs.Answer as A
@@ -26,7 +26,7 @@ module _ (read : ℕ → Answer Numeral) (grows : Grows read) where
   -- ---- a row ends after its place
   number_past : {B : Type 0} (Q : B → Type 0) (start place : ℕ) (next : Numeral → Answer B) → start ≤ place → ((number : Numeral) → start < number.place → All Q (next number))
       → All Q (read place >>= next)
-  number_past Q start place next h k = then-all _ Q (read place) next (grows place) (λ number l. k number (omega arith))
+  number_past Q start place next h k = then_all _ Q (read place) next (grows place) (λ number l. k number (omega arith))
 
   pub entry_past : (place : ℕ) → All (λ (entry : Entry). place < entry.next) (entry_by read place)
   unfolding entry_by steps_by
@@ -36,7 +36,7 @@ module _ (read : ℕ → Answer Numeral) (grows : Grows read) where
 
   row_past : (at : Cursor) → All (Past at.place) (row_by read at)
   unfolding row_by
-  row_past at = then-all (λ (entry : Entry). at.place < entry.next) (Past at.place) (entry_by read at.place) _ (entry_past at.place) (λ entry h. h)
+  row_past at = then_all (λ (entry : Entry). at.place < entry.next) (Past at.place) (entry_by read at.place) _ (entry_past at.place) (λ entry h. h)
 
   -- ---- so there are fewer rows than places
   agree : (end n m : ℕ) (at : Cursor) → end - at.place < n → end - at.place < m → rows_within read n end at ≡ rows_within read m end at

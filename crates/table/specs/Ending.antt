@@ -1,5 +1,6 @@
 -- How a search of rows ends: what it went through, and why it ended there.
-use Rattle.numbers.specs.{Answer.{if◌then◌else◌}, Lists.{padded}, Prelude.{ℕ, eqb, length, Bool, true, false, List, [], ◌∷◌, ◌++◌, ◌≡◌}, Reply.{given}}
+use Rattle.std.specs.Prelude.{if◌then◌else◌, ◌∷◌, ◌++◌, ◌≡◌}
+use Rattle.numbers.specs.{Lists.{padded}, Prelude.{ℕ, eqb, length, Bool, true, false, List, []}, Reply.{given}}
 use Rattle.verdict.specs.{Verdict.{Judgement, reached}, declared.step.Verdict.{Verdict}}
 use Rattle.border.specs.declared.place.Point.{Point}
 use Rattle.table.specs.{Find.{fix_of}, Hits.{words}, Merge.{merged}, Rest.{rest_mark}, Rows.{Rows, row, table_end, unreadable, rows_in}, Search.{kind_of, row_hit, Found, judge_in, farthest}}

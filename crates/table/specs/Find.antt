@@ -1,5 +1,6 @@
 -- What both lookups do in a file whose header was read: its precision is looked at, its table searched, and the hits merged.
-use Rattle.numbers.specs.Prelude.{ℕ, ◌/◌, leb, Float, fin, pos, length, Bool, false, ◌&&◌, List, ◌≡◌}
+use Rattle.std.specs.Prelude.{◌/◌, ◌&&◌, ◌≡◌}
+use Rattle.numbers.specs.Prelude.{ℕ, leb, Float, fin, pos, length, Bool, false, List}
 use Rattle.numbers.specs.{Float.{fixed_point}, Lists.{zeros, padded}, Reply.{Reply, given, refused, plain, demand, ◌>>=◌, ◌>>◌}}
 use Rattle.table.specs.{Hits.{width, words}, Merge.{merged}, Search.{searched}, declared.{find.{Found.{Found}, Matches.{Matches}}, hits.Hit.{Hit}, location.Location.{Location}}}
 use Rattle.header.specs.declared.header.Head.{Head}

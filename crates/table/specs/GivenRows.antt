@@ -1,5 +1,6 @@
 -- Rows that are given as words: records of seven words, and the numbers of those to look at, as an index has them.
-use Rattle.numbers.specs.{Answer.{if◌then◌else◌}, Point.{read_i32}, Prelude.{ℕ, ◌+◌, ◌*◌, ◌/◌, ltb, length, get_or, Bool, List, [], ◌∷◌}, Reply.{Reply}}
+use Rattle.std.specs.Prelude.{if◌then◌else◌, ◌+◌, ◌*◌, ◌/◌, ◌∷◌}
+use Rattle.numbers.specs.{Point.{read_i32}, Prelude.{ℕ, ltb, length, get_or, Bool, List, []}, Reply.{Reply}}
 use Rattle.border.specs.declared.place.Point.{Point}
 use Rattle.table.specs.{Find.{Matched, matched_by, Finding, finding_of}, Hits.{width}, Rows.{Rows, row, table_end, refused}, Search.{Found, judge_in, farthest}, Unstopped.{seek_all}}
 use Rattle.table.specs.declared.{location.Location.{Location}, rows.Row.{Row}, table.Bounds.{Bounds}}

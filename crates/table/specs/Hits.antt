@@ -1,5 +1,6 @@
 -- Hits in the lent words. A slot with kind 0 holds none.
-use Rattle.numbers.specs.Prelude.{ℕ, ◌+◌, ◌*◌, get_or, set, List, [], ◌∷◌, ◌++◌, ◌≡◌, ◌≢◌}
+use Rattle.numbers.specs.Prelude.{ℕ, get_or, set, List, []}
+use Rattle.std.specs.Prelude.{◌≢◌, ◌+◌, ◌*◌, ◌∷◌, ◌++◌}
 use Rattle.table.specs.declared.hits.Hit.{Hit}
 
 -- a hit takes four words

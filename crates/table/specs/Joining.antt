@@ -1,5 +1,6 @@
 -- Two boards each search half of a table: what a board has of each metadata id, and how the two are joined (request Q-12).
-use Rattle.numbers.specs.{Answer.{if◌then◌else◌}, Prelude.{ℕ, eqb, Bool, true, false, List, [], ◌∷◌, ◌++◌, map}}
+use Rattle.std.specs.Prelude.{if◌then◌else◌, ◌∷◌, ◌++◌}
+use Rattle.numbers.specs.Prelude.{ℕ, eqb, Bool, true, false, List, [], map}
 use Rattle.table.specs.{Merge.{Summary, empty, ◌⊕◌, summary, group_kind, seen, match_of}, Rows.{Rows, row, table_end, unreadable, refused}, declared.hits.Hit.{Hit}}
 
 -- the rows of one half, and behind its end those of the other; behind an entry that can't be read there are none

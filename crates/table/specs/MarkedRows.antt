@@ -1,5 +1,6 @@
 -- Rows that are given as words, with marks along their borders: document 04. Entry k's word says where its border's marks stand in the words of the marks, 0 where it has none.
-use Rattle.numbers.specs.{Answer.{if◌then◌else◌}, Prelude.{ℕ, ◌/◌, eqb, get_or, Bool, List, []}, Reply.{Reply}}
+use Rattle.std.specs.Prelude.{if◌then◌else◌, ◌/◌}
+use Rattle.numbers.specs.{Prelude.{ℕ, eqb, get_or, Bool, List, []}, Reply.{Reply}}
 use Rattle.border.specs.{Encoding.{version_of, encoded_by}, declared.{place.Point.{Point}, reader.Encoding.{Encoding}}}
 use Rattle.marks.specs.Judging.{judged_by}
 use Rattle.verdict.specs.Verdict.{Judgement}

@@ -1,5 +1,6 @@
 -- Merging, as document 01 has it: hits are grouped by metadata id in first-hit order, with the first hit's polygon id and place.
-use Rattle.numbers.specs.{Answer.{if◌then◌else◌}, Prelude.{ℕ, zero, suc, eqb, ℤ, pos, negsuc, ◌+ℤ◌, ◌-ℤ◌, Bool, true, false, List, [], ◌∷◌, ◌++◌, map}}
+use Rattle.std.specs.Prelude.{if◌then◌else◌, ◌+ℤ◌, ◌-ℤ◌, ◌∷◌, ◌++◌}
+use Rattle.numbers.specs.Prelude.{ℕ, zero, suc, eqb, ℤ, pos, negsuc, Bool, true, false, List, [], map}
 use Rattle.table.specs.{Hits.{hit_of, no_hit}, declared.{hits.Hit.{Hit}, merge.Tally.{Tally}}}
 
 -- what a group comes to: its inside count less its excluded count, and its last border verdict, 0 if there is none

@@ -1,5 +1,6 @@
 -- Tables in order, and tables whose boxes are those of their borders' points: what a built file has.
-use Rattle.numbers.specs.{Prelude.{ℕ, ◌+◌, ◌%◌, ◌^◌, ltb, ℤ, le_z, true, false, List, [], ◌∷◌, ◌≡◌}, Reply.{Reply, plain}}
+use Rattle.std.specs.Prelude.{◌+◌, ◌%◌, ◌^◌, ◌∷◌, ◌≡◌}
+use Rattle.numbers.specs.{Prelude.{ℕ, ltb, ℤ, le_z, true, false, List, []}, Reply.{Reply, plain}}
 use Rattle.border.specs.{Box.{Box, box_of}, Encoding.{version_of}, Written.{Stands}, declared.place.Point.{Point}}
 use Rattle.verdict.specs.Verdict.{Judgement}
 use Rattle.table.specs.{Rows.{Rows, row, table_end, unreadable}, Search.{Found, ended, after_turn, judged_turn}, Table.{holds}, declared.{hits.Hit.{Hit}, rows.Row.{Row}, table.Bounds.{Bounds}}}

@@ -1,5 +1,6 @@
 -- What the rest of a table says behind an early stop, as request Q-1 has it.
-use Rattle.numbers.specs.{Answer.{Answer, found, failed, refused, if◌then◌else◌, ◌>>=◌}, Prelude.{ℕ, ltb, Bool, false}, Varint.{Numeral}}
+use Rattle.std.specs.Prelude.{if◌then◌else◌}
+use Rattle.numbers.specs.{Answer.{Answer, found, failed, refused, ◌>>=◌}, Prelude.{ℕ, ltb, Bool, false}, Varint.{Numeral}}
 use Rattle.border.specs.declared.place.Point.{Point}
 use Rattle.table.specs.{Rows.{Rows, row, table_end, unreadable}, Table.{bounds_of, holds}}
 use Rattle.table.specs.Rows as T

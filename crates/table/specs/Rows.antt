@@ -1,5 +1,6 @@
 -- A table is a trace of rows, as a border is one of points: each entry with its place, its number and the sums up to it, and how the table ends.
-use Rattle.numbers.specs.{Answer.{Answer, found, if◌then◌else◌, ◌>>=◌}, Point.{low32, half_of}, Prelude.{ℕ, zero, suc, ◌+◌, ◌-◌, ◌%◌, ◌^◌, ltb, List, [], ◌∷◌}, Varint.{Numeral, reading_of}}
+use Rattle.std.specs.Prelude.{if◌then◌else◌, ◌+◌, ◌-◌, ◌%◌, ◌^◌, ◌∷◌}
+use Rattle.numbers.specs.{Answer.{Answer, found, ◌>>=◌}, Point.{low32, half_of}, Prelude.{ℕ, zero, suc, ltb, List, []}, Varint.{Numeral, reading_of}}
 use Rattle.table.specs.{Table.{entry_by}, declared.{rows.{Cursor.{Cursor}, Reading.{Reading}, Row.{Row}}, table.Entry.{Entry}}}
 use Rattle.header.specs.declared.header.Head.{Head}
 use Rattle.numbers.specs.Answer as A

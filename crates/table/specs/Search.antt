@@ -1,5 +1,6 @@
 -- The search, as document 01 has it: a fold over the rows of the table.
-use Rattle.numbers.specs.{Answer.{if◌then◌else◌}, Lists.{padded}, Prelude.{ℕ, ◌+◌, ◌-◌, ◌%◌, ◌^◌, eqb, ltb, length, Bool, List, [], ◌∷◌, ◌++◌, ◌≡◌}, Reply.{Reply, given, plain}}
+use Rattle.std.specs.Prelude.{if◌then◌else◌, ◌+◌, ◌-◌, ◌%◌, ◌^◌, ◌∷◌, ◌++◌, ◌≡◌}
+use Rattle.numbers.specs.{Lists.{padded}, Prelude.{ℕ, eqb, ltb, length, Bool, List, []}, Reply.{Reply, given, plain}}
 use Rattle.border.specs.{Encoding.{version_of, encoded_by}, declared.place.Point.{Point}}
 use Rattle.verdict.specs.{Verdict.{Judgement, reached, judged_at}, declared.step.Verdict.{Verdict, TheVariants.{NotInZone, InZone, InExcludedZone, OnBorderVertex, OnBorderSegment}}}
 use Rattle.table.specs.{Hits.{hit_of, words, Real}, Rest.{rest_mark}, Rows.{Rows, row, table_end, unreadable, rows_in}, Table.{is_above, holds}, declared.{hits.Hit.{Hit}, rows.Row.{Row}}}

@@ -1,5 +1,6 @@
 -- The search that never stops early: what mark 1 is held against.
-use Rattle.numbers.specs.{Prelude.{ℕ, Bool, true, List, [], ◌≡◌}, Reply.{Reply, plain}}
+use Rattle.std.specs.Prelude.{◌≡◌}
+use Rattle.numbers.specs.{Prelude.{ℕ, Bool, true, List, []}, Reply.{Reply, plain}}
 use Rattle.verdict.specs.Verdict.{Judgement}
 use Rattle.border.specs.declared.place.Point.{Point}
 use Rattle.header.specs.declared.header.Head.{Head}

@@ -14,14 +14,14 @@ use numbers::float::fixed::to_fixed;
 use numbers::refusal::{Refusal, plain};
 
 // The number of matches, the end mark and the least squared distance.
-#[derive(Drop)]
+#[derive(Clone, Copy)]
 pub struct Matches {
     pub count: usize,
     pub mark: u8,
     pub least: u64,
 }
 
-#[derive(Drop)]
+#[derive(Clone, Copy)]
 pub enum Found {
     Matches(Matches),
     Refused(Refusal),

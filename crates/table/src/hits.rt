@@ -5,7 +5,7 @@ ghost use Rattle.table.specs.Hits.{width, hit_at, put_hit, no_hit};
 // How many words a hit takes.
 pub const WIDTH: usize = 4;
 
-#[derive(Drop)]
+#[derive(Clone, Copy)]
 pub struct Hit {
     pub polygon: u32,
     pub metadata: u32,

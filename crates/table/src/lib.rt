@@ -1,4 +1,6 @@
 // The box table of a PLB file: its rows, the search of them at a location, the hits and how they are merged into matches.
+#![tactic(auto)]
+
 pub mod codes;
 pub mod find;
 pub mod hits;

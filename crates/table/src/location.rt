@@ -1,5 +1,5 @@
 // A place on the earth, in degrees.
-#[derive(Drop)]
+#[derive(Clone, Copy)]
 pub struct Location {
     pub lat: f32,
     pub lon: f32,

@@ -8,7 +8,7 @@ use crate::codes::{EXCLUDED, IN_ZONE, NO_KIND};
 use crate::hits::{Hit, WIDTH, hit_at, none, put_hit, room};
 
 // What a group comes to: how many hits are inside and excluded, and the last border verdict, 0 if there is none.
-#[derive(Drop)]
+#[derive(Clone, Copy)]
 pub struct Tally {
     pub inside: u64,
     pub excluded: u64,

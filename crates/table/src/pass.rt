@@ -18,35 +18,35 @@ const LONGEST: usize = 18;
 const STEPS: usize = 12;
 
 // A number of at most three bytes.
-#[derive(Drop)]
+#[derive(Clone, Copy)]
 pub(crate) enum Short {
     Is(Number),
     Other,
 }
 
 // Two such numbers, one behind the other.
-#[derive(Drop)]
+#[derive(Clone, Copy)]
 pub(crate) enum Pair {
     Are(Number, Number),
     Other,
 }
 
 // A box by its bounds, and where they end.
-#[derive(Drop)]
+#[derive(Clone, Copy)]
 pub(crate) enum Bounded {
     By { bounds: Bounds, next: usize },
     Other,
 }
 
 // What a row does to a search that only passes over.
-#[derive(Drop)]
+#[derive(Clone, Copy)]
 pub(crate) enum Pass {
     On(Cursor),
     Stop,
 }
 
 // What an entry does to the rest of a table that is only skipped.
-#[derive(Drop)]
+#[derive(Clone, Copy)]
 pub(crate) enum Skip {
     On(usize),
     Stop,

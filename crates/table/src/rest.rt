@@ -1,6 +1,6 @@
 // The rest of the table, behind the row at which a search stopped early: what its mark is to be.
-ghost use Rattle.std.specs.Prelude.{◌≡◌, ◌<◌, nat_lt};
-ghost use Rattle.numbers.specs.{Answer.{if◌then◌else◌}, Varint.{nowhere, reading_of, end_of}};
+ghost use Rattle.std.specs.Prelude.{◌≡◌, ◌<◌, nat_lt, if◌then◌else◌};
+ghost use Rattle.numbers.specs.Varint.{nowhere, reading_of, end_of};
 ghost use Rattle.table.specs.{Rows.{rows_from, start_at}, Rest.{rest_mark, five_by, held_by, is_held}};
 
 use crate::codes::{OUT_OF_ORDER, UNREADABLE, WHOLE};

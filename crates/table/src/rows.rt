@@ -7,7 +7,7 @@ use crate::table::{Bounds, Entered, Entry, entry_at};
 use std::num::{wrapping_add_u32, wrapping_sub_u32};
 
 // Where the table is read on: the next entry's place and number, and the sums before it.
-#[derive(Drop)]
+#[derive(Clone, Copy)]
 pub struct Cursor {
     pub place: usize,
     pub id: u32,
@@ -15,7 +15,7 @@ pub struct Cursor {
     pub polygon: u32,
 }
 
-#[derive(Drop)]
+#[derive(Clone, Copy)]
 pub struct Row {
     // Where its entry begins.
     pub place: usize,
@@ -28,7 +28,7 @@ pub struct Row {
     pub next: usize,
 }
 
-#[derive(Drop)]
+#[derive(Clone, Copy)]
 pub enum Reading {
     Row(Row),
     Failed,

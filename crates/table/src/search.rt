@@ -22,7 +22,7 @@ use verdict::judge::{Judged, point_in_polygon};
 use verdict::step::Verdict;
 
 // What one row does to the search: it goes on with the least squared distance so far, it met a zone, or it stops.
-#[derive(Drop)]
+#[derive(Clone, Copy)]
 pub enum Turn {
     On(u64),
     Met { hit: Hit, least: u64 },
@@ -31,14 +31,14 @@ pub enum Turn {
 }
 
 // How a search ended: the number of hits, the end mark, the least squared distance.
-#[derive(Drop)]
+#[derive(Clone, Copy)]
 pub struct Ended {
     pub count: usize,
     pub mark: u8,
     pub least: u64,
 }
 
-#[derive(Drop)]
+#[derive(Clone, Copy)]
 pub enum Searched {
     Ended(Ended),
     Refused(Refusal),

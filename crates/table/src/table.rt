@@ -9,7 +9,7 @@ use border::place::{FixedLat, FixedLon, Point};
 use numbers::point::signed;
 use numbers::varint::{Varint, read_number};
 
-#[derive(Drop)]
+#[derive(Clone, Copy)]
 pub struct Bounds {
     pub min_lat: FixedLat,
     pub min_lon: FixedLon,
@@ -17,7 +17,7 @@ pub struct Bounds {
     pub max_lon: FixedLon,
 }
 
-#[derive(Drop)]
+#[derive(Clone, Copy)]
 pub struct Entry {
     pub bounds: Bounds,
     // The step of the metadata id, a signed number as it was read, and that of the border's place.
@@ -27,7 +27,7 @@ pub struct Entry {
     pub next: usize,
 }
 
-#[derive(Drop)]
+#[derive(Clone, Copy)]
 pub enum Entered {
     Entry(Entry),
     Failed,

@@ -66,12 +66,12 @@ summary_struck : (id : ℕ) (before : List Hit) → seen id before ≡ false →
 unfolding summary
 summary_struck id before s [] = refl
 summary_struck id before s (x ∷ xs) = go (summary_struck id before s xs) (seen x.metadata before) refl where
-  no_hit_lem : summary id (struck before xs) ≡ summary id xs → (t : Bool) → (if t then single 0 ⊕ summary id (struck before xs) else summary id (struck before xs)) ≡ summary id xs
-  no_hit_lem rest true = join_empty_left (summary id (struck before xs)) ∙ rest
-  no_hit_lem rest false = rest
+  no_hit_adds : summary id (struck before xs) ≡ summary id xs → (t : Bool) → (if t then single 0 ⊕ summary id (struck before xs) else summary id (struck before xs)) ≡ summary id xs
+  no_hit_adds rest true = join_empty_left (summary id (struck before xs)) ∙ rest
+  no_hit_adds rest false = rest
 
   go : summary id (struck before xs) ≡ summary id xs → (t : Bool) → seen x.metadata before ≡ t → summary id (struck before (x ∷ xs)) ≡ summary id (x ∷ xs)
-  go rest true e = rw (e, ne_eqb x.metadata id (λ f. let z : true ≡ false = sym e ∙ ap (λ (n : ℕ). seen n before) f ∙ s in let no : ◌≡◌ {A = ℕ} 0 1 = cc in omega arith)) (no_hit_lem rest (eqb 0 id))
+  go rest true e = rw (e, ne_eqb x.metadata id (λ f. let z : true ≡ false = sym e ∙ ap (λ (n : ℕ). seen n before) f ∙ s in let no : ◌≡◌ {A = ℕ} 0 1 = cc in omega arith)) (no_hit_adds rest (eqb 0 id))
   go rest false e = rw e (ap (λ (u : Summary). if eqb x.metadata id then single x.kind ⊕ u else u) rest)
 
 struck_nothing : (xs : List Hit) → struck [] xs ≡ xs

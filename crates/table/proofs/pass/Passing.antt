@@ -1,7 +1,7 @@
 -- Rows that a search passes over: what the code's fast reading says of them, and that the search goes on as if it had read them. Assumes nothing.
-use Rattle.numbers.proofs.{Answers.{found-one, goes}, Prelude.{ℕ, suc, ◌+◌, ◌-◌, ◌*◌, ◌%◌, ◌≤◌, ◌<◌, lt-ltb, le-ltb, lit≤, length, drop, get_or, drop-cons, lt_z, le_z, Bool, true, false, List, [], ◌∷◌}}
+use Rattle.numbers.proofs.{Answers.{found_one, goes}, Prelude.{ℕ, suc, ◌+◌, ◌-◌, ◌*◌, ◌%◌, ◌≤◌, ◌<◌, lt-ltb, le-ltb, lit≤, length, drop, get_or, drop-cons, lt_z, le_z, Bool, true, false, List, [], ◌∷◌}}
 use Rattle.numbers.{proofs.{Prelude.{◌++◌, ◌≡◌, refl, sym, ap, ◌∙◌, le_refl, add-one, arith}, Readings.{read_both, reading_grows}, Spelling.{one_byte}, Wholes.{whole_forward}}, specs.Answer.{found}}
-use Rattle.numbers.specs.{Answer.{if◌then◌else◌}, Point.{signed_of}, Spelling.{Whole}, Varint.{Numeral, numeral, value_of, size_of, reading_of}}
+use Rattle.numbers.specs.{Point.{signed_of}, Spelling.{Whole}, Varint.{Numeral, numeral, value_of, size_of, reading_of}}
 use Rattle.border.specs.{Box.{between}, declared.place.Point.{Point}}
 use Rattle.verdict.{proofs.Gliding.{less_le}, specs.Verdict.{Judgement}}
 use Rattle.table.proofs.{TableRows.{at_row, row_less}, rest.Remaining.{rest_from, skipped, skipped_later}, rows.Entering.{row_read}}
@@ -52,11 +52,11 @@ module _ (file : List ℕ) (place : ℕ) where
             (first ∙ ap (λ (bs : List ℕ). low ∷ bs) (second ∙ ap (λ (bs : List ℕ). middle ∷ bs) third)) (lit≤ tt) (omega arith)
 
 near_same : {file : List ℕ} {place : ℕ} {a b : Numeral} → Near file place a → Near file place b → a ≡ b
-near_same n m = found-one (n.reads false ∙ sym (m.reads false))
+near_same n m = found_one (n.reads false ∙ sym (m.reads false))
 
 -- ---- a box that does not hold the location
 pub below_missed : (bounds : Bounds) (fix : Point) → lt_z bounds.max_lat.0 fix.lat.0 ≡ true → holds bounds fix ≡ false
-below_missed bounds fix e = rw ((less_le _ _ e).1, and-false (le_z bounds.min_lat.0 fix.lat.0)) refl
+below_missed bounds fix e = rw ((less_le bounds.max_lat.0 fix.lat.0 e).1, and-false (le_z bounds.min_lat.0 fix.lat.0)) refl
 
 pub lons_missed : {file : List ℕ} {bounds : Bounds} {west east : ℕ} (fix : Point) → Lons file bounds west east → {a b : Numeral} → Near file west a → Near file east b
     → {r : Bool} → r ≡ between (signed_of a.value) fix.lon.0 (signed_of b.value) → r ≡ false → holds bounds fix ≡ false

@@ -1,5 +1,6 @@
 -- How a call's reply goes with what a definition gives, and with what went into lent buffers.
-use Rattle.numbers.specs.{Prelude.{◌≡◌}, Reply.{Reply, given, refused}}
+use Rattle.std.specs.Prelude.{◌≡◌}
+use Rattle.numbers.specs.Reply.{Reply, given, refused}
 
 -- the same refusal, or both give, and what they give goes together; a refusal says nothing of the buffers, which are zeroed after it
 unfoldable pub Agrees : {A B : Type 0} → (A → B → Type 0) → Reply A → Reply B → Type 0

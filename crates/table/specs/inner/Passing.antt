@@ -1,5 +1,6 @@
 -- Rows that a search passes over. No promise of a public function speaks of it.
-use Rattle.numbers.specs.{Answer.{found}, Point.{signed_of}, Prelude.{ℕ, ◌+◌, ◌≤◌, ◌<◌, length, Bool, true, false, List, ◌≡◌}, Varint.{Numeral, reading_of}}
+use Rattle.std.specs.Prelude.{◌+◌, ◌≤◌, ◌<◌, ◌≡◌}
+use Rattle.numbers.specs.{Answer.{found}, Point.{signed_of}, Prelude.{ℕ, length, Bool, true, false, List}, Varint.{Numeral, reading_of}}
 use Rattle.verdict.specs.Verdict.{Judgement}
 use Rattle.border.specs.declared.place.Point.{Point}
 use Rattle.table.specs.{Rest.{rest_mark}, Rows.{after, start_at, row_by, rows_from}, Search.{seek}, Table.{bounds_of, entry_by, is_above, holds}, declared.{hits.Hit.{Hit}, pass.Bounded.{Bounded}}}

@@ -1,5 +1,6 @@
 -- Boxes whose four bounds have three bytes each. No promise of a public function speaks of it.
-use Rattle.numbers.specs.Prelude.{ℕ, ◌+◌, ◌*◌, ◌%◌, ◌≤◌, ◌<◌, get_or, true, false, List, ◌≡◌}
+use Rattle.std.specs.Prelude.{◌+◌, ◌*◌, ◌%◌, ◌≤◌, ◌<◌, ◌≡◌}
+use Rattle.numbers.specs.Prelude.{ℕ, get_or, true, false, List}
 use Rattle.border.specs.declared.place.Point.{Point}
 use Rattle.table.specs.{Table.{bounds_of, is_above, holds}, declared.table.Bounds.{Bounds}}
 

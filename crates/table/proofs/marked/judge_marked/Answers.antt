@@ -1,0 +1,18 @@
+-- `table::marked::judge_marked` meets its contract, by whether there are marks.
+use Rattle.numbers.proofs.Prelude.{eq-eqb, ne_eqb, sym, ◌∙◌}
+use Rattle.marks.specs.Judging.{judged_by}
+use Rattle.table.specs.MarkedRows.{mark_for, judge_marked}
+use Rattle.table.proofs.marked.judge_marked.Goals as goal
+
+pub returns-then-at-eq0 : goal.returns-then-at-eq0
+unfolding judge_marked
+returns-then-at-eq0 c =
+    let none = eq-eqb (mark_for c.args.marks.now c.args.k) 0 (sym c.mark_for-at.ensures ∙ c.if-at-eq0.true) in
+    c.judge.ensures ∙ rw none
+
+pub returns : goal.returns
+unfolding judge_marked
+returns c =
+    let some = ne_eqb (mark_for c.args.marks.now c.args.k) 0 (λ e. c.if-at-eq0.false (c.mark_for-at.ensures ∙ e)) in
+    c.judge_by.ensures ∙ (λ i. judged_by c.args.file.now (c.encoding_of-encoding.ensures i) c.args.marks.now (c.mark_for-at.ensures i) c.args.fix.lat c.args.fix.lon
+    c.args.asked c.args.least) ∙ rw some
