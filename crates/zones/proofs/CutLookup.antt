@@ -3,7 +3,7 @@ use Rattle.numbers.proofs.Prelude.{ℕ, zero, suc, ◌+◌, ◌-◌, ◌/◌, �
 use Rattle.numbers.{proofs.Readings.{reading_grows}, specs.{Answer.{Answer, found, failed, if◌then◌else◌}, Reply.{Reply, given, refused, plain, ◌>>=◌}, Varint.{reading_of}}}
 use Rattle.verdict.specs.Verdict.{Judgement}
 use Rattle.border.specs.{Encoding.{version_of}, declared.place.Point.{Point}}
-use Rattle.header.{proofs.{StrictHead.{unstrict, table_within, head_strict, shown_same}, Unless.{shown}}, specs.{Field.{field, field_at}, Header.{head_of, head_strictly}, Text.{text_at}}}
+use Rattle.header.{proofs.{StrictHead.{unstrict, table_within, head_strict, shown_same}, Unless.{shown}}, specs.{Field.{field_at}, Header.{head_of, head_strictly}, Text.{text_at}}}
 use Rattle.header.specs.declared.{header.{Head.{Head}, Preamble.{Preamble}, Sections.{Sections}}, text.Blame.{Blame}}
 use Rattle.table.{proofs.{StrictRows.{StrictRows, rows_strictly}, TableRows.{rows_step, row_less}}, specs.{Find.{is_precision, fix_of, matched_with}, Hits.{width}, Rest.{rest_mark}}}
 use Rattle.table.specs.{Rows.{Rows, table_end, start_at, rows_then, row_by, rows_from, rows_in}, Search.{Found, ended, farthest, after_turn, judged_turn, row_turn, seek, judge_in, searched}}
@@ -64,11 +64,11 @@ module _ (file : List ℕ) (preamble : Preamble) (sections : Sections) (inside :
       turn_cuts (Stopped mark least) = alike refl
       turn_cuts (Refused n) = alike refl
 
-      judged_turn_lem : (r : Row) {b : Bool} {strict plainly : Judgement} → CutJudgement E b strict plainly
+      judged_turn_cuts : (r : Row) {b : Bool} {strict plainly : Judgement} → CutJudgement E b strict plainly
           → CutSame E (b || rows_cut file (judged_turn r plainly) hits slots met) (after_turn (judged_turn r strict) hits slots go) (after_turn (judged_turn r plainly) hits slots go')
       unfolding judged_turn
-      judged_turn_lem r (cut_short e) = cut_off e
-      judged_turn_lem r (judged {judgement = judgement}) = turn_cuts (judged_turn r judgement)
+      judged_turn_cuts r (cut_short e) = cut_off e
+      judged_turn_cuts r (judged {judgement = judgement}) = turn_cuts (judged_turn r judgement)
 
       by_row : (r : Row) (least : ℕ) → CutSame E ((if holds r.bounds fix then border_cut file (head_in false) fix asked r.polygon least else false) ||
           rows_cut file (row_turn (judge false) fix r least) hits slots met) (after_turn (row_turn (judge true) fix r least) hits slots go) (after_turn (row_turn (judge false) fix r least) hits slots go')
@@ -78,7 +78,7 @@ module _ (file : List ℕ) (preamble : Preamble) (sections : Sections) (inside :
             (if test then judged_turn r (judge false r.polygon least) else On least) hits slots met)
             (after_turn (if test then judged_turn r (judge true r.polygon least) else On least) hits slots go)
             (after_turn (if test then judged_turn r (judge false r.polygon least) else On least) hits slots go')
-        by_box true = judged_turn_lem r (border_cuts r.polygon least)
+        by_box true = judged_turn_cuts r (border_cuts r.polygon least)
         by_box false = on least hits
 
     abbrev rows : Bool → Cursor → Rows
@@ -88,7 +88,7 @@ module _ (file : List ℕ) (preamble : Preamble) (sections : Sections) (inside :
     sought strict = seek (judge strict) fix end slots
 
     -- behind an early stop both have one mark
-    marks : {r : Row} {strict plainly : Rows} → StrictRows (rest_mark end fix) (T.row r strict) (T.row r plainly) → rest_mark end fix (T.row r strict) ≡ rest_mark end fix (T.row r plainly)
+    marks : {r r' : Row} {strict plainly : Rows} → StrictRows (rest_mark end fix) (T.row r strict) (T.row r' plainly) → rest_mark end fix (T.row r strict) ≡ rest_mark end fix (T.row r' plainly)
     marks (Q.row m h) = m
 
     abbrev Sought : ℕ → Type 0

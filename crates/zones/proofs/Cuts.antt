@@ -1,7 +1,7 @@
 -- Request Q-6: a strict walk is refused 31 exactly where the plain walk meets a number that the file's end cuts, and is else the plain walk. Assumes nothing.
 use Rattle.numbers.proofs.Prelude.{ℕ, zero, suc, ◌+◌, ◌-◌, ◌≤◌, ◌<◌, ltb-true, ltb-false, leb-false, ltb, length, drop, get_or, length-drop, get_or-drop, Bool, true, false, ◌&&◌, ◌||◌, List, [], ◌∷◌}
 use Rattle.numbers.proofs.Prelude.{◌≡◌, refl, sym, ap, subst, ◌∙◌, arith}
-use Rattle.numbers.{proofs.{Answers.{found-one, not-failed, not-refused, All}, Readings.{read_both}, varint.Bytes.{size_last, size_more}}, specs.Answer.{Answer, found, failed, refused}}
+use Rattle.numbers.{proofs.{Answers.{found_one, not_failed, not_refused, All}, Readings.{read_both}, varint.Bytes.{size_last, size_more}}, specs.Answer.{Answer, found, failed, refused}}
 use Rattle.numbers.specs.{Answer.{if◌then◌else◌, ◌>>=◌}, Varint.{Numeral, numeral, is_last, size_of, too_long, forward_at, is_complete, whole_of, reading_of, start_of, backward_at}}
 use Rattle.zones.specs.Cut.{where_found, cut_at, EndsCut}
 
@@ -12,8 +12,8 @@ record Sized (file : List ℕ) (place : ℕ) (number : Numeral) : Type 0 where
 
 found_sized : (file : List ℕ) (place : ℕ) {number : Numeral} → found number ≡ forward_at file place → Sized file place number
 unfolding forward_at
-found_sized file place e = let here = not-failed (ltb place (length file)) e in
-    let both = found-one (not-refused 12 (too_long (drop place file)) here.1).1 in
+found_sized file place e = let here = not_failed (ltb place (length file)) e in
+    let both = found_one (not_refused 12 (too_long (drop place file)) here.1).1 in
     record { inside = ltb-true _ _ here.0; next = ap (λ (n : Numeral). n.place) both }
 
 -- bytes that end inside the number at their head end with a high bit

@@ -70,23 +70,23 @@ pub data NumberedTurn (P : ℕ → Type 0) : Turn → Type 0 where
   stops : {n : ℕ} → P n → NumberedTurn P (Refused n)
 
 module _ {P : ℕ → Type 0} where
-  judged_turn_lem : (r : Row) {judgement : Judgement} → NumberedJudgement P judgement → NumberedTurn P (judged_turn r judgement)
+  judged_turn_numbered : (r : Row) {judgement : Judgement} → NumberedJudgement P judgement → NumberedTurn P (judged_turn r judgement)
   unfolding judged_turn
-  judged_turn_lem r (judged {v = verdict}) = either (NumberedTurn P) (eqb (kind_of verdict) 0) on met
-  judged_turn_lem r unjudged = ends
-  judged_turn_lem r (not_judged h) = stops h
+  judged_turn_numbered r (judged {v = verdict}) = either (NumberedTurn P) (eqb (kind_of verdict) 0) on met
+  judged_turn_numbered r unjudged = ends
+  judged_turn_numbered r (not_judged h) = stops h
 
-  pub row_turn_lem : (judge : ℕ → ℕ → Judgement) (fix : Point) → ((place least : ℕ) → NumberedJudgement P (judge place least)) → (r : Row) (least : ℕ) → NumberedTurn P (row_turn judge fix r least)
+  pub row_turn_numbered : (judge : ℕ → ℕ → Judgement) (fix : Point) → ((place least : ℕ) → NumberedJudgement P (judge place least)) → (r : Row) (least : ℕ) → NumberedTurn P (row_turn judge fix r least)
   unfolding row_turn
-  row_turn_lem judge fix judges r least = either (NumberedTurn P) (holds r.bounds fix) (judged_turn_lem r (judges r.polygon least)) on
+  row_turn_numbered judge fix judges r least = either (NumberedTurn P) (holds r.bounds fix) (judged_turn_numbered r (judges r.polygon least)) on
 
   -- 17 where there is no room
-  pub after_turn_lem : P 17 → {turn : Turn} (hits : List Hit) (room : ℕ) {go : ℕ → List Hit → Reply Found} → NumberedTurn P turn
+  pub after_turn_numbered : P 17 → {turn : Turn} (hits : List Hit) (room : ℕ) {go : ℕ → List Hit → Reply Found} → NumberedTurn P turn
       → ((least : ℕ) (hits : List Hit) → NumberedReply P (go least hits)) → NumberedReply P (after_turn turn hits room go)
-  after_turn_lem full hits room (on {least}) k = k least hits
-  after_turn_lem full hits room (met {hit} {least}) k = either (NumberedReply P) (ltb (length hits) room) (k least (hits ++ hit ∷ [])) (refuses full)
-  after_turn_lem full hits room ends k = answers
-  after_turn_lem full hits room (stops h) k = refuses h
+  after_turn_numbered full hits room (on {least}) k = k least hits
+  after_turn_numbered full hits room (met {hit} {least}) k = either (NumberedReply P) (ltb (length hits) room) (k least (hits ++ hit ∷ [])) (refuses full)
+  after_turn_numbered full hits room ends k = answers
+  after_turn_numbered full hits room (stops h) k = refuses h
 
   pub replied_numbered : {A : Type 0} (n room : ℕ) {reply : Reply (Outcome A)} → NumberedReply P reply → NumberedReply P (replied_of n room reply).reply
   unfolding replied_of
@@ -101,23 +101,23 @@ module _ {P : ℕ → Type 0} (twelve : P 12) (fourteen : P 14) (fifteen : P 15)
       then_reply (text_numbered twelve fourteen head.strict cut file metadata place _ fifteen)
       (λ text. and_then (demands (leb (length (field tag (bytes_of file text))) room) (plain 18) eighteen) answers)
 
-  fields_from_lem : (room more tag place : ℕ) (text : List ℕ) → NumberedReply P (fields_from file head room more tag place text)
+  fields_numbered : (room more tag place : ℕ) (text : List ℕ) → NumberedReply P (fields_from file head room more tag place text)
   unfolding fields_from
-  fields_from_lem room zero tag place text = answers
-  fields_from_lem room (suc more) tag place text =
-      then_reply (field_numbered head.sections.metadata place tag (room - length text)) (λ field. fields_from_lem room more (tag + 1) field.next (text ++ field.bytes))
+  fields_numbered room zero tag place text = answers
+  fields_numbered room (suc more) tag place text =
+      then_reply (field_numbered head.sections.metadata place tag (room - length text)) (λ field. fields_numbered room more (tag + 1) field.next (text ++ field.bytes))
 
   pub fields : (room : ℕ) (matches : List Hit) (text : List ℕ) → NumberedReply P (fields_of file head room matches text)
   unfolding fields_of
   fields room [] text = answers
-  fields room (match ∷ matches) text = then_reply (fields_from_lem room head.preamble.count 0 (fields_place head match.metadata) text) (fields room matches)
+  fields room (match ∷ matches) text = then_reply (fields_numbered room head.preamble.count 0 (fields_place head match.metadata) text) (fields room matches)
 
 -- ---- the search of a table
 module _ (strict : Bool) (judge : ℕ → ℕ → Judgement) (fix : Point) (judges : (place least : ℕ) → NumberedJudgement (Known strict) (judge place least)) where
   seeks : (end room : ℕ) (rows : Rows) → NumberedRows strict rows → (least : ℕ) (hits : List Hit) → NumberedReply (Known strict) (seek judge fix end room rows least hits)
   unfolding seek
   seeks end room (row r rows) h least hits =
-      either (NumberedReply (Known strict)) (is_above r.bounds fix) answers (after_turn_lem refl hits room (row_turn_lem judge fix judges r least) (seeks end room rows h))
+      either (NumberedReply (Known strict)) (is_above r.bounds fix) answers (after_turn_numbered refl hits room (row_turn_numbered judge fix judges r least) (seeks end room rows h))
   seeks end room table_end h least hits = answers
   seeks end room unreadable h least hits = answers
   seeks end room (T.refused n) h least hits = refuses h

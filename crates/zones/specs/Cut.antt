@@ -1,6 +1,7 @@
 -- Request Q-6: which numbers the plain walk meets that the file's end cuts. Each definition follows the plain walk, up to where it is refused or ends.
-use Rattle.numbers.specs.Prelude.{ℕ, zero, suc, ◌+◌, ◌-◌, ◌/◌, ◌%◌, ◌^◌, ◌≤◌, eqb, ltb, pos, length, get_or, Bool, true, false, ◌||◌, List, [], ◌∷◌, ◌++◌}
-use Rattle.numbers.specs.{Answer.{Answer, found, failed, refused, if◌then◌else◌}, Reply.{Reply, given}, Varint.{Numeral, is_complete, reading_of}}
+use Rattle.std.specs.Prelude.{◌+◌, ◌-◌, ◌/◌, ◌%◌, ◌^◌, ◌≤◌, ◌||◌, ◌∷◌, ◌++◌, if◌then◌else◌}
+use Rattle.numbers.specs.Prelude.{ℕ, zero, suc, eqb, ltb, pos, length, get_or, Bool, true, false, List, []}
+use Rattle.numbers.specs.{Answer.{Answer, found, failed, refused}, Reply.{Reply, given}, Varint.{Numeral, is_complete, reading_of}}
 use Rattle.verdict.specs.{Step.{Step}, Verdict.{Last, none, after, passing}, declared.step.Tally.{Tally}}
 use Rattle.border.specs.{Encoding.{version_of, encoded_by}, Reader.{Turn, gives, again, ends, turn_of}, Trace.{Given, reaches, ended, turns, next_point, border_at}, declared.place.Point.{Point}}
 use Rattle.border.specs.declared.reader.{Reader.{Reader}, Run.{Run, TheVariants.{Idle, Forward, Backward}}, Version.{Version, TheVariants.{Plain, Packed}}}

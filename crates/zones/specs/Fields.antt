@@ -1,5 +1,6 @@
 -- The fields of the matches, as document 01 has them: in file order, each into what remains of the lent text.
-use Rattle.numbers.specs.{Lists.{padded}, Prelude.{ℕ, zero, suc, ◌+◌, ◌-◌, ◌%◌, ◌^◌, length, List, [], ◌∷◌, ◌++◌, ◌≡◌}, Reply.{Reply, given, refused, ◌>>=◌}}
+use Rattle.std.specs.Prelude.{◌+◌, ◌-◌, ◌%◌, ◌^◌, ◌∷◌, ◌++◌, ◌≡◌}
+use Rattle.numbers.specs.{Lists.{padded}, Prelude.{ℕ, zero, suc, length, List, []}, Reply.{Reply, given, refused, ◌>>=◌}}
 use Rattle.header.specs.{Field.{field_at}, declared.header.Head.{Head}}
 use Rattle.table.specs.declared.hits.Hit.{Hit}
 use Rattle.zones.specs.declared.fields.Fields.{Fields}

@@ -1,5 +1,6 @@
 -- What an entry point answers, and what goes into the buffers that it was lent.
-use Rattle.numbers.specs.{Lists.{zeros, padded}, Prelude.{ℕ, List, ◌≡◌}, Reply.{Reply, given, refused}}
+use Rattle.std.specs.Prelude.{◌≡◌}
+use Rattle.numbers.specs.{Lists.{zeros, padded}, Prelude.{ℕ, List}, Reply.{Reply, given, refused}}
 use Rattle.table.specs.{Hits.{words}, declared.hits.Hit.{Hit}}
 
 -- the answer, and what is put into the lent list and the lent text

@@ -1,6 +1,7 @@
 -- Lookup, as document 01 has it.
-use Rattle.numbers.specs.Prelude.{ℕ, ◌/◌, binary32, pos, length, Bool, true, List, [], ◌≡◌, to_bits}
-use Rattle.numbers.specs.{Answer.{if◌then◌else◌}, Float.{to_f32, one_shifted, ◌⊠◌, ◌⊘◌, Root.{root}}, Lists.{padded}, Reply.{Reply, given, refused, ◌>>=◌}}
+use Rattle.numbers.specs.Prelude.{ℕ, binary32, pos, length, Bool, true, List, []}
+use Rattle.std.specs.Prelude.{to_bits, ◌/◌, ◌≡◌, if◌then◌else◌}
+use Rattle.numbers.specs.{Float.{to_f32, one_shifted, ◌⊠◌, ◌⊘◌, Root.{root}}, Lists.{padded}, Reply.{Reply, given, refused, ◌>>=◌}}
 use Rattle.header.specs.{Header.{head_by, head_of}, declared.header.Head.{Head}}
 use Rattle.table.specs.{Find.{ninety, Matched, matched_with}, GivenRows.{matched_listed}, Hits.{width}, declared.{find.Matches.{Matches}, location.Location.{Location}}}
 use Rattle.zones.specs.{Fields.{fields_of}, Lent.{Outcome, Replied, replied_of}, declared.lookup.{Looked.{Looked}, Zones.{Zones}}}

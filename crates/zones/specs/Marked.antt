@@ -1,5 +1,6 @@
 -- Lookup among rows that are given as words with marks along their borders: document 04.
-use Rattle.numbers.specs.{Prelude.{ℕ, ◌/◌, Bool, List}, Reply.{Reply}}
+use Rattle.std.specs.Prelude.{◌/◌}
+use Rattle.numbers.specs.{Prelude.{ℕ, Bool, List}, Reply.{Reply}}
 use Rattle.header.specs.declared.header.Head.{Head}
 use Rattle.table.specs.{Hits.{width}, MarkedRows.{matched_marked}, declared.location.Location.{Location}}
 use Rattle.zones.specs.{Lent.{Outcome, Replied, replied_of}, Lookup.{zones_from}, declared.lookup.Zones.{Zones}}

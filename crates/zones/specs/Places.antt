@@ -1,5 +1,6 @@
 -- Where a match came from (request Q-13): the entry at its place, and document 01's lookups, which know no places and have three words a hit.
-use Rattle.numbers.specs.{Answer.{found}, Lists.{zeros, padded}, Prelude.{ℕ, ◌/◌, Bool, true, false, List, [], ◌∷◌, ◌≡◌}, Reply.{Reply, given, refused, ◌>>=◌}, Varint.{forward_at}}
+use Rattle.std.specs.Prelude.{◌/◌, ◌∷◌, ◌≡◌}
+use Rattle.numbers.specs.{Answer.{found}, Lists.{zeros, padded}, Prelude.{ℕ, Bool, true, false, List, []}, Reply.{Reply, given, refused, ◌>>=◌}, Varint.{forward_at}}
 use Rattle.table.specs.{Find.{fix_of, Matched, matched_by}, Rows.{Rows, row, table_end, unreadable, rows_in}, Search.{searched_rows}, Table.{entry_by, holds}, declared.hits.Hit.{Hit}}
 use Rattle.table.specs.declared.{location.Location.{Location}, rows.Row.{Row}, table.Entry.{Entry}}
 use Rattle.header.specs.{Header.{head_of}, declared.header.Head.{Head}}

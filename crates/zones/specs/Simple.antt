@@ -1,6 +1,7 @@
 -- Simple lookup, as document 01 has it: the fields of every match are checked, and the first match is described.
-use Rattle.numbers.specs.Prelude.{ℕ, zero, suc, ◌+◌, ◌/◌, ◌≤◌, eqb, leb, length, Bool, true, false, ◌&&◌, List, [], ◌∷◌, ◌++◌, Option, some, none, ◌≡◌}
-use Rattle.numbers.specs.{Answer.{if◌then◌else◌}, Lists.{padded}, Reply.{Reply, given, refused, plain, demand, ◌>>=◌, ◌>>◌}}
+use Rattle.std.specs.Prelude.{◌+◌, ◌/◌, ◌≤◌, ◌&&◌, ◌∷◌, ◌++◌, ◌≡◌, if◌then◌else◌}
+use Rattle.numbers.specs.Prelude.{ℕ, zero, suc, eqb, leb, length, Bool, true, false, List, [], Option, some, none}
+use Rattle.numbers.specs.{Lists.{padded}, Reply.{Reply, given, refused, plain, demand, ◌>>=◌, ◌>>◌}}
 use Rattle.header.specs.{Header.{blame_of, head_of}, Text.{text_at, bytes_of}, declared.{header.Head.{Head}, text.Text.{Text}}}
 use Rattle.table.specs.{Find.{Matched, matched_with}, Hits.{width}, declared.{find.Matches.{Matches}, hits.Hit.{Hit}, location.Location.{Location}}}
 use Rattle.zones.specs.{Fields.{fields_place}, Lent.{Outcome, Replied, replied_of}, declared.simple.{Checked.{Checked}, Described.{Described}, Description.{Description}, Named.{Named}}}

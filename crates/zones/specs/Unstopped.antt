@@ -1,5 +1,6 @@
 -- The lookups whose search never stops early: what mark 1 is held against.
-use Rattle.numbers.specs.{Prelude.{ℕ, ◌/◌, Bool, true, false, List, ◌≡◌}, Reply.{given, ◌>>=◌}}
+use Rattle.std.specs.Prelude.{◌/◌, ◌≡◌}
+use Rattle.numbers.specs.{Prelude.{ℕ, Bool, true, false, List}, Reply.{given, ◌>>=◌}}
 use Rattle.header.specs.{Header.{head_of}, declared.header.Head.{Head}}
 use Rattle.table.specs.{Ending.{Through}, Find.{fix_of}, Hits.{width}, Rows.{Rows, row, rows_in}, Search.{judge_in, farthest}, Table.{is_above}, Unstopped.{matched_all, SomeHolds}}
 use Rattle.table.specs.declared.{hits.Hit.{Hit}, location.Location.{Location}, rows.Row.{Row}}

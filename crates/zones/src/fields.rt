@@ -11,7 +11,7 @@ use numbers::refusal::Refusal;
 use std::num::wrapping_add_u32;
 use table::hits::hit_at;
 
-#[derive(Drop)]
+#[derive(Clone, Copy)]
 pub enum Fields {
     // How much of the text is used.
     Used(usize),

@@ -20,7 +20,7 @@ use table::listed::find_listed;
 use table::location::Location;
 
 // How many matches, the end mark, the safezone's bits (0 if not asked), and how much of the text is used.
-#[derive(Drop)]
+#[derive(Clone, Copy)]
 pub struct Zones {
     pub matches: usize,
     pub mark: u8,
@@ -28,7 +28,7 @@ pub struct Zones {
     pub used: usize,
 }
 
-#[derive(Drop)]
+#[derive(Clone, Copy)]
 pub enum Looked {
     Zones(Zones),
     Refused(Refusal),

@@ -19,7 +19,7 @@ use table::find::{Found, Matches, find_in};
 use table::hits::hit_at;
 use table::location::Location;
 
-#[derive(Drop)]
+#[derive(Clone, Copy)]
 pub enum Description {
     // How many bytes of the text it takes.
     Length(usize),
@@ -28,59 +28,59 @@ pub enum Description {
 }
 
 // The description, with the number of matches and the end mark.
-#[derive(Drop)]
+#[derive(Clone, Copy)]
 pub struct Described {
     pub matches: usize,
     pub mark: u8,
     pub description: Description,
 }
 
-#[derive(Drop)]
+#[derive(Clone, Copy)]
 pub enum Simple {
     Described(Described),
     Refused(Refusal),
 }
 
-#[derive(Drop)]
+#[derive(Clone, Copy)]
 pub enum Value {
     At(Text),
     Missing,
 }
 
 // The last value of each of the two wanted names.
-#[derive(Drop)]
+#[derive(Clone, Copy)]
 pub struct Picked {
     pub one: Value,
     pub two: Value,
 }
 
-#[derive(Drop)]
+#[derive(Clone, Copy)]
 enum Picks {
     Picked(Picked),
     Refused(Refusal),
 }
 
 // A name stands in the file in one part after the other; a country's second part is empty.
-#[derive(Drop)]
+#[derive(Clone, Copy)]
 pub struct Parts {
     pub one: Text,
     pub two: Text,
 }
 
-#[derive(Drop)]
+#[derive(Clone, Copy)]
 pub enum Named {
     Name(Parts),
     Missing,
     Refused(Refusal),
 }
 
-#[derive(Drop)]
+#[derive(Clone, Copy)]
 enum Checked {
     Good,
     Refused(Refusal),
 }
 
-#[derive(Drop)]
+#[derive(Clone, Copy)]
 enum Wording {
     Description(Description),
     Refused(Refusal),

@@ -1,0 +1,44 @@
+-- `zones::simple::pick` meets its contract. The loop's invariant: the fields that are left give the whole.
+use Rattle.numbers.proofs.Prelude.{sym, ap, ◌∙◌, arith}
+use Rattle.zones.proofs.simple.{Picking.{starts, all_picked, no_name, name_inside, no_value, goes}}
+use Rattle.header.specs.{Text.{told_read}}
+use Rattle.zones.proofs.simple.pick.Goals as goal
+
+pub loop-index-init : goal.loop-index-init
+loop-index-init c =
+    (starts _ _ _ _ c.begun-last.ensures, omega arith)
+
+pub returns-in-Refused : goal.returns-in-Refused
+returns-in-Refused c =
+    no_name _ _ _ _ _ _ _ c.loop-index.invariant.0 c.loop-index-test.true (sym (ap told_read c.in-Refused.is) ∙ c.read_header_text.ensures)
+
+pub returns-in-Refused-read_text : goal.returns-in-Refused-read_text
+returns-in-Refused-read_text c =
+    no_value _ _ _ _ _ _ _ c.loop-index.invariant.0 c.loop-index-test.true (sym (ap told_read c.in-Text.is)
+    ∙ c.read_header_text.ensures) (sym (ap told_read c.in-Refused-read_text.is) ∙ c.read_text.ensures)
+
+pub part_of-requires : goal.part_of-requires
+part_of-requires c =
+    name_inside _ _ _ _ _ _ _ c.loop-index.invariant.0 c.loop-index-test.true (sym (ap told_read c.in-Text.is) ∙ c.read_header_text.ensures)
+
+pub overflow_add-index : goal.overflow_add-index
+overflow_add-index c =
+    omega (arith, c.loop-index-test.true, c.struct_known-1.given)
+
+pub loop-index-smaller : goal.loop-index-smaller
+loop-index-smaller c =
+    omega (arith, c.loop-index-test.true)
+
+pub loop-index-preserved : goal.loop-index-preserved
+loop-index-preserved c = (
+  goes _ _ _ _ _ _ _ c.loop-index.invariant.0 c.loop-index-test.true (sym (ap told_read c.in-Text.is)
+      ∙ c.read_header_text.ensures) (sym (ap told_read c.in-Text-read_text.is) ∙ c.read_text.ensures) c.part_of.ensures c.newer-last.ensures,
+  omega (
+    arith,
+    c.loop-index-test.true,
+  ),
+)
+
+pub returns : goal.returns
+returns c =
+    all_picked _ _ _ _ _ _ _ c.loop-index.invariant.0 c.loop-index-test.false
