@@ -1,11 +1,13 @@
 -- Words that building gave for a file are tied to it, and zeros, which a refused building leaves, to none. Assumes nothing.
-use Rattle.numbers.proofs.Prelude.{ℕ, zero, suc, ◌+◌, ◌-◌, ◌*◌, ◌^◌, ◌≤◌, ◌<◌, eq-eqb, ne_eqb, le-leb, leb-true, eqb, leb, length, take, get_or, length-append, List·getD-append, get_or-append-add, Bool}
+use Rattle.numbers.proofs.Prelude.{ℕ, zero, suc, ◌+◌, ◌-◌, ◌*◌, ◌^◌, ◌≤◌, ◌<◌, eq-eqb, ne_eqb, le-leb, leb-true, eqb, leb, length, take, get_or, length-append, List·getD-append}
+use Rattle.numbers.proofs.Prelude.{get_or-append-add, Bool}
 use Rattle.numbers.proofs.Prelude.{true, false, ◌&&◌, List, [], ◌∷◌, ◌++◌, append_assoc, ◌≡◌, refl, sym, ap, subst, ◌∙◌, add-zero, arith}
 use Rattle.numbers.{proofs.Replies.{given_from, demanded, given_one}, specs.{Lists.{zeros, padded}, Reply.{Reply, given, refused, refusal, plain}}}
 use Rattle.table.specs.{Find.{is_precision}, declared.rows.Row.{Row}}
 use Rattle.header.specs.{Header.{preamble_of, contents_by, head_by, head_of}, declared.header.Head.{Head}}
 use Rattle.index.proofs.{Keeping.{packed_length}, Sides.{and_rest}, Tabling.{records_length}, Tying.{end_decides, tied_so, tied_not}, Whole.{lists_length, starts_length}}
-use Rattle.index.specs.Index.{records_of, four_at, packed_from, words_for, kept_of, lists_from, joined, starts_from, tiles, records_at, lists_at, index_of, has_room, index_in, indexed_by, built_in, built_with}
+use Rattle.index.specs.Index.{records_of, four_at, packed_from, words_for, kept_of, lists_from, joined, starts_from, tiles, records_at, lists_at, index_of, has_room, index_in, indexed_by}
+use Rattle.index.specs.Index.{built_in, built_with}
 use Rattle.index.specs.{Index.{indexed_of}, Table.{table_of}, Tied.{word_at, is_headed, keeps_from, is_tied, tied_of}}
 
 -- ---- kept bytes

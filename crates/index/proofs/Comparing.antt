@@ -7,7 +7,6 @@ use Rattle.index.proofs.{Listing.{list_met, list_not, list_done, list_few}, Stan
 use Rattle.index.proofs.Tabling.{records_length, records_snoc, Tabling, tabling_starts, starts_done, tabling_next, next_done}
 use Rattle.index.specs.{Index.{record_of, records_of, records_at, tiles}, Table.{is_next}, Tiles.{tile_at}, declared.tiles.Tile.{Tile}, inner.Building.{is_met_in, list_in, lists_in}}
 use Rattle.index.specs.inner.Own.{is_word, is_at, stands_from, lists_stand, is_empty_from}
-use Rattle.numbers.specs.Answer as A
 
 -- ---- one word
 module _ (words : List ℕ) where
@@ -40,9 +39,6 @@ module _ (words : List ℕ) where
       pub few : at ≤ from + k
       pub same : list ≡ stands_from words at (list_in words tile (n - k) k)
 
-    pub stepping_starts : Stepping from 0
-    stepping_starts = let z : n - 0 ≡ n = omega arith in record { within = omega arith; few = omega arith; same = rw z }
-
     module _ {at k : ℕ} (g : Stepping at k) where
       pub stepping_ends : n ≤ k → given at ≡ list
       stepping_ends h = stands_none at ∙ sym (g.same ∙ ap (stands_from words at) (list_done words tile n k h))
@@ -73,9 +69,6 @@ module _ (words : List ℕ) where
       pub within : t ≤ tiles
       pub few : at ≤ from + 2 ^ 32 * t
       pub same : lists ≡ lists_stand words (3 + t) at (rest_at t)
-
-    pub walking_starts : Walking from 0
-    walking_starts = record { within = omega arith; few = omega arith; same = refl }
 
     module _ {at t : ℕ} (g : Walking at t) where
       module _ (end : tiles ≤ t) where

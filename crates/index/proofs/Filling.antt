@@ -49,7 +49,8 @@ module _ (file : List ℕ) (head : Head) (i0 i1 i2 : List ℕ) (n begin : ℕ) (
           ap (λ (m : List ℕ). get_or m (records_at + 7 * 0 + i) 0) h ∙ read_above (length file ∷ head.sections.metadata ∷ n ∷ []) i2 0 (records_at + 7 * 0 + i) 0
           (omega arith) ∙ ap (λ (m : List ℕ). get_or m (records_at + 7 * 0 + i) 0) k.stored ∙ read_below (kept_of file head.sections.metadata) i1
           (records_at + 7 * n) (records_at + 7 * 0 + i) 0 (omega (arith, t.fits.counted)) ∙ ap (λ (m : List ℕ). get_or m (records_at + 7 * 0 + i) 0) t.fits.stored
-          ∙ ap (λ (j : ℕ). get_or (sets i0 records_at (records_of rows)) j 0) at ∙ read_stored (records_of rows) i0 records_at i 0 (omega (arith, size)) (omega (arith, size, cut, t.fits.counted, room))
+          ∙ ap (λ (j : ℕ). get_or (sets i0 records_at (records_of rows)) j 0) at
+          ∙ read_stored (records_of rows) i0 records_at i 0 (omega (arith, size)) (omega (arith, size, cut, t.fits.counted, room))
 
       same_lists : lists_in i3 head.preamble.precision n tiles 0 ≡ lists
       same_lists = ap (λ (m : ℕ). lists_in i3 head.preamble.precision m tiles 0) t.fits.counted ∙ lists_of_rows i3 head.preamble.precision rows tiles 0 recorded

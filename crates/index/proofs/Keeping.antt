@@ -1,11 +1,7 @@
 -- The bytes kept in the index. Assumes nothing.
-use Rattle.numbers.proofs.Prelude.{ℕ, zero, suc, ◌+◌, ◌-◌, ◌/◌, ◌≤◌, ◌<◌, min, length, take, get_or, length-take, List·getD-eq-default, List, [], ◌∷◌, ◌++◌, ◌≡◌, refl, sym, ap, arith}
-use Rattle.writer.{proofs.Stores.{Left, left_all, left_step}, specs.inner.Stored.{Stored}}
+use Rattle.numbers.proofs.Prelude.{ℕ, zero, suc, ◌+◌, ◌-◌, ◌/◌, ◌≤◌, ◌<◌, length, take, List, [], ◌∷◌, ◌++◌, ◌≡◌, refl, ap, arith}
+use Rattle.writer.{proofs.Stores.{Left, left_step}, specs.inner.Stored.{Stored}}
 use Rattle.index.specs.Index.{four_at, packed_from, kept_of}
-
--- past the end there is none
-pub none_past : (l : List ℕ) (size place : ℕ) → min size (length l) ≤ place → 0 ≡ get_or (take size l) place 0
-none_past l size place h = sym (List·getD-eq-default (take size l) 0 {n = place} (omega (arith, length-take size l)))
 
 pub packed_length : (bytes : List ℕ) (more i : ℕ) → length (packed_from bytes more i) ≡ more
 unfolding packed_from
@@ -28,9 +24,6 @@ pub record Keeping (file : List ℕ) (size : ℕ) (before : List ℕ) (from : �
   pub left : Left before from (kept_of file size) now at (packed_from (take size file) ((size + 3 - place) / 4) place)
 
 module _ {file : List ℕ} {size : ℕ} {before : List ℕ} {from : ℕ} where
-  pub keeping_starts : Keeping file size before from before from 0
-  keeping_starts = let z : size + 3 - 0 ≡ size + 3 = omega arith in record { within = omega arith; few = omega arith; left = rw z left_all }
-
   pub keeping_step : {now after : List ℕ} {at next place : ℕ} → Keeping file size before from now at place → place < size → Stored now at (four_at (take size file) place ∷ []) after next
       → Keeping file size before from after next (place + 4)
   keeping_step {place = place} g h s = let whole = packed_step (take size file) size place h in record {

@@ -1,7 +1,8 @@
 -- Lists of a tile by the records in the words, and their places. Assumes nothing.
-use Rattle.numbers.proofs.{Lists.{sets_append}, Prelude.{ℕ, zero, suc, ◌+◌, ◌-◌, ◌*◌, ◌^◌, ◌≤◌, ◌<◌, length, get_or, set, length-append, sets, get_or-set_other, Bool, true, false, List, [], ◌∷◌, ◌++◌}}
+use Rattle.numbers.proofs.Lists.{sets_append}
+use Rattle.numbers.proofs.Prelude.{ℕ, zero, suc, ◌+◌, ◌-◌, ◌*◌, ◌^◌, ◌≤◌, ◌<◌, length, get_or, set, length-append, sets, get_or-set_other, Bool, true, false, List, [], ◌∷◌, ◌++◌}
 use Rattle.numbers.{proofs.Prelude.{map, ◌≡◌, refl, sym, ap, subst, ◌∙◌, arith}, specs.Answer.{if◌then◌else◌}}
-use Rattle.writer.{proofs.Stores.{stored_length, Left, left_all, left_step}, specs.inner.Stored.{Stored}}
+use Rattle.writer.{proofs.Stores.{stored_length, Left, left_step}, specs.inner.Stored.{Stored}}
 use Rattle.index.proofs.Stores.{set_before, read_below, left_below}
 use Rattle.index.specs.{Index.{records_at, joined, starts_from, tiles}, Tiles.{tile_at}, declared.tiles.Tile.{Tile}, inner.Building.{is_met_in, list_in, lists_in, low, Listed}}
 
@@ -52,9 +53,6 @@ pub record Going (before : List ℕ) (tile : Tile) (n from : ℕ) (now : List �
   pub left : Left before from (list_in before tile n 0) now at (list_in before tile (n - k) k)
 
 module _ {before : List ℕ} {tile : Tile} {n from : ℕ} where
-  pub going_starts : Going before tile n from before from 0
-  going_starts = let z : n - 0 ≡ n = omega arith in record { within = omega arith; above = omega arith; few = omega arith; left = rw z left_all }
-
   module _ {now : List ℕ} {at k : ℕ} (g : Going before tile n from now at k) (more : k < n) (room : records_at + 7 * n ≤ from) where
     met_now : is_met_in now tile k ≡ is_met_in before tile k
     met_now = met_same from now before (λ i l h. left_below g.left g.above i h) tile k (omega arith)
@@ -100,9 +98,6 @@ module _ (before : List ℕ) (precision n from : ℕ) where
     pub same : sets (sets now at (joined (rest_at t))) (3 + t) (map low (starts_from at (rest_at t))) ≡ sets (sets before from (joined all_lists)) 3 (map low (starts_from from all_lists))
     pub size : length now ≡ length before
     pub records : Same from now before
-
-  pub tiling_starts : Tiling before from 0
-  tiling_starts = record { within = omega arith; above = omega arith; few = omega arith; places = refl; same = refl; size = refl; records = λ i l h. refl }
 
   module _ {now : List ℕ} {at t : ℕ} (g : Tiling now at t) (more : t < tiles) (room : records_at + 7 * n ≤ from) (small : n < 2 ^ 32) where
     abbrev list : List ℕ

@@ -1,12 +1,13 @@
 -- Which numbers a lookup through an index can be refused with, whatever the words are. Assumes nothing.
 use Rattle.numbers.proofs.{Prelude.{ℕ, ◌/◌, ltb, length, Bool, true, false, List, [], ◌∷◌, ◌++◌, ◌≡◌, refl, sym, ◌∙◌}, Refusals.{Listed, still_listed, either}, Replies.{NumberedReply, answers}}
-use Rattle.numbers.{proofs.{Replies.{refuses, then_reply, then_with, and_then, demands, number_of_lem}, Tests.{differ}}, specs.{Reply.{Reply, refused, plain, ◌>>=◌}, declared.refusal.Refusal.{Refusal}}}
+use Rattle.numbers.proofs.{Replies.{refuses, then_reply, then_with, and_then, demands, number_of_lem}, Tests.{differ}}
+use Rattle.numbers.specs.{Reply.{Reply, refused, plain, ◌>>=◌}, declared.refusal.Refusal.{Refusal}}
 use Rattle.border.specs.declared.place.Point.{Point}
 use Rattle.verdict.{proofs.Numbered.{NumberedJudgement, judged_numbered}, specs.Verdict.{Judgement}}
 use Rattle.header.{proofs.{Numbered.{header_numbers, head_numbered}, StrictHead.{head_strict}}, specs.{Header.{head_of}, declared.header.Head.{Head}}}
 use Rattle.table.specs.{Find.{fix_of, is_precision}, GivenRows.{row_at, rows_by, searched_listed, matched_listed}, Hits.{width}, Rows.{Rows, row}, Search.{judge_in, farthest}, Unstopped.{seek_all}}
 use Rattle.table.specs.declared.{hits.Hit.{Hit}, location.Location.{Location}, rows.Row.{Row}}
-use Rattle.zones.{proofs.NumberedLookup.{lookup_numbers, row_turn_lem, after_turn_lem, replied_numbered, fields}, specs.Lookup.{zones_listed}}
+use Rattle.zones.{proofs.NumberedLookup.{lookup_numbers, row_turn_numbered, after_turn_numbered, replied_numbered, fields}, specs.Lookup.{zones_listed}}
 use Rattle.index.specs.{Through.{is_inside, place_of, zones_through, looked_through, looked_indexed}, Tied.{is_headed, is_tied, tied_with}, Tiles.{tile_of}}
 use Rattle.table.specs.Rows as T
 
@@ -45,8 +46,8 @@ module _ (judge : ℕ → ℕ → Judgement) (fix : Point) (judges : (place leas
   unfolding rows_by seek_all
   seeks row_of room records [] = λ least hits. answers
   seeks row_of room records (k ∷ numbers) =
-      either (Sought room) (ltb k (length records / 7)) {a = row (row_of records k) (rows_by row_of records numbers)} {b = T.refused 36} (λ least hits. after_turn_lem
-      refl hits room (row_turn_lem judge fix judges (row_of records k) least) (seeks row_of room records numbers)) (λ least hits. refuses refl)
+      either (Sought room) (ltb k (length records / 7)) {a = row (row_of records k) (rows_by row_of records numbers)} {b = T.refused 36} (λ least hits. after_turn_numbered
+      refl hits room (row_turn_numbered judge fix judges (row_of records k) least) (seeks row_of room records numbers)) (λ least hits. refuses refl)
 
 -- ---- a file that was read plainly: no number of it is 31
 module _ (file : List ℕ) (head : Head) (plainly : head.strict ≡ false) where

@@ -1,6 +1,6 @@
 -- The rows of a table that can be indexed are numbered from 0 up, and their boxes have the coordinates of an i32. Assumes nothing.
 use Rattle.numbers.proofs.Prelude.{ℕ, zero, suc, ◌+◌, ◌-◌, ◌%◌, ◌^◌, ◌<◌, ltb-true, ltb, ℤ, Bool, true, false, List, [], ◌∷◌, ◌≡◌, refl, sym, ap, subst, w32, SFits, arith}
-use Rattle.numbers.proofs.{Answers.{found-one, found_from}, Coordinates.{signed_fits}, Readings.{Grows, reading_grows}, Replies.{given_from, demanded, given_one}}
+use Rattle.numbers.proofs.{Answers.{found_one, found_from}, Coordinates.{signed_fits}, Readings.{Grows, reading_grows}, Replies.{given_from, demanded, given_one}}
 use Rattle.numbers.specs.{Answer.{Answer, found, if◌then◌else◌}, Reply.{given, plain}, Varint.{Numeral, reading_of}}
 use Rattle.table.{proofs.TableRows.{row_less}, specs.{Ordered.{lowest}, Rows.{table_end, after, start_at, rows_then, row_by, rows_within, rows_from, rows_in}, Table.{steps_by, entry_by}}}
 use Rattle.table.specs.declared.{rows.{Cursor.{Cursor}, Row.{Row}}, table.{Bounds.{Bounds}, Entry.{Entry}}}
@@ -27,12 +27,12 @@ module _ (read : ℕ → Answer Numeral) (grows : Grows read) (end : ℕ) where
   entry_fits place e = let a = found_from (read place) _ e in let b = found_from (read a.it.place) _ a.onto in
       let c = found_from (read b.it.place) _ b.onto in let d = found_from (read c.it.place) _ c.onto in
       let m = found_from (read d.it.place) _ d.onto in let p = found_from (read m.it.place) _ m.onto in
-      let form = ap (λ (x : Entry). x.bounds) (found-one p.onto) in
+      let form = ap (λ (x : Entry). x.bounds) (found_one p.onto) in
       subst Fitting (sym form) (record { south = signed_fits a.it.value; west = signed_fits b.it.value; north = signed_fits c.it.value; east = signed_fits d.it.value })
 
   row_sound : (at : Cursor) {r : Row} → found r ≡ row_by read at → (r.id ≡ at.id) × Fitting r.bounds
   unfolding row_by
-  row_sound at {r} e = let entry = found_from (entry_by read at.place) _ e in let form = found-one entry.onto in
+  row_sound at {r} e = let entry = found_from (entry_by read at.place) _ e in let form = found_one entry.onto in
       (ap (λ (x : Row). x.id) form, subst Fitting (sym (ap (λ (x : Row). x.bounds) form)) (entry_fits at.place entry.is))
 
   abbrev Sounds : ℕ → Type 0

@@ -6,7 +6,8 @@ use Rattle.table.specs.{Find.{is_precision}, declared.{location.Location.{Locati
 use Rattle.header.{proofs.Numbered.{header_numbers, head_numbered}, specs.{Header.{head_of}, declared.header.Head.{Head}}}
 use Rattle.zones.specs.Lookup.{looked_up}
 use Rattle.index.proofs.{Owning.{Only, own_opened, own_unopened, rest_only}, SameIndex.{Settled, settled}, Standing.{same_words, same_self}, ThroughIsPlain.{own_through, own_indexed}}
-use Rattle.index.specs.{Index.{records_of, records_at, index_of, has_room, index_with, index_in, Indexed, indexed, indexed_by, indexed_of, built_in, built_with}, Own.{is_same, held_against, is_index_of}}
+use Rattle.index.specs.Index.{records_of, records_at, index_of, has_room, index_with, index_in, Indexed, indexed, indexed_by, indexed_of, built_in, built_with}
+use Rattle.index.specs.Own.{is_same, held_against, is_index_of}
 use Rattle.index.specs.{Table.{bottom, table_of}, Through.{looked_through, looked_indexed}, inner.Own.{is_at, compared_of, own_with}}
 use Rattle.index.proofs.Owning as O
 use Rattle.index.proofs.SameIndex as Si

@@ -7,7 +7,7 @@ use Rattle.table.specs.{Find.{is_precision}, declared.rows.Row.{Row}}
 use Rattle.header.{proofs.Numbered.{header_numbers, head_numbered}, specs.{Header.{head_of}, declared.header.Head.{Head}}}
 use Rattle.index.proofs.{Comparing.{stands_place}, Keeping.{packed_length}, SameIndex.{Settled, settled}}
 use Rattle.index.proofs.{Standing.{so_both, at_append, at_read, at_inside, at_rest, at_here, same_words, same_self}, Tabling.{records_length}}
-use Rattle.index.proofs.Whole.{Holds, lists_of_rows, starts_length, lists_length, bad_precision, bad_table, index_length, with_room, without, has_room_lem}
+use Rattle.index.proofs.Whole.{Holds, lists_of_rows, starts_length, lists_length, bad_precision, bad_table, index_length, with_room, without, fits_room}
 use Rattle.index.specs.Index.{four_at, packed_from, words_for, kept_of, records_of, lists_from, joined, starts_from, tiles, records_at, lists_at, index_of, has_room, index_with, indexed_by, built_in}
 use Rattle.index.specs.{Index.{indexed_of}, Own.{is_same, held_against, is_index_of}, Table.{bottom, table_of}, Tied.{word_at, keeps_from}, inner.Building.{lists_in}}
 use Rattle.index.specs.inner.Own.{is_word, is_at, stands_from, lists_stand, is_empty_from, compared_of, rest_of, own_with}
@@ -53,14 +53,15 @@ module _ (words : List ℕ) where
         ),
       )
 
-  lists_stand_lem : (t at : ℕ) (lists : List (List ℕ)) → is_at words t (starts_from at lists) ≡ true → is_at words at (joined lists) ≡ true → given (at + length (joined lists)) ≡ lists_stand words t at lists
+  lists_standing : (t at : ℕ) (lists : List (List ℕ)) → is_at words t (starts_from at lists) ≡ true → is_at words at (joined lists) ≡ true
+      → given (at + length (joined lists)) ≡ lists_stand words t at lists
   unfolding lists_stand starts_from joined is_at
-  lists_stand_lem t at [] s j = ap given (add-zero at) ∙ met (both (is_word words t at) true s).0 (plain 36) (given at)
-  lists_stand_lem t at (list ∷ lists) s j = let w = both (is_word words t at) _ s in
+  lists_standing t at [] s j = ap given (add-zero at) ∙ met (both (is_word words t at) true s).0 (plain 36) (given at)
+  lists_standing t at (list ∷ lists) s j = let w = both (is_word words t at) _ s in
       let l = both (is_at words at list) (is_at words (at + length list) (joined lists)) (sym (at_append words at list (joined lists)) ∙ j) in
       let sum : at + length (list ++ joined lists) ≡ at + length list + length (joined lists) = omega (arith, length-append list (joined lists)) in
       let stands : given (at + length list) ≡ stands_from words at list = met l.0 (plain 36) (given (at + length list)) in
-      ap given sum ∙ lists_stand_lem (t + 1) (at + length list) lists w.1 l.1 ∙ onward stands (λ next. lists_stand words (t + 1) next lists) ∙ met w.0
+      ap given sum ∙ lists_standing (t + 1) (at + length list) lists w.1 l.1 ∙ onward stands (λ next. lists_stand words (t + 1) next lists) ∙ met w.0
       (plain 36) (stands_from words at list >>= λ next. lists_stand words (t + 1) next lists)
 
   -- kept bytes that are kept
@@ -164,7 +165,7 @@ module _ (file : List ℕ) (head : Head) (words : List ℕ) where
     so_held : length whole ≤ n → length whole < 2 ^ 32 → words ≡ padded n whole → given tt ≡ held (index_with file head n)
     unfolding held_against indexed_by
     so_held fits small e = let same : is_same words (padded n whole) ≡ true = ap (is_same words) (sym e) ∙ same_self words in
-        ap (λ (b : Bool). demand b (plain 36)) (sym same) ∙ ap held (has_room_lem index_of file head n fine t fits small)
+        ap (λ (b : Bool). demand b (plain 36)) (sym same) ∙ ap held (fits_room index_of file head n fine t fits small)
 
     -- all parts of words that building left
     all_there : words ≡ padded n whole → is_at words 0 (whole ++ zeros (n - length whole)) ≡ true
@@ -202,7 +203,7 @@ module _ (file : List ℕ) (head : Head) (words : List ℕ) where
         let fits : begin ≤ n = omega (arith, leb-true (length whole) n room.0, used_is) in
         let small : ltb used (2 ^ 32) ≡ true = ap (λ (k : ℕ). ltb k (2 ^ 32)) (sym used_is) ∙ room.1 in
         let rest : is_empty_from words used ≡ true = ap (is_empty_from words) (sym used_is) ∙ there.1 in
-        let stand : given used ≡ lists_stand words 3 begin (lists_in words precision (length rows) tiles 0) = lists_stand_lem words 3 begin tile_lists p2.0 p4.1
+        let stand : given used ≡ lists_stand words 3 begin (lists_in words precision (length rows) tiles 0) = lists_standing words 3 begin tile_lists p2.0 p4.1
         ∙ ap (lists_stand words 3 begin) (sym (same_lists p3.0)) in (
           p3.0,
           onward

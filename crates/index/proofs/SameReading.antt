@@ -1,5 +1,5 @@
 -- Rows and tables that end inside bytes that two files share are the same in both. Assumes nothing.
-use Rattle.numbers.proofs.{Answers.{found-one, found_from, all_found, goes}, Prelude.{ℕ, zero, suc, ◌≤◌, ◌<◌, leb-true, ltb, leb, ℤ, le_z, Bool, true, false, List, ◌∷◌, ◌≡◌, refl, ap, ◌∙◌, arith}}
+use Rattle.numbers.proofs.{Answers.{found_one, found_from, all_found, goes}, Prelude.{ℕ, zero, suc, ◌≤◌, ◌<◌, leb-true, ltb, leb, ℤ, le_z, Bool, true, false, List, ◌∷◌, ◌≡◌, refl, ap, ◌∙◌, arith}}
 use Rattle.numbers.{proofs.{Readings.{Grows}, Replies.{given_from, demanded, met, onward}, Tests.{both}}, specs.{Answer.{Answer, found, if◌then◌else◌}, Reply.{given, plain}, Varint.{Numeral}}}
 use Rattle.table.specs.{Ordered.{lowest}, Rows.{table_end, after, rows_then, row_by, rows_within}, Table.{steps_by, entry_by}, declared.{rows.{Cursor.{Cursor}, Row.{Row}}, table.Entry.{Entry}}}
 use Rattle.index.specs.Table.{is_next, table_from}
@@ -15,7 +15,7 @@ module _ (read read' : ℕ → Answer Numeral) (grows : Grows read) (end : ℕ) 
   entry_alike place {entry} e h = let a = found_from (read place) _ e in let b = found_from (read a.it.place) _ a.onto in
       let c = found_from (read b.it.place) _ b.onto in let d = found_from (read c.it.place) _ c.onto in
       let m = found_from (read d.it.place) _ d.onto in let p = found_from (read m.it.place) _ m.onto in
-      let p_in : p.it.place ≤ end = omega (arith, h, ap (λ (x : Entry). x.next) (found-one p.onto)) in
+      let p_in : p.it.place ≤ end = omega (arith, h, ap (λ (x : Entry). x.next) (found_one p.onto)) in
       let m_in : m.it.place ≤ end = omega (arith, p_in, past m.it.place p.is) in
       let d_in : d.it.place ≤ end = omega (arith, m_in, past d.it.place m.is) in
       let c_in : c.it.place ≤ end = omega (arith, d_in, past c.it.place d.is) in
@@ -27,7 +27,7 @@ module _ (read read' : ℕ → Answer Numeral) (grows : Grows read) (end : ℕ) 
   row_alike : (at : Cursor) {r : Row} → found r ≡ row_by read at → r.next ≤ end → found r ≡ row_by read' at
   unfolding row_by
   row_alike at {r} e h = let entry = found_from (entry_by read at.place) _ e in
-      let ends : r.next ≡ entry.it.next = ap (λ (x : Row). x.next) (found-one entry.onto) in
+      let ends : r.next ≡ entry.it.next = ap (λ (x : Row). x.next) (found_one entry.onto) in
       entry.onto ∙ goes (entry_alike at.place entry.is (omega (arith, ends, h))) _
 
   -- ---- tables

@@ -1,19 +1,14 @@
 -- Sizes of tiles. Assumes nothing.
-use Rattle.numbers.proofs.Prelude.{ℕ, ◌+◌, ◌-◌, ◌*◌, ◌/◌, ◌^◌, ◌≤◌, ◌<◌, min, pow_pos, pow_mono, Bool, true, false, ◌&&◌, ◌≡◌, sym, ap, ◌∙◌, lt_of_lt_of_le, arith}
+use Rattle.numbers.proofs.Prelude.{ℕ, ◌+◌, ◌-◌, ◌*◌, ◌/◌, ◌^◌, ◌≤◌, ◌<◌, min, pow_mono, Bool, true, false, ◌&&◌, ◌≡◌, sym, ap, ◌∙◌, lt_of_lt_of_le, arith}
 use Rattle.std.proofs.Common.{shl_lt}
 use native.Mathlib.Nat.{zero-div}
 use Rattle.index.specs.Tiles.{tile_along}
-
-pub half_small : (precision : ℕ) → precision ≤ 32 → 2 ^ (precision - 1) ≤ 2 ^ 31
-half_small precision h = pow_mono {i = precision - 1} {j = 31} (omega arith)
 
 -- a tile's distance from the grid's begin
 pub away_small : (power precision i : ℕ) → precision ≤ 32 → i ≤ 64 → i * 2 ^ (precision - power) < 2 ^ 39
 away_small power precision i h k = lt_of_lt_of_le (shl_lt 7 (precision - power) (omega arith)) (pow_mono {i = 7 + (precision - power)} {j = 39} (omega arith))
 
 -- ---- the tile along an axis
-pub some_tile : (power : ℕ) → 1 ≤ 2 ^ power
-some_tile power = pow_pos power
 
 first_least : (a b : ℕ) → a < b → a ≡ min a b
 first_least a b h = omega arith
@@ -47,14 +42,8 @@ column_few precision x = omega arith
 pub and-true : (a b c : Bool) → a ≡ true → b ≡ true → c ≡ (a && (b && c))
 and-true a b c e f = rw (e, f)
 
-pub and_second : (a b c : Bool) → a ≡ true → b ≡ false → b ≡ (a && (b && c))
-and_second a b c e f = rw (e, f)
-
 pub and_first : (a b : Bool) → a ≡ false → false ≡ (a && b)
 and_first a b e = rw e
 
 pub and_rest : (a b : Bool) → a ≡ true → b ≡ (a && b)
 and_rest a b e = rw e
-
-pub and_self : (a b : Bool) → a ≡ false → a ≡ (a && b)
-and_self a b e = rw e

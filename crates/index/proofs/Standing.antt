@@ -1,8 +1,8 @@
 -- Words that stand at a place, and words that are the same. Assumes nothing.
-use Rattle.numbers.proofs.Prelude.{ℕ, zero, suc, ◌+◌, ◌≤◌, ◌<◌, eq-eqb, ne_eqb, lt-ltb, le-ltb, ltb-true, eqb-true, eqb, ltb, length, drop, get_or, length-append, drop_of_length-le, sets, drop-cons}
+use Rattle.numbers.proofs.Prelude.{ℕ, zero, suc, ◌+◌, ◌≤◌, ◌<◌, eq-eqb, lt-ltb, ltb-true, eqb-true, eqb, ltb, length, drop, get_or, length-append, drop_of_length-le, sets, drop-cons}
 use Rattle.numbers.proofs.{Prelude.{Bool, true, false, ◌&&◌, List, [], ◌∷◌, ◌++◌, append_assoc, ◌≡◌, refl, sym, ap, ◌∙◌, add-zero, arith}, Tests.{differ, both}}
 use lib.Seq.{get_or-append_seam}
-use Rattle.index.proofs.Sides.{and_first, and_rest}
+use Rattle.index.proofs.Sides.{and_rest}
 use Rattle.index.specs.{Own.{is_same}, Tied.{word_at}, inner.Own.{is_word, is_at}}
 use mathlib.Core.Bool.{and_assoc}
 
@@ -25,12 +25,6 @@ and_not false b e = refl
 module _ (words : List ℕ) where
   pub word_so : (at x : ℕ) → at < length words → word_at words at ≡ x → is_word words at x ≡ true
   word_so at x h e = so_both _ _ (lt-ltb at (length words) h) (eq-eqb (word_at words at) x e)
-
-  pub word_not : (at x : ℕ) → (word_at words at ≡ x → ⊥) → false ≡ is_word words at x
-  word_not at x h = and_not (ltb at (length words)) (eqb (word_at words at) x) (ne_eqb (word_at words at) x h)
-
-  pub word_outside : (at x : ℕ) → length words ≤ at → false ≡ is_word words at x
-  word_outside at x h = and_first (ltb at (length words)) (eqb (word_at words at) x) (le-ltb at (length words) h)
 
   -- a word by another name
   pub by_word : (at : ℕ) {x y : ℕ} {r : Bool} → y ≡ x → r ≡ is_word words at y → r ≡ is_word words at x

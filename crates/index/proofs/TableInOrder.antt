@@ -1,6 +1,6 @@
 -- The tables that can be indexed are those in order, and the list has their rows. Assumes nothing.
 use Rattle.numbers.proofs.Prelude.{ℕ, le-leb, le-ltb, leb-true, ltb-false, ltb, leb, ℤ, le_z, true, false, List, [], ◌∷◌, ◌≡◌, refl, sym, ap, subst, ◌∙◌, arith}
-use Rattle.numbers.{proofs.{Replies.{given_from, demanded, met, onward, given_one}, Tests.{both}}, specs.Reply.{given, refused, plain}}
+use Rattle.numbers.{proofs.{Replies.{given_from, demanded, met, onward, given_one}, Tests.{both}}, specs.Reply.{given, plain}}
 use Rattle.table.specs.{Ordered.{lowest, Ordered, ends, next}, Rows.{Rows, row, table_end, unreadable, rows_in, as_rows}, declared.rows.Row.{Row}}
 use Rattle.header.specs.declared.header.Head.{Head}
 use Rattle.index.specs.Table.{is_next, table_from, bottom, table_of}

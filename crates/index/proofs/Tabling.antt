@@ -1,5 +1,5 @@
 -- The table as it goes into the index, row by row; and that it is in order. Assumes nothing.
-use Rattle.numbers.proofs.{Answers.{found-one}, Lists.{sets_append}, Prelude.{ℕ, ◌+◌, ◌-◌, ◌*◌, ◌^◌, ◌≤◌, ◌<◌, le-leb, ltb-false, ℤ, pos, negsuc, length, length-append, sets, lt_z, le_z, Bool, true}}
+use Rattle.numbers.proofs.{Answers.{found_one}, Lists.{sets_append}, Prelude.{ℕ, ◌+◌, ◌-◌, ◌*◌, ◌^◌, ◌≤◌, ◌<◌, ℤ, length, length-append, sets, Bool, true}}
 use Rattle.numbers.{proofs.{Prelude.{false, List, [], ◌∷◌, ◌++◌, append_assoc, append-nil, ◌≡◌, refl, sym, ap, ◌∙◌, arith}, Readings.{reading_grows}}, specs.{Answer.{Answer, found}, Reply.{Reply}}}
 use Rattle.numbers.specs.{Reply.{given, refused, plain, demand, ◌>>=◌, ◌>>◌}, Varint.{reading_of}}
 use lib.Seq.{append_snoc}
@@ -11,11 +11,6 @@ use Rattle.index.specs.{Index.{record_of, records_at, records_of}, Table.{is_nex
 use Rattle.numbers.specs.Answer as A
 
 -- ---- order
-pub above_so : (a b : ℤ) → lt_z a b ≡ false → le_z b a ≡ true
-above_so (pos a) (pos b) h = le-leb b a (ltb-false a b h)
-above_so (pos a) (negsuc b) h = refl
-above_so (negsuc a) (pos b) h = let z : ◌≡◌ {A = ℕ} 0 1 = cc in absurd (omega arith)
-above_so (negsuc a) (negsuc b) h = le-leb a b (ltb-false b a h)
 
 -- ---- records
 pub records_length : (rows : List Row) → length (records_of rows) ≡ 7 * length rows
@@ -42,7 +37,7 @@ pub row_place : (strict : Bool) (file : List ℕ) (at : Cursor) {r : Row} → fo
 unfolding row_by
 row_place strict file at {r} e = go (entry_by (reading_of strict file) at.place) e where
   go : (answer : Answer Entry) → found r ≡ (A.◌>>=◌ answer (λ entry. found (row_of at entry))) → r.place ≡ at.place
-  go (found entry) e = ap (λ (x : Row). x.place) (found-one e)
+  go (found entry) e = ap (λ (x : Row). x.place) (found_one e)
   go A.failed e = let z : ◌≡◌ {A = ℕ} 0 1 = cc in absurd (omega arith)
   go (A.refused n) e = let z : ◌≡◌ {A = ℕ} 0 1 = cc in absurd (omega arith)
 

@@ -41,14 +41,16 @@ module _ (n room : ℕ) where
     unfolding zones_through
     no_place head e = carried e _
 
-    pub listed_there : (head : Head) {place : Place} {records numbers : List ℕ} → given place ≡ place_of (length file) head words location → records ≡ records_in words → numbers ≡ numbers_in words place
+    pub listed_there : (head : Head) {place : Place} {records numbers : List ℕ} → given place ≡ place_of (length file) head words location → records ≡ records_in words
+        → numbers ≡ numbers_in words place
         → looked_listed file head location asked records numbers n room ≡ replied_of n room (within head)
     unfolding zones_through looked_listed
     listed_there head e r k = (λ i. replied_of n room (zones_listed file head location asked (r i) (k i) n room)) ∙
         ap (replied_of n room) (onward e (λ (place : Place). zones_listed file head location asked (records_in words) (numbers_in words place) n room))
 
     -- the file is opened first
-    pub through_unopened : {why : Refusal} {hs ts : List ℕ} → refused why ≡ head_of file → hs ≡ zeros n → ts ≡ zeros room → replied (refused why) hs ts ≡ looked_through file words location asked n room
+    pub through_unopened : {why : Refusal} {hs ts : List ℕ} → refused why ≡ head_of file → hs ≡ zeros n → ts ≡ zeros room
+        → replied (refused why) hs ts ≡ looked_through file words location asked n room
     unfolding looked_through
     through_unopened e zh zt = refused_zeros (carried e within) zh zt
 
@@ -59,7 +61,8 @@ module _ (n room : ℕ) where
     abbrev after : Head → Reply (Outcome Zones)
     after head = tied_with file head words >> within head
 
-    pub indexed_unopened : {why : Refusal} {hs ts : List ℕ} → refused why ≡ head_of file → hs ≡ zeros n → ts ≡ zeros room → replied (refused why) hs ts ≡ looked_indexed file words location asked n room
+    pub indexed_unopened : {why : Refusal} {hs ts : List ℕ} → refused why ≡ head_of file → hs ≡ zeros n → ts ≡ zeros room
+        → replied (refused why) hs ts ≡ looked_indexed file words location asked n room
     unfolding looked_indexed
     indexed_unopened e zh zt = refused_zeros (carried e after) zh zt
 

@@ -48,7 +48,8 @@ module _ (words p q : List ℕ) (bp : Bytes p) (bq : Bytes q) where
   by_place i j h e l =
       let known = four_known (get_or p i 0) (get_or p (i + 1) 0) (get_or p (i + 2) 0) (get_or p (i + 3) 0) (get_or q i 0) (get_or q (i + 1) 0) (get_or q (i + 2) 0)
       (get_or q (i + 3) 0) (bp i) (bp (i + 1)) (bp (i + 2)) (bq i) (bq (i + 1)) (bq (i + 2)) e in choose (j - i) (omega arith) known where
-        choose : (k : ℕ) → j ≡ i + k → (get_or p i 0 ≡ get_or q i 0) × (get_or p (i + 1) 0 ≡ get_or q (i + 1) 0) × (get_or p (i + 2) 0 ≡ get_or q (i + 2) 0) × (get_or p (i + 3) 0 ≡ get_or q (i + 3) 0) →
+        choose : (k : ℕ) → j ≡ i + k → (get_or p i 0 ≡ get_or q i 0) × (get_or p (i + 1) 0 ≡ get_or q (i + 1) 0) × (get_or p (i + 2) 0 ≡ get_or q (i + 2) 0) × (get_or p (i + 3) 0 ≡ get_or q
+            (i + 3) 0) →
             get_or p j 0 ≡ get_or q j 0
         choose zero s known = let z : j ≡ i = omega (arith, s) in rw z known.0
         choose (suc zero) s known = rw s known.1

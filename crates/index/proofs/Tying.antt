@@ -1,6 +1,6 @@
 -- Words held against a file. Assumes nothing.
 use Rattle.numbers.proofs.Prelude.{ℕ, suc, ◌+◌, ◌-◌, ◌/◌, ◌≤◌, ◌<◌, eq-eqb, ne_eqb, le-leb, leb-true, lt-leb, eqb, leb, length, Bool, true, false, ◌&&◌, List, ◌≡◌, sym, ap, ◌∙◌, arith}
-use Rattle.numbers.{proofs.{Replies.{carried, onward, met, unmet}, Tests.{both}}, specs.{Answer.{if◌then◌else◌}, Reply.{given, refused, plain, demand}, declared.refusal.Refusal.{Refusal}}}
+use Rattle.numbers.{proofs.{Replies.{carried, onward, met}, Tests.{both}}, specs.{Answer.{if◌then◌else◌}, Reply.{given, refused, plain, demand}, declared.refusal.Refusal.{Refusal}}}
 use Rattle.table.specs.Find.{is_precision}
 use Rattle.header.specs.{Header.{head_of}, declared.header.Head.{Head}}
 use Rattle.index.specs.{Index.{four_at, words_for, records_at}, Tied.{word_at, begin_of, is_headed, keeps_from, is_tied, tied_with, tied_of}}
@@ -19,19 +19,7 @@ module _ (words : List ℕ) (size n : ℕ) where
       other_size h = rw (le-leb records_at (length words) a, eq-eqb (word_at words 0) n b, ne_eqb (word_at words 1) size h)
 
       module _ (c : word_at words 1 ≡ size) where
-        pub other_begin : (word_at words 3 ≡ begin_of words size → ⊥) → false ≡ is_headed words size n
-        other_begin h = rw (le-leb records_at (length words) a, eq-eqb (word_at words 0) n b, eq-eqb (word_at words 1) size c, ne_eqb (word_at words 3) (begin_of words size) h)
-
         module _ (d : word_at words 3 ≡ begin_of words size) where
-          pub begin_outside : length words < begin_of words size → false ≡ is_headed words size n
-          begin_outside h = rw (
-            le-leb records_at (length words) a,
-            eq-eqb (word_at words 0) n b,
-            eq-eqb (word_at words 1) size c,
-            eq-eqb (word_at words 3) (begin_of words size) d,
-            lt-leb (begin_of words size) (length words) h,
-          )
-
           pub end_decides : begin_of words size ≤ length words → leb (word_at words 2051) (length words) ≡ is_headed words size n
           end_decides h = rw (
             le-leb records_at (length words) a,
@@ -83,9 +71,6 @@ module _ (words : List ℕ) (from : ℕ) (bytes : List ℕ) (size : ℕ) where
       unfolding keeps_from
       turned = g.same ∙ ap (λ (m : ℕ). keeps_from words at bytes m place) step
 
-      pub comparing_inside : at < from + words_for size
-      comparing_inside = omega (arith, g.places, step)
-
       pub comparing_next : eqb (word_at words at) (four_at bytes place) ≡ true → Comparing (at + 1) (place + 4)
       comparing_next e = record { within = omega arith; places = omega (arith, g.places, step); same = turned ∙ rw e }
 
@@ -94,14 +79,8 @@ module _ (words : List ℕ) (from : ℕ) (bytes : List ℕ) (size : ℕ) where
 
 -- ---- the reply
 module _ (file : List ℕ) (head : Head) (words : List ℕ) where
-  pub with_imprecise : is_precision head.preamble.precision ≡ false → refused (plain 16) ≡ tied_with file head words
-  with_imprecise p = unmet p (plain 16) _
-
   pub with_so : is_precision head.preamble.precision ≡ true → is_tied file head words ≡ true → given tt ≡ tied_with file head words
   with_so p t = rw (p, t)
-
-  pub with_not : is_precision head.preamble.precision ≡ true → is_tied file head words ≡ false → refused (plain 36) ≡ tied_with file head words
-  with_not p t = rw (p, t)
 
 module _ (file words : List ℕ) where
   pub tied_opened : {head : Head} → given head ≡ head_of file → tied_with file head words ≡ tied_of file words

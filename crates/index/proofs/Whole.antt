@@ -67,7 +67,8 @@ starts_fit at (list ∷ lists) h = go (starts_fit (at + length list) lists (omeg
   e : at % 2 ^ 32 ≡ at
   e = omega (arith, length-append list (joined lists))
 
-  go : map low (starts_from (at + length list) lists) ≡ starts_from (at + length list) lists → (at % 2 ^ 32) ∷ map low (starts_from (at + length list) lists) ≡ at ∷ starts_from (at + length list) lists
+  go : map low (starts_from (at + length list) lists) ≡ starts_from (at + length list) lists
+      → (at % 2 ^ 32) ∷ map low (starts_from (at + length list) lists) ≡ at ∷ starts_from (at + length list) lists
   go s = rw (e, s)
 
 -- ---- five parts that were stored in another order
@@ -140,5 +141,5 @@ module _ (words_of : List ℕ → Head → List Row → List ℕ) (file : List �
       pub too_large : 2 ^ 32 ≤ length words → refused (plain 35) ≡ built_with words_of file head room
       too_large h = without (ap (λ (t : Bool). leb (length words) room && t) (le-ltb _ _ h) ∙ and-false (leb (length words) room))
 
-      pub has_room_lem : length words ≤ room → length words < 2 ^ 32 → given words ≡ built_with words_of file head room
-      has_room_lem h k = with_room (rw (le-leb _ _ h, lt-ltb _ _ k))
+      pub fits_room : length words ≤ room → length words < 2 ^ 32 → given words ≡ built_with words_of file head room
+      fits_room h k = with_room (rw (le-leb _ _ h, lt-ltb _ _ k))

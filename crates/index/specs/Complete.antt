@@ -1,6 +1,6 @@
 -- What the theorems speak of: a row by its number, a number in a list, coordinates that fit an i32; files that are alike, and words that building gave.
-use Rattle.std.specs.Prelude.{FitsSigned}
-use Rattle.numbers.specs.{Lists.{padded}, Prelude.{ℕ, ◌+◌, ◌<◌, length, take, get_or, true, List, ◌∷◌, ◌≡◌, w32}, Reply.{given}}
+use Rattle.std.specs.Prelude.{FitsSigned, ◌+◌, ◌<◌, ◌∷◌, ◌≡◌}
+use Rattle.numbers.specs.{Lists.{padded}, Prelude.{ℕ, length, take, get_or, true, List, w32}, Reply.{given}}
 use Rattle.border.specs.declared.place.Point.{Point}
 use Rattle.table.specs.{Find.{is_precision}, declared.{rows.Row.{Row}, table.Bounds.{Bounds}}}
 use Rattle.header.specs.{Header.{head_of}, declared.header.Head.{Head}}

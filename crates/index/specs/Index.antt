@@ -1,6 +1,7 @@
 -- The index of a file, as words: head, where each tile's list begins, a record for each row, the file's bytes up to the metadata, and the lists.
-use Rattle.numbers.specs.Prelude.{ℕ, zero, suc, ◌+◌, ◌*◌, ◌/◌, ◌^◌, ltb, leb, length, take, get_or, Bool, ◌&&◌, List, [], ◌∷◌, ◌++◌}
-use Rattle.numbers.specs.{Answer.{if◌then◌else◌}, Lists.{zeros, padded}, Reply.{Reply, given, refused, plain, demand, ◌>>=◌, ◌>>◌}}
+use Rattle.std.specs.Prelude.{◌+◌, ◌*◌, ◌/◌, ◌^◌, ◌&&◌, ◌∷◌, ◌++◌, if◌then◌else◌}
+use Rattle.numbers.specs.Prelude.{ℕ, zero, suc, ltb, leb, length, take, get_or, Bool, List, []}
+use Rattle.numbers.specs.{Lists.{zeros, padded}, Reply.{Reply, given, refused, plain, demand, ◌>>=◌, ◌>>◌}}
 use Rattle.table.specs.{Find.{is_precision}, declared.{rows.Row.{Row}, table.Bounds.{Bounds}}}
 use Rattle.header.specs.{Header.{head_of}, declared.header.Head.{Head}}
 use Rattle.index.specs.{Table.{table_of}, Tiles.{word_of, tile_at, meets}, declared.{build.Built.{Built}, tiles.Tile.{Tile}}}

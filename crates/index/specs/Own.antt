@@ -1,5 +1,6 @@
 -- When words are the index that building gives for a file, whoever wrote them.
-use Rattle.numbers.specs.{Answer.{if◌then◌else◌}, Prelude.{ℕ, eqb, length, Bool, true, false, ◌&&◌, List, [], ◌∷◌}, Reply.{Reply, given, refused, plain, demand}}
+use Rattle.std.specs.Prelude.{if◌then◌else◌, ◌&&◌, ◌∷◌}
+use Rattle.numbers.specs.{Prelude.{ℕ, eqb, length, Bool, true, false, List, []}, Reply.{Reply, given, refused, plain, demand}}
 use Rattle.index.specs.Index.{indexed_of}
 
 -- the same words, and as many

@@ -1,5 +1,6 @@
 -- The table of a file that can be indexed: every row can be read, none runs past the table's end, and they are in order.
-use Rattle.numbers.specs.{Prelude.{ℕ, ◌-◌, ◌^◌, leb, ℤ, negsuc, le_z, Bool, ◌&&◌, List, [], ◌∷◌}, Reply.{Reply, given, refused, plain, demand, ◌>>=◌, ◌>>◌}}
+use Rattle.std.specs.Prelude.{◌-◌, ◌^◌, ◌&&◌, ◌∷◌}
+use Rattle.numbers.specs.{Prelude.{ℕ, leb, ℤ, negsuc, le_z, Bool, List, []}, Reply.{Reply, given, refused, plain, demand, ◌>>=◌, ◌>>◌}}
 use Rattle.table.specs.{Ordered.{lowest}, Rows.{Rows, row, table_end, unreadable, rows_in}, declared.rows.Row.{Row}}
 use Rattle.header.specs.declared.header.Head.{Head}
 use Rattle.table.specs.Rows as T

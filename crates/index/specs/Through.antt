@@ -1,5 +1,6 @@
 -- Lookup through an index, as request Q-11 has it: the rows in the list of the fix's tile are looked at, and no other.
-use Rattle.numbers.specs.{Prelude.{ℕ, ◌+◌, ◌-◌, ◌*◌, leb, length, take, drop, Bool, ◌&&◌, List}, Reply.{Reply, given, refused, plain, demand, ◌>>=◌, ◌>>◌}}
+use Rattle.std.specs.Prelude.{◌+◌, ◌-◌, ◌*◌, ◌&&◌}
+use Rattle.numbers.specs.{Prelude.{ℕ, leb, length, take, drop, Bool, List}, Reply.{Reply, given, refused, plain, demand, ◌>>=◌, ◌>>◌}}
 use Rattle.table.specs.{Find.{fix_of, is_precision}, declared.location.Location.{Location}}
 use Rattle.header.specs.{Header.{head_of}, declared.header.Head.{Head}}
 use Rattle.zones.specs.{Lent.{Outcome, Replied, replied_of}, Lookup.{zones_listed}, declared.lookup.Zones.{Zones}}

@@ -1,6 +1,7 @@
 -- When an index goes with a file, as request Q-11 has it: by length, and by a full comparison of header and table.
-use Rattle.numbers.specs.Prelude.{ℕ, zero, suc, ◌+◌, ◌*◌, eqb, leb, length, take, Bool, true, false, ◌&&◌, List}
-use Rattle.numbers.specs.{Answer.{if◌then◌else◌}, Reply.{Reply, given, refused, plain, demand, ◌>>=◌, ◌>>◌}}
+use Rattle.std.specs.Prelude.{◌+◌, ◌*◌, ◌&&◌, if◌then◌else◌}
+use Rattle.numbers.specs.Prelude.{ℕ, zero, suc, eqb, leb, length, take, Bool, true, false, List}
+use Rattle.numbers.specs.Reply.{Reply, given, refused, plain, demand, ◌>>=◌, ◌>>◌}
 use Rattle.table.specs.Find.{is_precision}
 pub use Rattle.marks.specs.Words.{word_at}
 use Rattle.header.specs.{Header.{head_of}, declared.header.Head.{Head}}

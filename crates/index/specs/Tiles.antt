@@ -1,5 +1,6 @@
 -- The tiles of the fixed grid, as request Q-11 has them: 32 by latitude, 64 by longitude, and which boxes meet them.
-use Rattle.numbers.specs.{Answer.{if◌then◌else◌}, Prelude.{ℕ, ◌+◌, ◌-◌, ◌*◌, ◌/◌, ◌%◌, ◌^◌, min, eqb, ltb, leb, Bool, ◌&&◌}}
+use Rattle.std.specs.Prelude.{if◌then◌else◌, ◌+◌, ◌-◌, ◌*◌, ◌/◌, ◌%◌, ◌^◌, ◌&&◌}
+use Rattle.numbers.specs.Prelude.{ℕ, min, eqb, ltb, leb, Bool}
 use Rattle.border.specs.declared.place.Point.{Point}
 pub use Rattle.marks.specs.Marks.{word_of}
 use Rattle.index.specs.declared.tiles.{Span.{Span}, Tile.{Tile}}

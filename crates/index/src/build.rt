@@ -1,7 +1,6 @@
 // Building an index: the whole table is gone through once, then each tile's list is written.
-ghost use mathlib.Core.{Path.{◌≡◌}, List.{[], ◌∷◌}};
-ghost use Rattle.std.specs.Prelude.{◌^◌, ◌<◌};
-ghost use lib.{ListN.{length}, Seq.{sets}};
+ghost use Rattle.std.specs.Prelude.{◌^◌, ◌<◌, ◌≡◌, [], ◌∷◌, length};
+ghost use lib.Seq.{sets};
 ghost use Rattle.index.specs.Index.{index_with, indexed, indexed_of, told_built};
 ghost use Rattle.numbers.specs.Lists.{zeros};
 ghost use Rattle.table.specs.inner.Agreeing.{Agrees};
@@ -26,13 +25,13 @@ pub const NO_INDEX_ROOM: u8 = 35;
 pub const RECORDS_AT: usize = 2052;
 
 // How many rows the table has, or that it can't be indexed.
-#[derive(Drop)]
+#[derive(Clone, Copy)]
 pub enum Table {
     Rows(usize),
     Bad,
 }
 
-#[derive(Drop)]
+#[derive(Clone, Copy)]
 pub enum Built {
     // How many words are used.
     Used(usize),

@@ -1,6 +1,5 @@
 // Whether words are the index that building gives for a file, whoever wrote them: each word is worked out again and compared, without room for them.
-ghost use mathlib.Core.{Bool.{◌&&◌}, List.{[], ◌∷◌}, Path.{◌≡◌}};
-ghost use Rattle.std.specs.Prelude.{◌+◌, ◌*◌, ◌^◌, ◌<◌, ◌≤◌, length};
+ghost use Rattle.std.specs.Prelude.{◌+◌, ◌*◌, ◌^◌, ◌<◌, ◌≤◌, length, ◌&&◌, [], ◌∷◌, ◌≡◌};
 ghost use Rattle.index.specs.{inner.Building.{list_in, lists_in}, Index.{box_words, record_of, records_at, tiles}, Tied.{told_tied}};
 ghost use Rattle.index.specs.{inner.Own.{is_word, is_at, stands_from, lists_stand, is_empty_from, compared_of, Counted, rest_of, own_with, told_compared, told_next}, Own.{is_index_of}};
 ghost use Rattle.table.specs.inner.Agreeing.{Agrees};
@@ -20,7 +19,7 @@ use table::rows::{Reading, Row, after, row_at, start_at};
 use table::table::Bounds;
 
 // How many rows the table has, whose records stand in the words; or others stand there; or the table can't be indexed.
-#[derive(Drop)]
+#[derive(Clone, Copy)]
 pub enum Compared {
     Rows(usize),
     Other,
@@ -28,7 +27,7 @@ pub enum Compared {
 }
 
 // The place behind words that stand in the index; or others stand there.
-#[derive(Drop)]
+#[derive(Clone, Copy)]
 pub enum Next {
     At(usize),
     Other,

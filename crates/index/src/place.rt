@@ -10,13 +10,13 @@ use table::codes::BAD_PRECISION;
 use table::find::{fix_of, is_precision};
 use table::location::Location;
 
-#[derive(Drop)]
+#[derive(Clone, Copy)]
 pub struct Place {
     pub from: usize,
     pub end: usize,
 }
 
-#[derive(Drop)]
+#[derive(Clone, Copy)]
 pub enum Listing {
     At(Place),
     Refused(Refusal),

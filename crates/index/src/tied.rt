@@ -14,7 +14,7 @@ use table::find::is_precision;
 // The refusal of an index that does not go with the file.
 pub const OTHER_INDEX: u8 = 36;
 
-#[derive(Drop)]
+#[derive(Clone, Copy)]
 pub enum Tied {
     Yes,
     Refused(Refusal),

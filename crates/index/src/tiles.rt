@@ -7,13 +7,13 @@ use border::place::Point;
 use std::num::wrapping_add_u32;
 
 // A tile along an axis: where it begins and where it ends, counted from the lowest coordinate up.
-#[derive(Drop)]
+#[derive(Clone, Copy)]
 pub struct Span {
     pub from: u64,
     pub end: u64,
 }
 
-#[derive(Drop)]
+#[derive(Clone, Copy)]
 pub struct Tile {
     pub rows: Span,
     pub columns: Span,

@@ -1,6 +1,5 @@
 // Words into the lent index. A word that does not fit is counted and left out: the place is held against the room once, at the end.
-ghost use mathlib.Core.{Path.{◌≡◌}, List.{[], ◌∷◌}};
-ghost use Rattle.std.specs.Prelude.{◌^◌, ◌<◌};
+ghost use Rattle.std.specs.Prelude.{◌^◌, ◌<◌, ◌≡◌, [], ◌∷◌};
 ghost use Rattle.writer.specs.inner.Stored.{Stored};
 ghost use Rattle.index.specs.Tiles.{word_of};
 

@@ -1,6 +1,7 @@
 -- What the inner functions of building say of each other.
-use Rattle.numbers.specs.Prelude.{ℕ, zero, suc, ◌+◌, ◌*◌, ◌^◌, ◌<◌, length, get_or, sets, Bool, List, [], ◌∷◌, map, ◌≡◌}
-use Rattle.numbers.specs.{Answer.{if◌then◌else◌}, Reply.{Reply, given, refused, plain}}
+use Rattle.std.specs.Prelude.{◌+◌, ◌*◌, ◌^◌, ◌<◌, ◌∷◌, ◌≡◌, if◌then◌else◌}
+use Rattle.numbers.specs.Prelude.{ℕ, zero, suc, length, get_or, sets, Bool, List, [], map}
+use Rattle.numbers.specs.Reply.{Reply, given, refused, plain}
 use Rattle.table.specs.declared.rows.Row.{Row}
 pub use Rattle.marks.specs.Marks.{low}
 use Rattle.index.specs.{Index.{records_at, records_of, joined, starts_from}, Tiles.{meets, tile_at}, declared.{build.Table.{Table}, tiles.Tile.{Tile}}}

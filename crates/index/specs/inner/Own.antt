@@ -1,5 +1,6 @@
 -- What the functions that hold words against an index say of each other.
-use Rattle.numbers.specs.{Lists.{zeros}, Prelude.{ℕ, ◌+◌, ◌-◌, ◌*◌, ◌^◌, ◌<◌, eqb, ltb, leb, length, Bool, true, ◌&&◌, List, [], ◌∷◌, ◌≡◌}, Reply.{Reply, given, refused, plain, demand, ◌>>=◌, ◌>>◌}}
+use Rattle.std.specs.Prelude.{◌+◌, ◌-◌, ◌*◌, ◌^◌, ◌<◌, ◌&&◌, ◌∷◌, ◌≡◌}
+use Rattle.numbers.specs.{Lists.{zeros}, Prelude.{ℕ, eqb, ltb, leb, length, Bool, true, List, []}, Reply.{Reply, given, refused, plain, demand, ◌>>=◌, ◌>>◌}}
 use Rattle.table.specs.{Find.{is_precision}, declared.rows.Row.{Row}}
 use Rattle.header.specs.declared.header.Head.{Head}
 use Rattle.index.specs.{Index.{records_of, kept_of, tiles, records_at, lists_at}, Table.{table_of}, Tied.{word_at}, declared.own.{Compared.{Compared}, Next.{Next}}, inner.Building.{lists_in}}
