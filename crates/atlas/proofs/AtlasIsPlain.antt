@@ -7,9 +7,10 @@ use Rattle.border.specs.declared.place.Point.{Point}
 use Rattle.header.specs.{Header.{head_of}, declared.header.Head.{Head}}
 use Rattle.index.proofs.{LaidOut.{records_there, list_stands, list_of_tile}, Standing.{same_words, same_self, so_both}, Tabling.{records_length}, ThroughIsPlain.{same_matched}}
 use Rattle.index.specs.Index.{records_of, list_of, tiles, records_at, index_of, has_room, built_with, built_in, Indexed, indexed, indexed_by}
-use Rattle.index.specs.{Table.{table_of}, Through.{start_of, place_of}, Tied.{word_at}, Tiles.{tile_of}}
+use Rattle.index.specs.{Table.{table_of}, Through.{start_of}, Tied.{word_at}, Tiles.{tile_of}}
 use Rattle.marks.{proofs.{MarkedIsPlain.{marked_is_plain}, ReadBack.{At}}, specs.{Judging.{judged_by}, Marks.{low}}}
-use Rattle.table.{proofs.MarkedAlike.{Right, matched_alike}, specs.{Find.{fix_of, is_precision, matched_with}, GivenRows.{record_word}, Hits.{width}, MarkedRows.{encoding_in, judge_marked, matched_marked}}}
+use Rattle.table.proofs.MarkedAlike.{Right, matched_alike}
+use Rattle.table.specs.{Find.{fix_of, is_precision, matched_with}, GivenRows.{record_word}, Hits.{width}, MarkedRows.{encoding_in, judge_marked, matched_marked}}
 use Rattle.table.specs.{Search.{judge_in}, declared.{location.Location.{Location}, rows.Row.{Row}}}
 use Rattle.verdict.specs.Verdict.{Judgement}
 use Rattle.zones.specs.{Lent.{replied_of}, Lookup.{zones_from, zones_with, zones_in, looked_up}}
@@ -85,8 +86,8 @@ module _ (file : List ℕ) (head : Head) (rows : List Row) (tail : List ℕ) (op
   length_there : word_at words (start_of words tiles) ≡ low total
   length_there = ap (λ (k : ℕ). get_or words k 0) ends ∙ get_or-append_seam index (low total) (beside ++ tail) 0
 
-  is_whole_lem : is_whole words ≡ true
-  is_whole_lem =
+  whole_here : is_whole words ≡ true
+  whole_here =
       so_both (ltb (start_of words tiles) (length words)) (leb (word_at words (start_of words tiles)) (length words)) (lt-ltb (start_of words tiles) (length words)
       (omega (arith, ends, words_long))) (le-leb (word_at words (start_of words tiles)) (length words) (omega (arith, length_there, fits, words_long))) where
         fits : low total ≡ total
@@ -94,7 +95,7 @@ module _ (file : List ℕ) (head : Head) (rows : List Row) (tail : List ℕ) (op
 
   parts_stand : given parts ≡ parts_of (length file) head words location
   unfolding parts_of
-  parts_stand = met is_whole_lem (plain 36) (given parts) ∙ onward (list_stands file head rows rest location precise) _
+  parts_stand = met whole_here (plain 36) (given parts) ∙ onward (list_stands file head rows rest location precise) _
 
   records_part : part_in words records_at parts.behind ≡ records_of rows
   records_part = let k : records_at + 7 * word_at words 2 - records_at ≡ 7 * word_at words 2 = omega arith in
@@ -122,16 +123,16 @@ module _ (words : List ℕ) where
   made_is (given used) built e = (used, ap (indexed (given used)) (sym (same_words words built e)))
   made_is (refused why) built e = let z : ◌≡◌ {A = ℕ} 0 1 = cc in absurd (omega arith)
 
-  is_made_lem : (used : ℕ) → is_made words (given used) words ≡ true
+  itself_made : (used : ℕ) → is_made words (given used) words ≡ true
   unfolding is_made
-  is_made_lem used = same_self words
+  itself_made used = same_self words
 
 -- `is_atlas` says 0 exactly where building, lent as many words, gives and leaves these for this file: built-is-atlas and atlas-is-built.
 pub is_atlas_exactly : (file words : List ℕ) → (is_atlas_of file words ≡ given tt) ↔ ((used : ℕ) × (atlas_made file (length words) ≡ indexed (given used) words))
 unfolding is_atlas_of
 is_atlas_exactly file words = (
   (λ e. made_is words (atlas_made file (length words)).reply (atlas_made file (length words)).words (demand_met _ (plain 36) e)),
-  (λ built. ap (λ (i : Indexed). demand (is_made words i.reply i.words) (plain 36)) built.1 ∙ ap (λ (b : Bool). demand b (plain 36)) (is_made_lem words built.0)),
+  (λ built. ap (λ (i : Indexed). demand (is_made words i.reply i.words) (plain 36)) built.1 ∙ ap (λ (b : Bool). demand b (plain 36)) (itself_made words built.0)),
 )
 
 -- what building gave: the atlas of the file's header and rows, with room

@@ -1,6 +1,7 @@
 -- What building puts behind the index: entry by entry, and as a whole. Assumes nothing.
-use Rattle.numbers.proofs.{Lists.{zeros_drop, sets_append}, Prelude.{ℕ, zero, suc, ◌+◌, ◌-◌, ◌*◌, ◌/◌, ◌%◌, ◌^◌, ◌≤◌, ◌<◌, eq-eqb, ne_eqb, lt-ltb, le-leb, le-ltb, leb-true, ltb-true, lt-leb, eqb}}
-use Rattle.numbers.proofs.Prelude.{ltb, leb, length, get_or, set, length-append, length-replicate, sets, length-sets, take-append_seam, sets-eq, get_or-set_other, Bool, true, false, List, [], ◌∷◌, ◌++◌}
+use Rattle.numbers.proofs.{Lists.{zeros_drop, sets_append}, Prelude.{ℕ, zero, suc, ◌+◌, ◌-◌, ◌*◌, ◌/◌, ◌^◌, ◌≤◌, ◌<◌, eq-eqb, ne_eqb, lt-ltb, le-leb, le-ltb, leb-true, ltb-true, lt-leb, eqb}}
+use Rattle.numbers.proofs.Prelude.{ltb, leb, length, get_or, set, length-append, length-replicate, sets, length-sets, take-append_seam, sets-eq, get_or-set_other, Bool, true, false, List, []}
+use Rattle.numbers.proofs.Prelude.{◌∷◌, ◌++◌}
 use Rattle.numbers.{proofs.{Prelude.{◌≡◌, refl, sym, ap, subst, ◌∙◌, arith}, Replies.{carried, onward, met, unmet, given_from, given_one, demanded}, Tests.{both}}, specs.Answer.{if◌then◌else◌}}
 use Rattle.numbers.specs.{Lists.{zeros, padded}, Reply.{Reply, given, refused, plain, demand, ◌>>=◌, ◌>>◌}, declared.refusal.Refusal.{Refusal}}
 use lib.Seq.{drop-append-add}
@@ -8,8 +9,8 @@ use Rattle.border.specs.declared.reader.{Encoding.{Encoding}, Reader.{Reader}}
 use Rattle.header.specs.{Header.{head_of}, declared.header.Head.{Head}}
 use Rattle.index.{proofs.{Sides.{and_first}, Standing.{so_both, and_not}, Stores.{set_before, sets_before, read_below, same_word}}, specs.Index.{joined, records_at, index_of, has_room}}
 use Rattle.index.specs.{Index.{built_with, built_in, index_with, index_in, Indexed, indexed, indexed_by, indexed_of, told_built}, Table.{table_of}, Tied.{word_at}, declared.build.Built.{Built}}
-use Rattle.marks.{proofs.Marked.{marks_length}, specs.Marks.{low, marks_at, marks_from, stretch_edges, group_edges, groups_of, levels_from, counted}}
-use Rattle.table.specs.{Find.{is_precision}, MarkedRows.{encoding_in}, declared.rows.Row.{Row}}
+use Rattle.marks.{proofs.Marked.{marks_length}, specs.Marks.{low, marks_from, stretch_edges, group_edges, groups_of, levels_from, counted}}
+use Rattle.table.specs.{Find.{is_precision}, declared.rows.Row.{Row}}
 use Rattle.atlas.proofs.Beside.{entries_length, index_long, rows_there, marks_by_words}
 use Rattle.atlas.specs.{Atlas.{marks_for, marks_in, entry_of, entries_from, beside_of, atlas_of, atlas_with, atlas_in, atlas_made}, declared.course.Course.{Course}}
 use Rattle.atlas.specs.inner.{Building.{marks_at_record, marks_by, behind_by, behind_of, size_of, entry_for, PutOne}, Marking.{marks_of}}
@@ -45,12 +46,6 @@ size_few count h = choose (eqb count 0) where
   choose : (b : Bool) → (if b then 0 else (1 + 11 * count + 11 * groups_of count)) ≤ 2 ^ 22
   choose true = omega arith
   choose false = omega (arith, h, groups_few count)
-
--- the border of a record
-pub course_there : (file : List ℕ) (head : Head) (words : List ℕ) (k : ℕ) (course : Course) {encoding : Encoding} {place : ℕ} → encoding ≡ encoding_in head
-    → place ≡ (head.sections.«data» + get_or words (records_at + 7 * k + 2) 0) % 2 ^ 32 → marks_of file encoding course ≡ marks_at file encoding place
-    → marks_of file (encoding_in head) course ≡ marks_at_record file head words k
-course_there file head words k course {encoding} {place} e p is = (λ i. marks_of file (sym e i) course) ∙ is ∙ (λ i. marks_at file (e i) (p i))
 
 -- one entry's word and marks, stored
 pub put_one : {before middle after list list' : List ℕ} {place at next end word word' : ℕ} → list ≡ list' → Stored before at list middle next → word ≡ word'
@@ -156,7 +151,8 @@ module _ (file : List ℕ) (head : Head) (before : List ℕ) (n first : ℕ) whe
                 ∙ g.records i h;
           }
 
-    pub entering_on : {after : List ℕ} {next : ℕ} → PutOne now (first + k) at (entry_of (at - first) (marks_at_record file head now k)) (marks_at_record file head now k) after next → next ≤ at + 2 ^ 22
+    pub entering_on : {after : List ℕ} {next : ℕ} → PutOne now (first + k) at (entry_of (at - first) (marks_at_record file head now k)) (marks_at_record file head now k) after next
+        → next ≤ at + 2 ^ 22
         → Entering after next (k + 1)
     entering_on {after} {next} p short = entered (subst (λ (l : List ℕ). PutOne now (first + k) at (entry_of (at - first) l) l after next) list_now p) short
 

@@ -15,7 +15,8 @@ entries_length at [] = refl
 entries_length at (list ∷ lists) = ap suc (entries_length (at + length list) lists)
 
 -- an entry's word
-pub entry_at : (at : ℕ) (lists : List (List ℕ)) (more : List ℕ) (k : ℕ) → k < length lists → get_or (entries_from at lists ++ more) k 0 ≡ entry_of (at + length (joined (take k lists))) (get_or lists k [])
+pub entry_at : (at : ℕ) (lists : List (List ℕ)) (more : List ℕ) (k : ℕ) → k < length lists
+    → get_or (entries_from at lists ++ more) k 0 ≡ entry_of (at + length (joined (take k lists))) (get_or lists k [])
 unfolding entries_from joined
 entry_at at [] more k h = absurd (omega (arith, h))
 entry_at at (list ∷ lists) more zero h = let e : at ≡ at + 0 = omega arith in ap (λ (j : ℕ). entry_of j list) e
@@ -74,10 +75,10 @@ module _ (file : List ℕ) (head : Head) where
       ∙ get_or-append-add (record_of r) (records_of rows) (7 * k + 2) 0 in marks_of rows k (omega (arith, h)) ∙ ap (marks_for file head) (sym same)
 
   -- by records that stand in the words
-  marks_by_lem : (words : List ℕ) (rows : List Row) (k : ℕ) → W.Holds words rows k → marks_by file head words (length rows) k ≡ marks_in file head rows
+  marks_read : (words : List ℕ) (rows : List Row) (k : ℕ) → W.Holds words rows k → marks_by file head words (length rows) k ≡ marks_in file head rows
   unfolding marks_by marks_in records_of
-  marks_by_lem words [] k h = refl
-  marks_by_lem words (r ∷ rows) k h = λ i. marks_for file head (h 2 (omega arith) i) ∷ marks_by_lem words rows (k + 1) (holds_rest words r rows k h) i
+  marks_read words [] k h = refl
+  marks_read words (r ∷ rows) k h = λ i. marks_for file head (h 2 (omega arith) i) ∷ marks_read words rows (k + 1) (holds_rest words r rows k h) i
 
   -- ---- words that begin with the index
   module _ (rows : List Row) (rest : List ℕ) where
@@ -100,4 +101,4 @@ module _ (file : List ℕ) (head : Head) where
         ∙ ap (λ (xs : List ℕ). get_or xs i 0) (records_there file head rows rest)
 
     pub marks_by_words : marks_by file head words (word_at words 2) 0 ≡ marks_in file head rows
-    marks_by_words = ap (λ (n : ℕ). marks_by file head words n 0) rows_there ∙ marks_by_lem words rows 0 records_stand
+    marks_by_words = ap (λ (n : ℕ). marks_by file head words n 0) rows_there ∙ marks_read words rows 0 records_stand

@@ -27,5 +27,6 @@ simple_beside_is_plain file words so location n room =
     ap (replied_of n room) (alike_from (head_of file) (λ head opened. ap (described_from file head room) (beside_is_plain file words so opened location false (n / width))))
 
 -- Where `is_atlas` says 0 of file and words, whoever wrote them, a simple lookup through them is the plain one: description, mark, refusals and all lent output.
-pub simple_atlas_is_plain : (file words : List ℕ) → is_atlas_of file words ≡ given tt → (location : Location) (n room : ℕ) → simply_beside file words location n room ≡ simply_looked file location n room
+pub simple_atlas_is_plain : (file words : List ℕ) → is_atlas_of file words ≡ given tt → (location : Location) (n room : ℕ)
+    → simply_beside file words location n room ≡ simply_looked file location n room
 simple_atlas_is_plain file words is = simple_beside_is_plain file words (inr is)

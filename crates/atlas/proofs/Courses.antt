@@ -1,6 +1,6 @@
 -- The marks of a border by its first state. Assumes nothing.
 use Rattle.numbers.proofs.Prelude.{ℕ, zero, suc, ◌+◌, ◌/◌, ◌^◌, ◌≤◌, tag_of, ltb, Bool, true, false, List, [], ◌∷◌, ◌≡◌, refl, sym, ◌∙◌, arith, OneOf}
-use Rattle.numbers.{proofs.Answers.{found-one}, specs.Answer.{Answer, if◌then◌else◌}}
+use Rattle.numbers.{proofs.Answers.{found_one}, specs.Answer.{Answer, if◌then◌else◌}}
 use Rattle.border.specs.{Trace.{Given, reaches, ended, next_point, border_at}, declared.{place.Point.{Point}, reader.{Encoding.{Encoding}, Next.{Next}, Reader.{Reader}}}}
 use Rattle.marks.specs.Marks.{next_or, is_markable, edges_then, edges_from, most_points, few_edges, stretches_of, stretches_from, stretches_in, levels_from, counted, marks_at}
 use Rattle.atlas.proofs.Nexts.{none_next}
@@ -19,7 +19,7 @@ module _ (first : Point) (s : Reader) (n more : ℕ) (go : Reader → Answer ℕ
     choose false e = let z : ◌≡◌ {A = ℕ} 0 1 = cc in absurd (omega arith)
   few_then (A.found ended) {m} e = choose (same_point s.point first) e where
     choose : (b : Bool) → (if b then A.found n else A.failed) ≡ A.found m → m ≤ n + suc more
-    choose true e = omega (arith, found-one e)
+    choose true e = omega (arith, found_one e)
     choose false e = let z : ◌≡◌ {A = ℕ} 0 1 = cc in absurd (omega arith)
   few_then A.failed e = let z : ◌≡◌ {A = ℕ} 0 1 = cc in absurd (omega arith)
   few_then (A.refused k) e = let z : ◌≡◌ {A = ℕ} 0 1 = cc in absurd (omega arith)

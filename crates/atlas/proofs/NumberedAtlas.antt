@@ -1,12 +1,13 @@
 -- Which numbers a lookup through an atlas can be refused with, whatever the words are: those of a lookup through an index. Assumes nothing.
-use Rattle.numbers.proofs.Prelude.{ℕ, ◌*◌, ◌/◌, eqb, leb, length, Bool, true, false, List, [], ◌∷◌, ◌≡◌, refl, sym, ap, subst, ◌∙◌, arith}
+use Rattle.numbers.proofs.Prelude.{ℕ, ◌*◌, ◌/◌, eqb, leb, length, Bool, false, List, [], ◌∷◌, ◌≡◌, refl, ap, subst, ◌∙◌, arith}
 use Rattle.numbers.proofs.{Refusals.{Listed, still_listed, either}, Replies.{NumberedReply, answers, refuses, then_reply, then_with, and_then, demands, number_of_lem}, Tests.{differ}}
 use Rattle.numbers.specs.{Reply.{Reply, given, refused, plain, ◌>>=◌}, declared.refusal.Refusal.{Refusal}}
 use Rattle.border.specs.declared.place.Point.{Point}
 use Rattle.header.{proofs.{Numbered.{header_numbers, head_numbered}, StrictHead.{head_strict}}, specs.{Header.{head_of}, declared.header.Head.{Head}}}
 use Rattle.index.proofs.NumberedThrough.{through_numbers, Known, Numbered, place_numbered, seeks, cut, opened}
 use Rattle.marks.proofs.NumberedMarks.{marked_numbered}
-use Rattle.table.specs.{Find.{Matched, fix_of, is_precision, matched_with}, Hits.{width}, MarkedRows.{mark_for, judge_marked, judge_numbered, row_numbered, searched_marked, matched_marked}, Search.{farthest}}
+use Rattle.table.specs.{Find.{Matched, fix_of, is_precision, matched_with}, Hits.{width}, MarkedRows.{mark_for, judge_marked, judge_numbered, row_numbered, searched_marked, matched_marked}}
+use Rattle.table.specs.Search.{farthest}
 use Rattle.table.specs.declared.{hits.Hit.{Hit}, location.Location.{Location}}
 use Rattle.verdict.proofs.Numbered.{NumberedJudgement, judged_numbered}
 use Rattle.atlas.specs.{Beside.{matched_beside, zones_beside, described_beside, simply_beside}, Looked.{is_whole, parts_of, matched_atlas, zones_atlas, looked_atlas}}

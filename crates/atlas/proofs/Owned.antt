@@ -1,11 +1,13 @@
 -- What holding words against an atlas comes to: entry by entry, and as a whole. Assumes nothing.
 use Rattle.numbers.proofs.Prelude.{ℕ, ◌+◌, ◌-◌, ◌*◌, ◌^◌, ◌≤◌, ◌<◌, lt-ltb, le-leb, le-ltb, leb-true, ltb-true, lt-leb, ltb, leb, length, take, drop, get_or, length-append, length-replicate}
-use Rattle.numbers.proofs.Prelude.{take-append-drop, length-take-le, get_or-take, take-append_seam, Bool, true, false, ◌&&◌, List, ◌++◌, append_assoc, append-nil, ◌≡◌, refl, sym, ap, subst, ◌∙◌, arith}
+use Rattle.numbers.proofs.Prelude.{take-append-drop, length-take-le, get_or-take, take-append_seam, Bool, true, false, ◌&&◌, List, ◌++◌, append_assoc, append-nil, ◌≡◌, refl, sym, ap, subst, ◌∙◌}
+use Rattle.numbers.proofs.Prelude.{arith}
 use Rattle.numbers.{proofs.{Replies.{onward, met, unmet, given_one}, Tests.{both, differ}}, specs.{Answer.{if◌then◌else◌}, Lists.{zeros, padded}, Reply.{Reply, given, refused, plain, demand, ◌>>◌}}}
 use Rattle.numbers.specs.declared.refusal.Refusal.{Refusal}
 use Rattle.header.specs.{Header.{head_of}, declared.header.Head.{Head}}
 use Rattle.index.{proofs.{Owned.{is_index_exactly}, Sides.{and_first, and_rest}, Standing.{at_append, at_here, at_inside, at_rest, so_both, and_not}}, specs.Index.{joined, records_at, index_of}}
-use Rattle.index.specs.{Index.{built_with, built_in, index_with, index_in, Indexed, indexed, indexed_by, indexed_of}, Own.{is_index_of}, Tied.{word_at}, inner.Own.{is_word, is_at, stands_from, is_empty_from}}
+use Rattle.index.specs.{Index.{built_with, built_in, index_with, index_in, Indexed, indexed, indexed_by, indexed_of}, Own.{is_index_of}, Tied.{word_at}}
+use Rattle.index.specs.inner.Own.{is_word, is_at, stands_from, is_empty_from}
 use Rattle.marks.specs.Marks.{low}
 use Rattle.table.specs.declared.rows.Row.{Row}
 use Rattle.atlas.proofs.{AtlasIsPlain.{MadeFrom, made_from, is_atlas_exactly}, Behind.{by_length, by_next, by_done, IndexMade, index_made, made, with_room}}
@@ -149,7 +151,8 @@ module _ (words beside : List ℕ) (used : ℕ) where
   pub behind_other : {why : Refusal} → refused why ≡ stands_from words (used + 1) beside → false ≡ is_behind words behind used
   unfolding is_behind
   behind_other e =
-      and_first (is_at words used behind) _ (shape ∙ sym (and_not (is_word words used (low (used + 1 + length beside))) (is_at words (used + 1) beside) (not_stood (is_at words (used + 1) beside) _ e)))
+      and_first (is_at words used behind) _ (shape ∙ sym (and_not (is_word words used (low (used + 1 + length beside))) (is_at words (used + 1) beside) (not_stood (is_at words (used + 1)
+      beside) _ e)))
 
   module _ {all : ℕ} (e : given all ≡ stands_from words (used + 1) beside) where
     told : (is_at words (used + 1) beside ≡ true) × (all ≡ used + 1 + length beside)
@@ -220,68 +223,68 @@ module _ (file : List ℕ) (head : Head) (rows : List Row) (tail : List ℕ) whe
   behind_is = ap (λ (lists : List (List ℕ)). behind_by (beside_of lists) (length index)) (marks_by_words file head rows (behind_by (beside_of (marks_in file head rows)) (length index) ++ tail))
 
 module _ (file words : List ℕ) (m : MadeFrom file (length words) words) where
-  abbrev index_in_lem : List ℕ
-  index_in_lem = index_of file m.head m.rows
+  abbrev own_index : List ℕ
+  own_index = index_of file m.head m.rows
 
   abbrev behind_in : List ℕ
-  behind_in = behind_by (beside_of (marks_in file m.head m.rows)) (length index_in_lem)
+  behind_in = behind_by (beside_of (marks_in file m.head m.rows)) (length own_index)
 
   abbrev zeros_in : List ℕ
   zeros_in = zeros (length words - length (atlas_of file m.head m.rows))
 
-  atlas_is : atlas_of file m.head m.rows ≡ index_in_lem ++ behind_in
+  atlas_is : atlas_of file m.head m.rows ≡ own_index ++ behind_in
   unfolding atlas_of
   atlas_is = refl
 
-  words_are : words ≡ index_in_lem ++ (behind_in ++ zeros_in)
-  words_are = m.whole ∙ ap (λ (a : List ℕ). a ++ zeros_in) atlas_is ∙ append_assoc index_in_lem behind_in zeros_in
+  words_are : words ≡ own_index ++ (behind_in ++ zeros_in)
+  words_are = m.whole ∙ ap (λ (a : List ℕ). a ++ zeros_in) atlas_is ∙ append_assoc own_index behind_in zeros_in
 
   room_in : (length (atlas_of file m.head m.rows) ≤ length words) × (length (atlas_of file m.head m.rows) < 2 ^ 32)
   room_in =
       let t = both (leb (length (atlas_of file m.head m.rows)) (length words)) (ltb (length (atlas_of file m.head m.rows)) (2 ^ 32)) m.room in
       (leb-true _ _ t.0, ltb-true _ _ t.1)
 
-  long_in : length (atlas_of file m.head m.rows) ≡ length index_in_lem + length behind_in
-  long_in = ap length atlas_is ∙ length-append index_in_lem behind_in
+  long_in : length (atlas_of file m.head m.rows) ≡ length own_index + length behind_in
+  long_in = ap length atlas_is ∙ length-append own_index behind_in
 
-  end_in : end_of words ≡ length index_in_lem
+  end_in : end_of words ≡ length own_index
   end_in =
-      let last : word_at words 2051 ≡ length index_in_lem = ap (λ (w : List ℕ). get_or w 2051 0) words_are ∙ index_ends file m.head m.rows (behind_in ++ zeros_in) in
+      let last : word_at words 2051 ≡ length own_index = ap (λ (w : List ℕ). get_or w 2051 0) words_are ∙ index_ends file m.head m.rows (behind_in ++ zeros_in) in
       let least = index_long file m.head m.rows (behind_in ++ zeros_in) in
       sym (end_there words (omega (arith, least, room_in.0, long_in)) (omega (arith, last, room_in.0, long_in))) ∙ last
 
-  front_in : take (end_of words) words ≡ index_in_lem
-  front_in = (λ i. take (end_in i) (words_are i)) ∙ take-append_seam index_in_lem (behind_in ++ zeros_in)
+  front_in : take (end_of words) words ≡ own_index
+  front_in = (λ i. take (end_in i) (words_are i)) ∙ take-append_seam own_index (behind_in ++ zeros_in)
 
-  index_given : given index_in_lem ≡ index_in file (length index_in_lem)
+  index_given : given own_index ≡ index_in file (length own_index)
   unfolding built_in built_with
   index_given =
-      let room = so_both (leb (length index_in_lem) (length index_in_lem)) (ltb (length index_in_lem) (2 ^ 32)) (le-leb (length index_in_lem) (length index_in_lem) (omega arith))
-      (lt-ltb (length index_in_lem) (2 ^ 32) (omega (arith, room_in.1, long_in))) in
-      met room (plain 35) _ ∙ onward m.listed _ ∙ met m.precise (plain 16) _ ∙ onward m.opened (λ (h : Head). index_with file h (length index_in_lem))
+      let room = so_both (leb (length own_index) (length own_index)) (ltb (length own_index) (2 ^ 32)) (le-leb (length own_index) (length own_index) (omega arith))
+      (lt-ltb (length own_index) (2 ^ 32) (omega (arith, room_in.1, long_in))) in
+      met room (plain 35) _ ∙ onward m.listed _ ∙ met m.precise (plain 16) _ ∙ onward m.opened (λ (h : Head). index_with file h (length own_index))
 
   is_index_in : is_index_of file (take (end_of words) words) ≡ given tt
   unfolding indexed_of indexed_by
-  is_index_in = let none : length index_in_lem - length index_in_lem ≡ 0 = omega arith in
-      let alone : padded (length index_in_lem) index_in_lem ≡ index_in_lem = ap (λ (k : ℕ). index_in_lem ++ zeros k) none ∙ append-nil index_in_lem in
+  is_index_in = let none : length own_index - length own_index ≡ 0 = omega arith in
+      let alone : padded (length own_index) own_index ≡ own_index = ap (λ (k : ℕ). own_index ++ zeros k) none ∙ append-nil own_index in
       ap (is_index_of file) front_in
-      ∙ (is_index_exactly file index_in_lem).1 (length index_in_lem, sym (ap (indexed_by (length index_in_lem)) index_given) ∙ (λ i. indexed (given (length index_in_lem)) (alone i)))
+      ∙ (is_index_exactly file own_index).1 (length own_index, sym (ap (indexed_by (length own_index)) index_given) ∙ (λ i. indexed (given (length own_index)) (alone i)))
 
   is_behind_in : (head : Head) → given head ≡ head_of file → is_behind words (behind_of file head words (end_of words)) (end_of words) ≡ true
   unfolding is_behind
   is_behind_in head opened =
       let same : head ≡ m.head = given_one (opened ∙ sym m.opened) in
-      let stand = at_here (behind_in ++ zeros_in) index_in_lem in
-      let parts = both (is_at (index_in_lem ++ (behind_in ++ zeros_in)) (length index_in_lem) behind_in) (is_at (index_in_lem ++ (behind_in ++ zeros_in))
-      (length index_in_lem + length behind_in) zeros_in) (sym (at_append (index_in_lem ++ (behind_in ++ zeros_in)) (length index_in_lem) behind_in zeros_in) ∙ stand) in
-      let left : length words - length (atlas_of file m.head m.rows) ≡ length (index_in_lem ++ (behind_in ++ zeros_in)) - (length index_in_lem + length behind_in) =
+      let stand = at_here (behind_in ++ zeros_in) own_index in
+      let parts = both (is_at (own_index ++ (behind_in ++ zeros_in)) (length own_index) behind_in) (is_at (own_index ++ (behind_in ++ zeros_in))
+      (length own_index + length behind_in) zeros_in) (sym (at_append (own_index ++ (behind_in ++ zeros_in)) (length own_index) behind_in zeros_in) ∙ stand) in
+      let left : length words - length (atlas_of file m.head m.rows) ≡ length (own_index ++ (behind_in ++ zeros_in)) - (length own_index + length behind_in) =
       omega (arith, long_in, ap length words_are) in
       let here : behind_of file head words (end_of words) ≡ behind_in =
       (λ i. behind_of file (same i) (words_are i) (end_in i)) ∙ behind_is file m.head m.rows zeros_in in
       (λ i. is_behind (words_are i) (here i) (end_in i))
-      ∙ so_both (is_at (index_in_lem ++ (behind_in ++ zeros_in)) (length index_in_lem) behind_in) _ parts.0
-      (so_both (ltb (length index_in_lem + length behind_in) (2 ^ 32)) _ (lt-ltb (length index_in_lem + length behind_in) (2 ^ 32) (omega (arith, room_in.1, long_in)))
-      (sym (ap (λ (k : ℕ). is_at (index_in_lem ++ (behind_in ++ zeros_in)) (length index_in_lem + length behind_in) (zeros k)) left) ∙ parts.1))
+      ∙ so_both (is_at (own_index ++ (behind_in ++ zeros_in)) (length own_index) behind_in) _ parts.0
+      (so_both (ltb (length own_index + length behind_in) (2 ^ 32)) _ (lt-ltb (length own_index + length behind_in) (2 ^ 32) (omega (arith, room_in.1, long_in)))
+      (sym (ap (λ (k : ℕ). is_at (own_index ++ (behind_in ++ zeros_in)) (length own_index + length behind_in) (zeros k)) left) ∙ parts.1))
 
 -- ---- the other way
 module _ (file words : List ℕ) {head : Head} (opened : given head ≡ head_of file) (e : is_index_of file (take (end_of words) words) ≡ given tt) (few : end_of words ≤ length words) where

@@ -1,9 +1,9 @@
 -- Where the parts of an atlas stand, by how far the code came. Assumes nothing.
-use Rattle.numbers.proofs.Prelude.{ℕ, ◌+◌, ◌-◌, ◌*◌, ◌/◌, ◌≤◌, ◌<◌, lt-ltb, le-ltb, ltb-true, ltb, leb, length, take, drop, get_or, length-drop, take_all, Bool, true, false, List, ◌≡◌, ap, ◌∙◌, arith}
+use Rattle.numbers.proofs.Prelude.{ℕ, ◌+◌, ◌-◌, ◌*◌, ◌/◌, ◌≤◌, ◌<◌, lt-ltb, ltb-true, ltb, leb, length, take, drop, get_or, length-drop, take_all, Bool, true, false, List, ◌≡◌, ap, ◌∙◌, arith}
 use Rattle.numbers.{proofs.{Replies.{carried, onward, met, unmet, given_from, given_one, demanded}, Tests.{both}}, specs.{Lists.{zeros}, Reply.{Reply, given, refused, plain}}}
 use Rattle.numbers.specs.declared.refusal.Refusal.{Refusal}
 use Rattle.header.specs.{Header.{head_of}, declared.header.Head.{Head}}
-use Rattle.index.{proofs.{Sides.{and_first, and_rest}, Through.{place_inside, refused_zeros}}, specs.{Index.{tiles, records_at}, Through.{start_of, is_inside, place_of}, Tied.{word_at, is_headed}}}
+use Rattle.index.{proofs.{Sides.{and_rest}, Through.{place_inside, refused_zeros}}, specs.{Index.{tiles, records_at}, Through.{start_of, is_inside, place_of}, Tied.{word_at, is_headed}}}
 use Rattle.index.specs.{Tiles.{tile_of}, declared.place.Place.{Place}}
 use Rattle.table.specs.{Find.{Matched, fix_of, is_precision}, Hits.{width}, MarkedRows.{matched_marked}, declared.location.Location.{Location}}
 use Rattle.zones.specs.{Lent.{replied, replied_of}, Lookup.{zones_from}, Marked.{zones_marked, looked_marked}}
@@ -20,9 +20,6 @@ pub whole_so : (words : List ℕ) {end word : ℕ} → end ≡ word_at words 205
 whole_so words e h w =
     ap (λ (x : ℕ). leb x (length words)) (w ∙ ap (λ (k : ℕ). get_or words k 0) e)
     ∙ and_rest (ltb (start_of words tiles) (length words)) _ (lt-ltb (start_of words tiles) (length words) (omega (arith, h, e)))
-
-pub whole_not : (words : List ℕ) {end : ℕ} → end ≡ word_at words 2051 → length words ≤ end → false ≡ is_whole words
-whole_not words e h = and_first (ltb (start_of words tiles) (length words)) _ (le-ltb (start_of words tiles) (length words) (omega (arith, h, e)))
 
 module _ (long : ℕ) (head : Head) (words : List ℕ) (location : Location) where
   pub no_parts : {why : Refusal} → refused why ≡ place_of long head words location → refused why ≡ parts_of long head words location

@@ -69,11 +69,13 @@ module _ (file words : List ℕ) (location : Location) (asked : Bool) (n room : 
 -- ---- what the promises fix
 -- Two replies that a promise permits are equal, with all lent output: of `lookup_atlas`,
 pub atlas_one_reply : (file words : List ℕ) (location : Location) (asked : Bool) (n room : ℕ) (r r' : Looked) (hs hs' ts ts' : List ℕ)
-    → replied (told_looked r) hs ts ≡ looked_atlas file words location asked n room → replied (told_looked r') hs' ts' ≡ looked_atlas file words location asked n room → (r ≡ r') × (hs ≡ hs') × (ts ≡ ts')
+    → replied (told_looked r) hs ts ≡ looked_atlas file words location asked n room → replied (told_looked r') hs' ts' ≡ looked_atlas file words location asked n room
+    → (r ≡ r') × (hs ≡ hs') × (ts ≡ ts')
 atlas_one_reply = atlas_safe
 
 -- of `build_atlas`,
-pub same_atlas_built : (file : List ℕ) (n : ℕ) (r r' : Built) (ws ws' : List ℕ) → indexed (told_built r) ws ≡ atlas_made file n → indexed (told_built r') ws' ≡ atlas_made file n → (r ≡ r') × (ws ≡ ws')
+pub same_atlas_built : (file : List ℕ) (n : ℕ) (r r' : Built) (ws ws' : List ℕ) → indexed (told_built r) ws ≡ atlas_made file n → indexed (told_built r') ws' ≡ atlas_made file n
+    → (r ≡ r') × (ws ≡ ws')
 same_atlas_built file n = same_built {promised = atlas_made file n}
 
 -- and of `is_atlas`.

@@ -4,11 +4,13 @@
 use Rattle.numbers.proofs.Prelude.{ℕ, ◌+◌, pos, length, replicate, length-append, Bool, true, false, List, [], ◌∷◌, ◌++◌, ◌≡◌, refl, sym, ap, ◌∙◌}
 use Rattle.numbers.specs.{Answer.{checked}, Point.{signed_of, even_bits, point_of}, Reply.{given, refused, plain, demand}, Varint.{reading_of, forward_at, value_of, size_of, too_long}}
 use Rattle.border.specs.{Box.{min_z, max_z}, Place.{moved_by}, Reader.{advanced, marker, packed_turn, turn_of}, Trace.{round_again, next_within, next_point}}
-use Rattle.index.{proofs.{Whole.{index_length}, WorkedIndex.{printed, head, only, printed_opens, printed_table, printed_lists}}, specs.Index.{list_from, lists_from, joined, index_of, has_room, Indexed}}
+use Rattle.index.proofs.{Whole.{index_length}, WorkedIndex.{printed, head, only, printed_opens, printed_table, printed_lists}}
+use Rattle.index.specs.Index.{list_from, lists_from, joined, index_of, has_room, Indexed}
 use Rattle.index.specs.{Table.{table_from, table_of}, Tiles.{span_of, meets}}
 use Rattle.header.specs.{Header.{preamble_of, texts_from, sections_from, sections_at, contents_by, head_by, head_of}, Text.{within, remote_at, string_at, bytes_of, text_at}}
 use Rattle.header.specs.{Utf8.{characters, started_by, begun_by, followed, goes_on, is_utf8}, declared.header.Head.{Head}}
-use Rattle.marks.specs.Marks.{next_or, span_over, kind_of, next_of, end_of, marks_from, is_markable, edges_then, edges_from, most_points, few_edges, stretch_edges, stretches_of, group_edges, groups_of}
+use Rattle.marks.specs.Marks.{next_or, span_over, kind_of, next_of, end_of, marks_from, is_markable, edges_then, edges_from, most_points, few_edges, stretch_edges, stretches_of, group_edges}
+use Rattle.marks.specs.Marks.{groups_of}
 use Rattle.marks.specs.Marks.{stretches_from, counted, marks_at}
 use Rattle.table.specs.{Find.{is_precision}, Rows.{rows_then, row_by, rows_within, rows_from, rows_in}, Table.{steps_by, entry_by}, declared.{location.Location.{Location}, rows.Row.{Row}}}
 use Rattle.verdict.specs.Edge.{same_point}

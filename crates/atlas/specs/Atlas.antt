@@ -1,6 +1,7 @@
 -- The atlas of a file, as document 04's A-1 has it with one level of groups and without boxes over lists: the words of the index, the length of all words, for each entry where its
 -- border's marks stand, and the marks.
-use Rattle.numbers.specs.{Prelude.{ℕ, ◌+◌, ◌%◌, ◌^◌, length, Bool, false, List, [], ◌∷◌, ◌++◌}, Reply.{Reply, given, refused, plain, demand}}
+use Rattle.std.specs.Prelude.{◌+◌, ◌%◌, ◌^◌, ◌∷◌, ◌++◌}
+use Rattle.numbers.specs.{Prelude.{ℕ, length, Bool, false, List, []}, Reply.{Reply, given, refused, plain, demand}}
 use Rattle.header.specs.declared.header.Head.{Head}
 use Rattle.index.specs.{Index.{joined, index_of, built_with, built_in, Indexed, indexed_by}, Own.{is_same}}
 use Rattle.marks.specs.Marks.{low, marks_at}

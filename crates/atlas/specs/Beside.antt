@@ -1,5 +1,6 @@
 -- Through an atlas or without one, as document 04 has it for simple lookup, many fixes and the slip: an empty list of words is none.
-use Rattle.numbers.specs.{Prelude.{ℕ, ◌/◌, Bool, false, List, [], ◌∷◌, ◌⊎◌, ◌≡◌}, Reply.{Reply, given, ◌>>=◌}}
+use Rattle.std.specs.Prelude.{◌/◌, ◌∷◌, ◌⊎◌, ◌≡◌}
+use Rattle.numbers.specs.{Prelude.{ℕ, Bool, false, List, []}, Reply.{Reply, given, ◌>>=◌}}
 use Rattle.header.specs.{Header.{head_of}, declared.header.Head.{Head}}
 use Rattle.table.specs.{Find.{Matched, matched_with}, Hits.{width}, declared.location.Location.{Location}}
 use Rattle.zones.specs.{Lent.{Outcome, Replied, replied_of}, Lookup.{zones_from}, Simple.{described_from}, declared.{lookup.Zones.{Zones}, simple.Described.{Described}}}

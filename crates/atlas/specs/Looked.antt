@@ -1,5 +1,6 @@
 -- Lookup through an atlas, as document 04 has it: among the rows in the list of the fix's tile, by the marks along their borders.
-use Rattle.numbers.specs.{Prelude.{ℕ, ◌+◌, ◌-◌, ◌*◌, ◌/◌, ltb, leb, length, take, drop, Bool, ◌&&◌, List}, Reply.{Reply, given, refused, plain, demand, ◌>>=◌, ◌>>◌}}
+use Rattle.std.specs.Prelude.{◌+◌, ◌-◌, ◌*◌, ◌/◌, ◌&&◌}
+use Rattle.numbers.specs.{Prelude.{ℕ, ltb, leb, length, take, drop, Bool, List}, Reply.{Reply, given, refused, plain, demand, ◌>>=◌, ◌>>◌}}
 use Rattle.header.specs.{Header.{head_of}, declared.header.Head.{Head}}
 use Rattle.index.specs.{Index.{tiles, records_at}, Through.{start_of, place_of}, Tied.{word_at}}
 use Rattle.table.specs.{Find.{Matched}, Hits.{width}, MarkedRows.{matched_marked}, declared.location.Location.{Location}}

@@ -1,6 +1,6 @@
 // Which borders have marks, and how many stretches: a border is read to its end once.
-ghost use Rattle.std.specs.Prelude.{◌≡◌, ◌^◌, ◌≤◌};
-ghost use lib.{Dec.{ltb}, Signed.{mag}};
+ghost use Rattle.std.specs.Prelude.{◌≡◌, ◌^◌, ◌≤◌, ltb};
+ghost use lib.Signed.{mag};
 ghost use Rattle.border.specs.inner.Told as told;
 ghost use Rattle.marks.specs.Marks.{is_short_run, is_narrow, is_markable, edges_then, edges_from, most_points, stretches_from, marks_at};
 ghost use Rattle.atlas.specs.inner.Marking.{told_edges, marks_of};
@@ -11,14 +11,14 @@ use border::reader::{Encoding, Next, Reader, Run, next_point, open_border};
 use verdict::edge::same_point;
 
 // How many edges a border has that comes round.
-#[derive(Drop)]
+#[derive(Clone, Copy)]
 pub enum Edges {
     Count(usize),
     None,
 }
 
 // The state at a border's first point, and how many stretches it has, 0 for a border without marks.
-#[derive(Drop)]
+#[derive(Clone, Copy)]
 pub struct Course {
     pub first: Reader,
     pub count: usize,

@@ -11,7 +11,7 @@ use numbers::refusal::{Refusal, plain};
 use table::location::Location;
 
 // Where the records end, the list of the location's tile, and where entries and marks begin.
-#[derive(Drop)]
+#[derive(Clone, Copy)]
 pub struct Parts {
     pub behind: usize,
     pub from: usize,
@@ -19,7 +19,7 @@ pub struct Parts {
     pub beside: usize,
 }
 
-#[derive(Drop)]
+#[derive(Clone, Copy)]
 pub enum Parting {
     At(Parts),
     Refused(Refusal),

@@ -1,6 +1,5 @@
 // Marks into lent words.
-ghost use mathlib.Core.{Path.{◌≡◌}, List.{[], ◌∷◌}};
-ghost use Rattle.std.specs.Prelude.{◌^◌, ◌<◌};
+ghost use Rattle.std.specs.Prelude.{◌^◌, ◌<◌, ◌≡◌, [], ◌∷◌};
 ghost use Rattle.writer.specs.inner.Stored.{Stored};
 ghost use Rattle.marks.specs.Marks.{word_of, low, kind_of, next_of, end_of, mark_of, marks_from};
 ghost use Rattle.atlas.specs.inner.Marking.{boxed, marks_of};

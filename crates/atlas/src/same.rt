@@ -1,6 +1,5 @@
 // Marks held against words.
-ghost use mathlib.Core.{Bool.{◌&&◌}, Path.{◌≡◌}, List.{[], ◌∷◌}};
-ghost use Rattle.std.specs.Prelude.{◌+◌, ◌^◌, ◌<◌};
+ghost use Rattle.std.specs.Prelude.{◌+◌, ◌^◌, ◌<◌, ◌&&◌, ◌≡◌, [], ◌∷◌};
 ghost use Rattle.marks.specs.Marks.{word_of, low, kind_of, next_of, end_of, mark_of, marks_from};
 ghost use Rattle.index.specs.inner.Own.{is_at};
 ghost use Rattle.atlas.specs.inner.Marking.{boxed, state_words, marks_of};

@@ -8,13 +8,13 @@ use border::place::{FixedLat, FixedLon, Point};
 use border::reader::{Encoding, Next, Reader, next_point};
 
 // A box, by its lower and its upper corner.
-#[derive(Drop)]
+#[derive(Clone, Copy)]
 pub struct Frame {
     pub low: Point,
     pub high: Point,
 }
 
-#[derive(Drop)]
+#[derive(Clone, Copy)]
 pub struct Reach {
     pub frame: Frame,
     pub last: Reader,

@@ -1,6 +1,5 @@
 // Numbers as words.
-ghost use mathlib.Core.{Path.{◌≡◌}, List.{[], ◌∷◌}};
-ghost use Rattle.std.specs.Prelude.{◌^◌, ◌<◌};
+ghost use Rattle.std.specs.Prelude.{◌^◌, ◌<◌, ◌≡◌, [], ◌∷◌};
 ghost use Rattle.writer.specs.inner.Stored.{Stored};
 ghost use Rattle.marks.specs.Marks.{word_of, low, kind_of, next_of, end_of};
 ghost use Rattle.index.specs.inner.Own.{is_word};

@@ -1,5 +1,6 @@
 -- What the functions that build an atlas or hold words against one say of each other.
-use Rattle.numbers.specs.{Answer.{if◌then◌else◌}, Prelude.{ℕ, zero, suc, ◌+◌, ◌*◌, ◌^◌, eqb, ltb, leb, length, get_or, set, sets, Bool, ◌&&◌, List, [], ◌∷◌, ◌≡◌}, Reply.{Reply, plain, demand, ◌>>◌}}
+use Rattle.std.specs.Prelude.{if◌then◌else◌, ◌+◌, ◌*◌, ◌^◌, ◌&&◌, ◌∷◌, ◌≡◌}
+use Rattle.numbers.specs.{Prelude.{ℕ, zero, suc, eqb, ltb, leb, length, get_or, set, sets, Bool, List, []}, Reply.{Reply, plain, demand, ◌>>◌}}
 use Rattle.header.specs.declared.header.Head.{Head}
 use Rattle.index.specs.{Index.{records_at}, Tied.{word_at}, inner.Own.{is_word, is_at, stands_from, is_empty_from}}
 use Rattle.marks.specs.Marks.{low, groups_of}

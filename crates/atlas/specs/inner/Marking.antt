@@ -1,5 +1,6 @@
 -- What the functions that work out the marks of a border say of each other.
-use Rattle.numbers.specs.{Answer.{Answer, found, failed}, Prelude.{ℕ, List, [], ◌∷◌}}
+use Rattle.std.specs.Prelude.{◌∷◌}
+use Rattle.numbers.specs.{Answer.{Answer, found, failed}, Prelude.{ℕ, List, []}}
 use Rattle.border.specs.{Box.{Box}, declared.reader.{Encoding.{Encoding}, Reader.{Reader}}}
 use Rattle.marks.specs.Marks.{word_of, low, kind_of, next_of, end_of, Span, spanned, counted, levels_from}
 use Rattle.atlas.specs.declared.{course.{Course.{Course}, Edges.{Edges}}, span.{Frame.{Frame}, Reach.{Reach}}}

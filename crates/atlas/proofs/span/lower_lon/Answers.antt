@@ -1,0 +1,13 @@
+-- `atlas::span::lower_lon` meets its contract.
+use Rattle.border.specs.Box.{min_z}
+use Rattle.atlas.proofs.span.lower_lon.Goals as goal
+
+pub returns-then-lon_upto : goal.returns-then-lon_upto
+unfolding min_z
+returns-then-lon_upto c =
+    rw (← c.lon_upto.ensures, c.if-lon_upto.true)
+
+pub returns : goal.returns
+unfolding min_z
+returns c =
+    rw (← c.lon_upto.ensures, c.if-lon_upto.false)
