@@ -4,8 +4,10 @@ use Rattle.numbers.{proofs.{Prelude.{refl, arith}, Readings.{Grows, reading_grow
 use Rattle.numbers.specs.Varint.{Numeral, reading_of}
 use Rattle.verdict.specs.Verdict.{Judgement}
 use Rattle.border.specs.declared.place.Point.{Point}
-use Rattle.table.{proofs.TableRows.{rows_step, at_end, row_less}, specs.{Find.{Matched, is_precision, fix_of, matched_with}, GivenRows.{rows_by}, MarkedRows.{judge_numbered, row_numbered, rows_numbered}}}
-use Rattle.table.specs.{MarkedRows.{searched_marked, matched_marked}, Merge.{seen, summary, group_kind, match_of, merged_after, merged}, Rest.{rest_mark}, Rows.{Rows, row, table_end, unreadable, after}}
+use Rattle.table.proofs.TableRows.{rows_step, at_end, row_less}
+use Rattle.table.specs.{Find.{Matched, is_precision, fix_of, matched_with}, GivenRows.{rows_by}, MarkedRows.{judge_numbered, row_numbered, rows_numbered}}
+use Rattle.table.specs.{MarkedRows.{searched_marked, matched_marked}, Merge.{seen, summary, group_kind, match_of, merged_after, merged}, Rest.{rest_mark}}
+use Rattle.table.specs.Rows.{Rows, row, table_end, unreadable, after}
 use Rattle.table.specs.{Rows.{start_at, rows_then, row_by, rows_from, rows_in}, Search.{Found, ended, farthest, after_turn, row_turn, seek, judge_in, searched}, Table.{is_above}, Unstopped.{seek_all}}
 use Rattle.table.specs.declared.{hits.Hit.{Hit}, location.Location.{Location}, rows.{Cursor.{Cursor}, Row.{Row}}, search.Turn.{Turn, TheVariants.{On, Met, Stopped, Refused}}}
 use Rattle.atlas.{proofs.Parting.{list_end}, specs.{Beside.{matched_beside}, Looked.{parts_of, part_in, matched_atlas}}}

@@ -2,12 +2,12 @@
 use Rattle.numbers.proofs.{Lists.{zeros_drop}, Prelude.{ℕ, ◌+◌, ◌-◌, ◌*◌, ◌<◌, Float, length, drop, length-append, take_at, drop_at, Bool, true, List, [], ◌∷◌, ◌++◌, ◌⊎◌, inl, inr, ◌≡◌, refl, sym}}
 use Rattle.numbers.{proofs.Prelude.{ap, ◌∙◌, sub-zero, arith}, specs.{Lists.{zeros, padded, over}, Reply.{Reply}, declared.refusal.Refusal.{Refusal}}}
 use Rattle.atlas.specs.Beside.{matched_beside, zones_beside}
-use Rattle.zones.{proofs.GivenHead.{looked_with_lem, not_looked}, specs.{Lent.{Outcome, Replied, replied_of}, Lookup.{zones_with, looked_with, looked_up}, declared.lookup.Zones.{Zones}}}
+use Rattle.zones.{proofs.GivenHead.{looked_with_given, not_looked}, specs.{Lent.{Outcome, Replied, replied_of}, Lookup.{zones_with, looked_with, looked_up}, declared.lookup.Zones.{Zones}}}
 use Rattle.table.{proofs.Words.{words_length, words_append}, specs.{Hits.{width, words}, declared.location.Location.{Location}}}
 use Rattle.header.specs.{Header.{head_of}, declared.header.Head.{Head}}
-use Rattle.batch.specs.Many.{given, refused, ◌>>=◌, met_at, is_taken, fixes_of, Stamped, nothing, with_one, each_of, answer_words, Left, left_of, looked_up_many}
+use Rattle.batch.specs.Many.{◌>>=◌, met_at, is_taken, fixes_of, Stamped, nothing, with_one, each_of, answer_words, Left, left_of, looked_up_many}
 use Rattle.batch.specs.OneByOne.{from_on, unless_refused, one_by_one}
-use Rattle.batch.proofs.{Counts.{counts}, Opening.{all_opened, not_opened}, Stamping.{on_padded, answer_words_lem, three_words, taken}}
+use Rattle.batch.proofs.{Counts.{counts}, Opening.{all_opened, not_opened}, Stamping.{on_padded, answer_words_snoc, three_words, taken}}
 use Rattle.numbers.specs.Reply as R
 
 -- what is written behind the front of a list that is zero beyond it
@@ -44,7 +44,7 @@ module _ (file : List ℕ) (asked : Bool) (n room third : ℕ) where
       let hits = ap (padded n) (words_append so.matches o.matches) ∙ behind n (length (words so.matches)) (words so.matches) (words o.matches) refl
       ∙ ap (λ (k : ℕ). from_on k (padded n (words so.matches)) (padded (n - length (words so.matches)) (words o.matches))) (words_length so.matches) in
       let text = behind room (length so.text) so.text o.text refl in
-      let answers = ap (padded third) (answer_words_lem so.answers o.answer) ∙ behind third (3 * length so.answers) (answer_words so.answers)
+      let answers = ap (padded third) (answer_words_snoc so.answers o.answer) ∙ behind third (3 * length so.answers) (answer_words so.answers)
       (answer_words (o.answer ∷ [])) (three_words so.answers) ∙ ap (from_on (3 * length so.answers) (padded third (answer_words so.answers)))
       (over_zeros third (3 * length so.answers) (answer_words so.answers) (answer_words (o.answer ∷ [])) (three_words so.answers)) in
       λ i. one_by_one file asked n room third fixes (index i) (matches i) (used i) (hits i) (text i) (answers i)
@@ -61,7 +61,7 @@ module _ (file : List ℕ) (asked : Bool) (n room third : ℕ) where
       r = room - length so.text
 
       alike : replied_of k r (zones_beside file head [] fix asked k r) ≡ looked_up file fix asked (n - width * length so.matches) r
-      alike = looked_with_lem file fix k r e asked ∙ ap (λ (m : ℕ). looked_up file fix asked (n - m) r) (words_length so.matches)
+      alike = looked_with_given file fix k r e asked ∙ ap (λ (m : ℕ). looked_up file fix asked (n - m) r) (words_length so.matches)
 
       go : (z : Reply (Outcome Zones)) → z ≡ zones_beside file head [] fix asked k r
           → ((so : Stamped) → left_of n room third (each_of (λ fix. zones_beside file head [] fix asked) n room fixes so) ≡ from fixes so)
@@ -70,10 +70,10 @@ module _ (file : List ℕ) (asked : Bool) (n room third : ℕ) where
       go (R.refused why) is rest = refl
 
     -- in lists that go together, of a file that opens
-    pub one_by_one_lem : (lats lons : List Float) → true ≡ is_taken (length lats) (length lons) third
+    pub as_one_by_one : (lats lons : List Float) → true ≡ is_taken (length lats) (length lons) third
         → looked_up_many file lats lons asked n room third ≡ one_by_one file asked n room third (fixes_of lats lons) 0 0 0 (zeros n) (zeros room) (zeros third)
     unfolding from words answer_words looked_up_many
-    one_by_one_lem lats lons ok =
+    as_one_by_one lats lons ok =
         sym (all_opened file [] lats lons asked n room third refl refl refl ok e) ∙ by_step (fixes_of lats lons) nothing
         ∙ (λ i. one_by_one file asked n room third (fixes_of lats lons) 0 0 0 (zeros (sub-zero n i)) (zeros (sub-zero room i)) (zeros (sub-zero third i)))
 
@@ -93,7 +93,7 @@ pub many_is_one_by_one : (file : List ℕ) (lats lons : List Float) (asked : Boo
     → ((head : Head) × (R.given head ≡ head_of file)) ⊎ (0 < length lats)
     → looked_up_many file lats lons asked n room third ≡ one_by_one file asked n room third (fixes_of lats lons) 0 0 0 (zeros n) (zeros room) (zeros third)
 unfolding fixes_of
-many_is_one_by_one file lats lons asked n room third ok (inl opens) = one_by_one_lem file asked n room third opens.1 lats lons (sym ok)
+many_is_one_by_one file lats lons asked n room third ok (inl opens) = as_one_by_one file asked n room third opens.1 lats lons (sym ok)
 many_is_one_by_one file lats lons asked n room third ok (inr some) = go (head_of file) refl where
   first : (lats lons : List Float) → 0 < length lats → length lats ≡ length lons → (fix : Location) × ((fixes : List Location) × (fixes_of lats lons ≡ fix ∷ fixes))
   first [] lons h same = absurd (omega arith)
@@ -101,5 +101,5 @@ many_is_one_by_one file lats lons asked n room third ok (inr some) = go (head_of
   first (lat ∷ lats) (lon ∷ lons) h same = (record { lat = lat; lon = lon }, (fixes_of lats lons, refl))
 
   go : (r : Reply Head) → r ≡ head_of file → looked_up_many file lats lons asked n room third ≡ one_by_one file asked n room third (fixes_of lats lons) 0 0 0 (zeros n) (zeros room) (zeros third)
-  go (R.given head) is = one_by_one_lem file asked n room third is lats lons (sym ok)
+  go (R.given head) is = as_one_by_one file asked n room third is lats lons (sym ok)
   go (R.refused why) is = let f = first lats lons some (taken (length lats) (length lons) third ok).0 in none_opened file asked n room third lats lons is (sym ok) f.0 f.1.0 f.1.1

@@ -2,7 +2,7 @@
 use Rattle.numbers.proofs.Prelude.{ℕ, ◌-◌, Float, length, Bool, true, false, List, [], ◌∷◌, ◌++◌, ◌≡◌, refl, sym, ap, subst, ◌∙◌, arith}
 use Rattle.numbers.{proofs.{Refusals.{one_of, Listed, still_listed, listed_so}, Replies.{number_of_lem}, Tests.{differ}}, specs.{Reply.{Reply, plain, demand}, declared.refusal.Refusal.{Refusal}}}
 use Rattle.atlas.{proofs.NumberedAtlas.{zones_beside_refusals}, specs.Beside.{matched_beside, zones_beside}}
-use Rattle.zones.{proofs.{GivenHead.{looked_with_lem}, NumberedLookup.{lookup_numbers, lookup_refusals}}, specs.{Lent.{Outcome, Replied, replied_of}, Lookup.{zones_with, looked_with}}}
+use Rattle.zones.{proofs.{GivenHead.{looked_with_given}, NumberedLookup.{lookup_numbers, lookup_refusals}}, specs.{Lent.{Outcome, Replied, replied_of}, Lookup.{zones_with, looked_with}}}
 use Rattle.zones.specs.declared.lookup.Zones.{Zones}
 use Rattle.header.{proofs.Numbered.{header_numbers, head_numbered}, specs.{Header.{head_of}, declared.header.Head.{Head}}}
 use Rattle.index.proofs.NumberedThrough.{through_numbers}
@@ -73,7 +73,7 @@ one_known : (file : List ℕ) (asked : Bool) (head : Head) → head_of file ≡ 
 unfolding looked_with zones_with zones_beside matched_beside replied_of
 one_known file asked head e fix k r why is =
     still_listed lookup_numbers (33 ∷ []) why.number (lookup_refusals file fix asked k r why
-    (ap (λ (x : Replied Zones). x.reply) (sym (looked_with_lem file fix k r (sym e) asked)) ∙ ap (λ (z : Reply (Outcome Zones)). (replied_of k r z).reply) is))
+    (ap (λ (x : Replied Zones). x.reply) (sym (looked_with_given file fix k r (sym e) asked)) ∙ ap (λ (z : Reply (Outcome Zones)). (replied_of k r z).reply) is))
 
 opening_known : (m : ℕ) → Listed header_numbers m → Listed many_numbers m
 opening_known m h = still_listed lookup_numbers (33 ∷ []) m (still_listed header_numbers (15 ∷ 16 ∷ 17 ∷ 18 ∷ []) m h)

@@ -39,10 +39,10 @@ came_back {room} {out} {text} {place} g last same =
 held_at : {room : ℕ} {out out' text : List ℕ} {place place' : ℕ} → out ≡ out' → place ≡ place' → Held room out text place → Held room out' text place'
 held_at {room} {out} {out'} {text} {place} {place'} e f g = record { sized = sym (ap length e) ∙ g.sized ∙ f; fits = omega (arith, g.fits, f); kept = g.kept ∙ ap (padded room) e }
 
-pub answer_words_lem : (xs : List Zones) (zones : Zones) → answer_words (xs ++ zones ∷ []) ≡ answer_words xs ++ answer_words (zones ∷ [])
+pub answer_words_snoc : (xs : List Zones) (zones : Zones) → answer_words (xs ++ zones ∷ []) ≡ answer_words xs ++ answer_words (zones ∷ [])
 unfolding answer_words
-answer_words_lem [] zones = refl
-answer_words_lem (x ∷ xs) zones = ap (λ (ws : List ℕ). x.matches ∷ x.mark ∷ x.safezone ∷ ws) (answer_words_lem xs zones)
+answer_words_snoc [] zones = refl
+answer_words_snoc (x ∷ xs) zones = ap (λ (ws : List ℕ). x.matches ∷ x.mark ∷ x.safezone ∷ ws) (answer_words_snoc xs zones)
 
 pub three_words : (xs : List Zones) → length (answer_words xs) ≡ 3 * length xs
 unfolding answer_words
@@ -70,7 +70,8 @@ pub fix_at : (lats lons : List Float) (i : ℕ) (d d' : Float) → i < length la
     → fixes_of (drop i lats) (drop i lons) ≡ record { lat = get_or lats i d; lon = get_or lons i d' } ∷ fixes_of (drop (i + 1) lats) (drop (i + 1) lons)
 unfolding fixes_of
 fix_at lats lons i d d' h k =
-    (λ j. fixes_of (drop-cons lats i d h j) (drop-cons lons i d' k j)) ∙ ap (λ (m : ℕ). record { lat = get_or lats i d; lon = get_or lons i d' } ∷ fixes_of (drop m lats) (drop m lons)) (sym (add-one i))
+    (λ j. fixes_of (drop-cons lats i d h j) (drop-cons lons i d' k j))
+    ∙ ap (λ (m : ℕ). record { lat = get_or lats i d; lon = get_or lons i d' } ∷ fixes_of (drop m lats) (drop m lons)) (sym (add-one i))
 
 -- ---- what one lookup gave
 -- a lookup through an atlas or none: the reply and both lent buffers
@@ -201,7 +202,7 @@ module _ (file : List ℕ) (head : Head) (words : List ℕ) (asked : Bool) (n ro
             words_held = words_on lh;
             text_held = goes_on g.text_held o.text ts lettered (one.text ∙ ap (λ (m : ℕ). padded m o.text) (sym left_bytes)) lt;
             answers_held =
-                held_at (sym (answer_words_lem g.so.answers o.answer ∙ ap (λ (z : Zones). answer_words g.so.answers ++ answer_words (z ∷ [])) one.answer)) (omega arith)
+                held_at (sym (answer_words_snoc g.so.answers o.answer ∙ ap (λ (z : Zones). answer_words g.so.answers ++ answer_words (z ∷ [])) one.answer)) (omega arith)
                 (written g.answers_held (answer_words (zones ∷ [])) back (three_words (zones ∷ [])) (omega (arith, room-left, g.answers_held.sized)) b);
             so_far = ap (λ (x : Reply (Outcome Zones)). met_at i x >>= λ o. each (fixes_of (drop (i + 1) lats) (drop (i + 1) lons)) (with_one g.so o)) one.is ∙ unrolled;
           }

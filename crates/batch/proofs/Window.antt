@@ -1,10 +1,10 @@
 -- A fix that is answered in the front of lists that are zero is answered alike in the whole of them. Assumes nothing.
-use Rattle.numbers.proofs.Prelude.{ℕ, ◌+◌, ◌-◌, ◌≤◌, length, take, drop, length-append, length-replicate, length-take-le, drop_at, Bool, List, ◌++◌, append_assoc, ◌≡◌, sym, ap, ◌∙◌, arith}
+use Rattle.numbers.proofs.Prelude.{ℕ, ◌+◌, ◌-◌, ◌≤◌, length, take, drop, length-append, length-replicate, length-take-le, Bool, List, ◌++◌, append_assoc, ◌≡◌, sym, ap, ◌∙◌, arith}
 use Rattle.numbers.{proofs.Lists.{zeros_drop}, specs.{Lists.{zeros, padded}, Reply.{Reply}}}
 use lib.ListN.{replicate-append-replicate}
 use Rattle.batch.proofs.{MoreRoom.{more_room}, Stamping.{looked, one_given}}
-use Rattle.header.{proofs.Buffers.{all_zero, tail_lent}, specs.declared.header.Head.{Head}}
-use Rattle.zones.{proofs.Holding.{Held, lent}, specs.{Lent.{Outcome, replied, replied_of}, Lookup.{told_looked}, declared.lookup.{Looked.{Looked}, Zones.{Zones}}}}
+use Rattle.header.{specs.declared.header.Head.{Head}}
+use Rattle.zones.{specs.{Lent.{Outcome, replied, replied_of}, Lookup.{told_looked}, declared.lookup.{Looked.{Looked}, Zones.{Zones}}}}
 use Rattle.table.specs.declared.location.Location.{Location}
 use Rattle.table.specs.Hits as H
 use Rattle.numbers.specs.Reply as R
@@ -12,10 +12,6 @@ use Rattle.zones.specs.declared.lookup.Looked.TheVariants as L
 
 pub front_length : (w : ℕ) (xs : List ℕ) → w ≤ length xs → w ≡ length (take w xs)
 front_length w xs h = sym (length-take-le w xs h)
-
--- what is left of a list that is zero beyond what it holds is zero
-pub left_zero : {room : ℕ} {out text : List ℕ} {at : ℕ} (g : Held room out text at) → lent g ≡ zeros (length (lent g))
-left_zero {room} {out} {text} {at} g = all_zero (lent g) (room - length out) (tail_lent at text ∙ ap (drop at) g.kept ∙ drop_at out (zeros (room - length out)) at g.sized)
 
 -- what is zero beyond s in a front is so in the whole
 wider : (w n : ℕ) (s front rest : List ℕ) → front ≡ padded w s → length front ≡ w → rest ≡ zeros (n - w) → w ≤ n → front ++ rest ≡ padded n s

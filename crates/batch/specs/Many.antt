@@ -1,5 +1,6 @@
 -- Many fixes, as document 02 has them (request Q-8): all are answered as one by one, each in the room that the earlier ones left, and the first refusal stops the call.
-use Rattle.numbers.specs.{Lists.{zeros, padded}, Prelude.{ℕ, ◌-◌, ◌*◌, eqb, leb, Float, length, Bool, ◌&&◌, List, [], ◌∷◌, ◌++◌}, Reply.{Reply, plain, demand}, declared.refusal.Refusal.{Refusal}}
+use Rattle.std.specs.Prelude.{◌-◌, ◌*◌, ◌&&◌, ◌∷◌, ◌++◌}
+use Rattle.numbers.specs.{Lists.{zeros, padded}, Prelude.{ℕ, eqb, leb, Float, length, Bool, List, []}, Reply.{Reply, plain, demand}, declared.refusal.Refusal.{Refusal}}
 use Rattle.header.specs.Header.{head_of}
 use Rattle.table.specs.{Hits.{words}, declared.{hits.Hit.{Hit}, location.Location.{Location}}}
 use Rattle.atlas.specs.Beside.{zones_beside}

@@ -1,5 +1,6 @@
 -- The same fixes looked up one by one with plain `lookup`, which opens the file each time, by someone who lends each call what the earlier ones left of the lists.
-use Rattle.numbers.specs.{Lists.{zeros, over}, Prelude.{ℕ, ◌+◌, ◌-◌, ◌*◌, take, drop, Bool, List, [], ◌∷◌, ◌++◌}, Reply.{Reply}}
+use Rattle.std.specs.Prelude.{◌+◌, ◌-◌, ◌*◌, ◌∷◌, ◌++◌}
+use Rattle.numbers.specs.{Lists.{zeros, over}, Prelude.{ℕ, take, drop, Bool, List, []}, Reply.{Reply}}
 use Rattle.table.specs.{Hits.{width}, declared.location.Location.{Location}}
 use Rattle.zones.specs.{Lookup.{looked_up}, declared.lookup.Zones.{Zones}}
 use Rattle.batch.specs.Many.{given, refused, answer_words, Left, left}

@@ -1,6 +1,5 @@
 // Many fixes: matches and texts one after the other in the lent lists, and of each fix its match count, end mark and safezone bits in a third.
-ghost use mathlib.Core.{Path.{◌≡◌}, Bool.{true}, List.{[], ◌∷◌}};
-ghost use Rattle.std.specs.Prelude.{◌*◌, ◌^◌, ◌≤◌, ◌<◌, min, length};
+ghost use Rattle.std.specs.Prelude.{◌*◌, ◌^◌, ◌≤◌, ◌<◌, min, length, ◌≡◌, true, [], ◌∷◌};
 ghost use Rattle.numbers.specs.Lists.{zeros, over};
 ghost use Rattle.atlas.specs.Beside.{zones_beside};
 ghost use Rattle.zones.specs.{Lent.{replied, replied_of}, Lookup.{told_looked}};
@@ -23,7 +22,7 @@ pub const MOST_FIXES: usize = 4096;
 pub const ANSWER_WORDS: usize = 3;
 
 // How many fixes, how many matches in all, and how much of the text is used.
-#[derive(Drop)]
+#[derive(Clone, Copy)]
 pub struct Totals {
     pub fixes: usize,
     pub matches: usize,
@@ -31,13 +30,13 @@ pub struct Totals {
 }
 
 // The first refusal, and the index of the fix that met it.
-#[derive(Drop)]
+#[derive(Clone, Copy)]
 pub struct Stop {
     pub index: usize,
     pub why: Refusal,
 }
 
-#[derive(Drop)]
+#[derive(Clone, Copy)]
 pub enum Many {
     Totals(Totals),
     Refused(Stop),
