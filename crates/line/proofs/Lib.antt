@@ -3,3 +3,4 @@ pub mod Puts
 pub mod Decimals
 pub mod Shown
 pub mod Signs
+pub mod Filled

@@ -1,5 +1,6 @@
 -- Numbers in bytes, low byte first.
-use Rattle.numbers.specs.Prelude.{ℕ, ◌+◌, ◌*◌, get_or, List}
+use Rattle.std.specs.Prelude.{◌+◌, ◌*◌}
+use Rattle.numbers.specs.Prelude.{ℕ, get_or, List}
 
 -- four bytes, low byte first
 abbrev pub word_at : List ℕ → ℕ → ℕ

@@ -1,5 +1,6 @@
 -- What a clock shows, and texts, as they are printed.
-use Rattle.numbers.specs.{Answer.{if◌then◌else◌}, Prelude.{ℕ, suc, ◌*◌, ◌/◌, ◌%◌, eqb, ltb, ℤ, pos, negsuc, take, drop, ◌&&◌, List, [], ◌∷◌, ◌++◌}}
+use Rattle.std.specs.Prelude.{if◌then◌else◌, ◌*◌, ◌/◌, ◌%◌, ◌&&◌, ◌∷◌, ◌++◌}
+use Rattle.numbers.specs.Prelude.{ℕ, suc, eqb, ltb, ℤ, pos, negsuc, take, drop, List, []}
 use Rattle.calendar.specs.declared.civil.Reading.{Reading}
 use Rattle.line.specs.Put.{decimal, two_digits}
 

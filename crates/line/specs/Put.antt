@@ -1,6 +1,6 @@
 -- Bytes that stand in a lent buffer, and numbers as they are printed.
-use Rattle.numbers.specs.Prelude.{ℕ, zero, suc, ◌+◌, ◌-◌, ◌/◌, ◌%◌, ◌^◌, min, ltb, length, sets, cond, List, [], ◌∷◌, ◌++◌, ◌≡◌}
-use Rattle.std.specs.Prelude.{max}
+use Rattle.numbers.specs.Prelude.{ℕ, zero, suc, min, ltb, length, sets, cond, List, []}
+use Rattle.std.specs.Prelude.{max, ◌+◌, ◌-◌, ◌/◌, ◌%◌, ◌^◌, ◌∷◌, ◌++◌, ◌≡◌}
 
 -- the largest place; no buffer is longer
 abbrev pub far : ℕ

@@ -1,0 +1,11 @@
+// Bytes and numbers on standard output. That one could not be written is not told: the next one fails too.
+use std::io::Stdout;
+
+pub fn say(out: Stdout, bytes: &[u8]) {
+    let _ = out.write_all(bytes);
+}
+
+// The number's decimal digits.
+pub fn say_number(out: Stdout, n: u64) {
+    let _ = out.print(n);
+}
