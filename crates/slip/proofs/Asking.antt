@@ -21,45 +21,45 @@ behind_one done hour (given hours) = ap given (sym (append_assoc done (hour ∷ 
 behind_one done hour (refused why) = refl
 
 module _ (map : List ℕ) (head : Head) (zones : List ℕ) (instant : ℤ) where
-  abbrev hour_of_lem : ℕ → Hit → Reply Hour
-  hour_of_lem = hour_of map head zones instant
+  abbrev hour_there : ℕ → Hit → Reply Hour
+  hour_there = hour_of map head zones instant
 
-  abbrev hours_from_lem : ℕ → List Hit → Reply (List Hour)
-  hours_from_lem = hours_from map head zones instant
+  abbrev hours_there : ℕ → List Hit → Reply (List Hour)
+  hours_there = hours_from map head zones instant
 
   -- the first i matches said these hours, and what is left of the matches gives the rest
   pub record Asked (matches : List Hit) (i : ℕ) (done : List Hour) : Type 0 where
-    pub whole : behind done (hours_from_lem (i + 1) (drop i matches)) ≡ hours_from_lem 1 matches
+    pub whole : behind done (hours_there (i + 1) (drop i matches)) ≡ hours_there 1 matches
     pub many : length done ≡ i
 
   pub asked_none : (matches : List Hit) → Asked matches 0 []
-  asked_none matches = record { whole = behind_none (hours_from_lem 1 matches); many = refl }
+  asked_none matches = record { whole = behind_none (hours_there 1 matches); many = refl }
 
   module _ (matches : List Hit) (i : ℕ) (done : List Hour) (so_far : Asked matches i done) where
     module _ (more : i < length matches) {hit : Hit} (is : hit ≡ get_or matches i no_hit) where
-      opened : hours_from_lem (i + 1) (drop i matches) ≡ (hour_of_lem (i + 1) hit >>= λ hour. hours_from_lem (i + 1 + 1) (drop (i + 1) matches) >>= λ hours. given (hour ∷ hours))
+      opened : hours_there (i + 1) (drop i matches) ≡ (hour_there (i + 1) hit >>= λ hour. hours_there (i + 1 + 1) (drop (i + 1) matches) >>= λ hours. given (hour ∷ hours))
       unfolding hours_from
       opened = let cons : drop i matches ≡ hit ∷ drop (i + 1) matches = drop-cons matches i no_hit more ∙ (λ j. sym is j ∷ drop (sym (add-one i) j) matches) in
-          ap (hours_from_lem (i + 1)) cons
+          ap (hours_there (i + 1)) cons
 
-      pub asked_one : {hour : Hour} → hour_of_lem (i + 1) hit ≡ given hour → Asked matches (i + 1) (done ++ (hour ∷ []))
+      pub asked_one : {hour : Hour} → hour_there (i + 1) hit ≡ given hour → Asked matches (i + 1) (done ++ (hour ∷ []))
       asked_one {hour} e = record {
         whole =
-            sym (behind_one done hour (hours_from_lem (i + 1 + 1) (drop (i + 1) matches)))
-            ∙ ap (λ (h : Reply Hour). behind done (h >>= λ hour. hours_from_lem (i + 1 + 1) (drop (i + 1) matches) >>= λ hours. given (hour ∷ hours))) (sym e)
+            sym (behind_one done hour (hours_there (i + 1 + 1) (drop (i + 1) matches)))
+            ∙ ap (λ (h : Reply Hour). behind done (h >>= λ hour. hours_there (i + 1 + 1) (drop (i + 1) matches) >>= λ hours. given (hour ∷ hours))) (sym e)
             ∙ ap (behind done) (sym opened)
             ∙ so_far.whole;
         many = length-append done (hour ∷ []) ∙ omega (arith, so_far.many);
       }
 
-      pub asked_stop : {why : Refusal} → hour_of_lem (i + 1) hit ≡ refused why → refused why ≡ hours_from_lem 1 matches
+      pub asked_stop : {why : Refusal} → hour_there (i + 1) hit ≡ refused why → refused why ≡ hours_there 1 matches
       asked_stop {why} e =
-          ap (λ (h : Reply Hour). behind done (h >>= λ hour. hours_from_lem (i + 1 + 1) (drop (i + 1) matches) >>= λ hours. given (hour ∷ hours))) (sym e) ∙ ap (behind done) (sym opened) ∙ so_far.whole
+          ap (λ (h : Reply Hour). behind done (h >>= λ hour. hours_there (i + 1 + 1) (drop (i + 1) matches) >>= λ hours. given (hour ∷ hours))) (sym e) ∙ ap (behind done) (sym opened) ∙ so_far.whole
 
-    pub asked_all : length matches ≤ i → given done ≡ hours_from_lem 1 matches
+    pub asked_all : length matches ≤ i → given done ≡ hours_there 1 matches
     unfolding hours_from
     asked_all h = let none : drop i matches ≡ [] = drop_of_length-le matches {i = i} h in
-        ap given (sym (append-nil done)) ∙ ap (λ (rest : List Hit). behind done (hours_from_lem (i + 1) rest)) (sym none) ∙ so_far.whole
+        ap given (sym (append-nil done)) ∙ ap (λ (rest : List Hit). behind done (hours_there (i + 1) rest)) (sym none) ∙ so_far.whole
 
 -- ---- offsets
 -- one more is held against the first

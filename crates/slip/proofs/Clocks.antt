@@ -33,9 +33,9 @@ value_next : (xs : List ℕ) (n : ℕ) → value_of (xs ++ (digit n ∷ [])) ≡
 unfolding value_from
 value_next xs n = value_append 0 xs (digit n ∷ []) ∙ ap (λ (d : ℕ). 10 * value_of xs + d) (digit_counts n)
 
-two_digits_lem : (n : ℕ) → digits (two_digits n) ≡ true
+two_are_digits : (n : ℕ) → digits (two_digits n) ≡ true
 unfolding every
-two_digits_lem n = rw (digit_is (n / 10), digit_is n) refl
+two_are_digits n = rw (digit_is (n / 10), digit_is n) refl
 
 two_value : (n : ℕ) → n < 100 → value_of (two_digits n) ≡ n
 unfolding value_from
@@ -94,7 +94,7 @@ hours_back hours h = go (ltb hours 100) refl where
 
   go : (t : Bool) → ltb hours 100 ≡ t → Hours hours
   go true e = record {
-    spelt = ap (λ (t : Bool). digits (text t)) e ∙ two_digits_lem hours;
+    spelt = ap (λ (t : Bool). digits (text t)) e ∙ two_are_digits hours;
     two = subst (λ (t : Bool). 2 ≤ length (text t)) (sym e) (omega arith);
     count = ap (λ (t : Bool). value_of (text t)) e ∙ two_value hours (ltb-true hours 100 e);
   }
@@ -199,13 +199,13 @@ seconds_word seconds rest = go (eqb seconds 0) where
 
   go : (t : Bool) → until 32 9 (text t ++ (32 ∷ rest)) ≡ text t
   go true = refl
-  go false = ap (λ (l : List ℕ). 58 ∷ l) (until_digits 32 9 (two_digits seconds) (32 ∷ rest) refl refl (two_digits_lem seconds))
+  go false = ap (λ (l : List ℕ). 58 ∷ l) (until_digits 32 9 (two_digits seconds) (32 ∷ rest) refl refl (two_are_digits seconds))
 
 span_word : (n : ℕ) (rest : List ℕ) → n < 10 ^ 20 → until 32 9 (span_text n ++ (32 ∷ rest)) ≡ span_text n
 unfolding span_text until
 span_word n rest h = let H = hours_text (n / 3600) in let M = two_digits (n / 60 % 60) in let S = seconds_text (n % 60) in
     ap (until 32 9) (append_assoc H (58 ∷ (M ++ S)) (32 ∷ rest)) ∙ until_digits 32 9 H (58 ∷ (M ++ (S ++ (32 ∷ rest)))) refl refl (hours_back (n / 3600) (omega (arith, h))).spelt
-    ∙ ap (λ (l : List ℕ). H ++ (58 ∷ l)) (until_digits 32 9 M (S ++ (32 ∷ rest)) refl refl (two_digits_lem (n / 60 % 60)) ∙ ap (λ (l : List ℕ). M ++ l) (seconds_word (n % 60) rest))
+    ∙ ap (λ (l : List ℕ). H ++ (58 ∷ l)) (until_digits 32 9 M (S ++ (32 ∷ rest)) refl refl (two_are_digits (n / 60 % 60)) ∙ ap (λ (l : List ℕ). M ++ l) (seconds_word (n % 60) rest))
 
 offset_word : (z : ℤ) (rest : List ℕ) → mag z < 2 ^ 31 → word (offset_text z ++ (32 ∷ rest)) ≡ offset_text z
 unfolding offset_text until
@@ -284,10 +284,10 @@ module _ (a b c : ℕ) (reading : Reading) (behind : List ℕ) where
   }
 
 -- a line that begins with what a clock shows, and a blank behind it, says that
-pub read_back_lem : (reading : Reading) (offset : ℤ) (rest : List ℕ) → Fitting reading → mag offset < 2 ^ 31
+pub reads_back : (reading : Reading) (offset : ℤ) (rest : List ℕ) → Fitting reading → mag offset < 2 ^ 31
     → read_back (clock_text reading offset ++ (32 ∷ rest)) ≡ found (record { reading = reading; offset = offset })
 unfolding read_back clock_text date_text time_text
-read_back_lem reading offset rest f h = let l = letters reading.weekday f.weekday in
+reads_back reading offset rest f h = let l = letters reading.weekday f.weekday in
     let line = begins l.a l.b l.c reading (offset_text offset ++ (32 ∷ rest)) in
     let says : ℕ → ℤ → Printed = λ w o. record { reading = reading_in w line; offset = o } in
     ap read_back (shape l.are) ∙ ap (λ (x : Answer ℕ). x >>= λ w. offset_in (word (drop 24 line)) >>= λ o. if formed clock_form (take 21 (drop 3 line)) then

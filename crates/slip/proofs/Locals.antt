@@ -1,11 +1,11 @@
 -- What a match says, by how far the code came: its file, the local time in it, the clock. Assumes nothing.
 use Rattle.numbers.proofs.Prelude.{ℕ, ◌+◌, ◌≤◌, eq-eqb, ne_eqb, ℤ, length, List, ◌≡◌, refl, sym, ap, subst, ◌∙◌, arith}
-use Rattle.numbers.{proofs.Replies.{carried, onward}, specs.{Reply.{Reply, given, refused, refusal, plain, ◌>>=◌}, declared.refusal.Refusal.{Refusal}}}
+use Rattle.numbers.{proofs.Replies.{carried, onward}, specs.{Reply.{given, refused, refusal, plain, ◌>>=◌}, declared.refusal.Refusal.{Refusal}}}
 use Rattle.bundle.{proofs.Theorems.{found_inside}, specs.{Bundle.{find_of}, declared.find.File.{File}}}
 use Rattle.calendar.{proofs.CivilAt.{is_civil_at}, specs.{Civil.{civil_at, CivilOf}, declared.civil.{Civil.{Civil}, Reading.{Reading}}}}
 use Rattle.header.specs.declared.header.Head.{Head}
 use Rattle.localtime.specs.{Local.{answer_at, scale_at, told_said, HeldSaid}, declared.local.Said.{Said}}
-use Rattle.slip.specs.{Hour.{Hour, name_of, plainly, known, local_in, shown, hour_in, blamed, of_match, hour_of}, Told.{name_in, hour_at, told_local, HeldTold, told_clock, told_hour, StandsHour}}
+use Rattle.slip.specs.{Hour.{name_of, plainly, known, local_in, shown, hour_in, blamed, of_match, hour_of}, Told.{name_in, hour_at, told_local, HeldTold, told_clock, told_hour, StandsHour}}
 use Rattle.slip.specs.declared.hour.{Hourly.{Hourly}, Spot.{Spot}, Told.{Told}}
 use Rattle.table.specs.declared.hits.Hit.{Hit}
 use Rattle.tzif.specs.{Header.{rfc9636}, Text.{slice}, declared.local.Found.{Found}}

@@ -4,7 +4,7 @@ use Rattle.numbers.proofs.{Replies.{given_from, given_one, demanded}, Tests.{bot
 use Rattle.numbers.specs.{Answer.{if◌then◌else◌}, Lists.{padded}, Reply.{Reply, given, refused, refusal, plain, demand, ◌>>=◌, ◌>>◌}}
 use Rattle.atlas.specs.Beside.{zones_beside}
 use Rattle.bundle.{proofs.Theorems.{found_first, entry_bytes}, specs.{Bundle.{find_of}, declared.find.File.{File}}}
-use Rattle.calendar.{proofs.CivilAt.{civil_at_lem}, specs.{Civil.{civil_at, Shows, CivilOf}, declared.civil.{Civil.{Civil}, Reading.{Reading}}}}
+use Rattle.calendar.{proofs.CivilAt.{civil_at_is}, specs.{Civil.{civil_at, Shows, CivilOf}, declared.civil.{Civil.{Civil}, Reading.{Reading}}}}
 use Rattle.header.specs.{Header.{head_of}, declared.header.Head.{Head}}
 use Rattle.line.specs.Put.{far}
 use Rattle.localtime.{proofs.Offsets.{offset_fits}, specs.{Local.{rules_in, answer_by, answer_at, scale_in, scale_or, scale_by, scale_at}, declared.{rule.Rules.{Rules}, scale.Scale.{Scale}}}}
@@ -175,7 +175,7 @@ hourly map head zones instant number match {hour} e = let name = given_from (nam
       shows =
           subst (λ (r : Reading). Shows (instant +ℤ hour.offset) r) (sym (ap (λ (h : Hour). h.reading) is))
           (subst (λ (z : ℤ). Shows (instant +ℤ z) reading.it) (sym offset)
-          (was_shown instant found.it.offset (civil_at instant found.it.offset) (civil_at_lem instant found.it.offset) reading.is));
+          (was_shown instant found.it.offset (civil_at instant found.it.offset) (civil_at_is instant found.it.offset) reading.is));
       fits = subst (λ (z : ℤ). SFits w32 z) (sym offset) (local_fits _ instant found.is);
       short = subst (λ (l : List ℕ). length l ≤ 40) (sym (ap (λ (h : Hour). h.name) is)) (name_fits zones name.it file.is);
     }

@@ -106,13 +106,13 @@ module _ (fix : Fix) (map : List ℕ) (head : Head) (atlas zones : List ℕ) (n 
       whole ink e = ap (λ (x : Reply Ink). x >>= slip_from l.outcome) e ∙ joined (hours_from map head zones fix.instant 1 l.outcome.matches) ∙ goes _ ∙ onward l.is _ where
         last : (hour : Hour) (hours : List Hour) (line : Reply (List ℕ)) → (line >>= ink_from hour hours >>= slip_from l.outcome) ≡ (line >>= λ line. slip_from l.outcome
             (ink_with hour hours line))
-        last hour hours (given line) = refl
-        last hour hours (refused why) = refl
+        last h hs (given line) = refl
+        last h hs (refused why) = refl
 
         middle : (hours : List Hour) (hour : Reply Hour) → ((hour >>= λ hour. fitted size (line_of hour hours) >>= ink_from hour hours) >>= slip_from l.outcome) ≡
             (hour >>= λ hour. fitted size (line_of hour hours) >>= λ line. slip_from l.outcome (ink_with hour hours line))
-        middle hours (given hour) = last hour hours (fitted size (line_of hour hours))
-        middle hours (refused why) = refl
+        middle hs (given h) = last h hs (fitted size (line_of h hs))
+        middle hs (refused why) = refl
 
         joined : (hours : Reply (List Hour)) → ((hours >>= λ hours. agreed hours >>= λ hour. fitted size (line_of hour hours) >>= ink_from hour hours) >>= slip_from l.outcome)
             ≡ (hours >>= λ hours. agreed hours >>= λ hour. fitted size (line_of hour hours) >>= λ line. slip_from l.outcome (ink_with hour hours line))

@@ -6,7 +6,7 @@ use Rattle.atlas.{proofs.{AtlasIsPlain.{alike_from}, BesideIsPlain.{zones_beside
 use Rattle.calendar.{proofs.{Laws.{weekday_closed}, Months.{month_short}}, specs.{Calendar.{is_leap, day_number}, Civil.{Shows}, declared.civil.Reading.{Reading}}}
 use Rattle.header.specs.Header.{head_of}
 use Rattle.request.specs.{Request.{request_of}, declared.read.Fix.{Fix}}
-use Rattle.slip.proofs.{Clocks.{Fitting, read_back_lem}, Making.{after_lookup, made, behind, meant, each_says, hours_long, first, first_hourly}}
+use Rattle.slip.proofs.{Clocks.{Fitting, reads_back}, Making.{after_lookup, made, behind, meant, each_says, hours_long, first, first_hourly}}
 use Rattle.slip.proofs.Numbered.{slip_at_told, slip_at_beside_told, slip_told, slip_beside_told}
 use Rattle.slip.proofs.Shortness.{Named, names_short, clock_short, zones_all}
 use Rattle.slip.specs.{Hour.{Hour}, Line.{clock_text, is_among, between, zone_text, added, zones_from, line_of}, ReadBack.{read_back}}
@@ -48,7 +48,8 @@ slip_at_beside : (fix : Fix) (map atlas zones : List ℕ) → NoneOrAtlas map at
 unfolding slip_at
 slip_at_beside fix map atlas zones so n room size =
     ap (λ (slip : Reply Slip). demand (on_globe fix) (plain 84) >> slip) (alike_from (head_of map) (λ head opened. ap (λ (looked : Reply (L.Outcome Zones)). looked
-    >>= after_lookup fix map head zones size) (zones_beside_is_plain map atlas so opened (place_of fix) false n room ∙ sym (zones_beside_is_plain map [] (inl refl) opened (place_of fix) false n room))))
+    >>= after_lookup fix map head zones size) (zones_beside_is_plain map atlas so opened (place_of fix) false n room
+    ∙ sym (zones_beside_is_plain map [] (inl refl) opened (place_of fix) false n room))))
 
 -- Where `is_atlas` says 0 of map and atlas, whoever wrote it, the slip through it is the slip without: what is stamped, the line, refusals and all lent output.
 pub slip_at_atlas_is_plain : (fix : Fix) (map atlas zones : List ℕ) → is_atlas_of map atlas ≡ given tt → (n room size : ℕ)
@@ -149,7 +150,7 @@ shown_fits : {local : ℤ} {reading : Reading} → Shows local reading → Fitti
 shown_fits {reading = reading} s = let months = s.date.months in record {
   year = s.date.range.to;
   month = omega (arith, months.month_to);
-  day = omega (arith, months.day_to, month_short (is_leap reading.year) reading.month months.month_from_lem months.month_to);
+  day = omega (arith, months.day_to, month_short (is_leap reading.year) reading.month months.month_from months.month_to);
   hour = omega (arith, s.hour);
   minute = omega (arith, s.minute);
   second = omega (arith, s.second);
@@ -177,7 +178,7 @@ slip_at_clock fix map atlas zones n room size stamped hs ts os e = let b = behin
       back =
           ap read_back (ap (take stamped.length) a.out ∙ take_at a.line (zeros (size - length a.line)) stamped.length (sym a.long) ∙ says.printed
           ∙ ap (λ (t : List ℕ). clock_text says.reading stamped.offset ++ t) rest.1)
-          ∙ read_back_lem says.reading stamped.offset rest.0 (shown_fits says.shows) (subst (λ (z : ℤ). mag z < 2 ^ 31) same f.1.fits.sfits);
+          ∙ reads_back says.reading stamped.offset rest.0 (shown_fits says.shows) (subst (λ (z : ℤ). mag z < 2 ^ 31) same f.1.fits.sfits);
     }
 
 pub slip_clock : (request map atlas zones : List ℕ) (n room size : ℕ) (stamped : Stamped) (hs ts os : List ℕ) → replied (given stamped) hs ts os ≡ slipped request map atlas zones n room size

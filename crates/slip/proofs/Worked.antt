@@ -19,13 +19,16 @@ use Rattle.slip.specs.{Line.{clock_text, is_among, between, zone_text, added, zo
 use Rattle.slip.specs.Slip.{Slip, place_of, within, on_globe, have_offset, agreed, fitted, slip_at, replied, replied_of, slipped_at, slipped}
 use Rattle.table.specs.{Find.{fix_of, matched_with}, Hits.{words, hit_of}, Merge.{summary, seen, merged_after, merged}, Rest.{rest_mark}, Rows.{rows_then, row_by, rows_within, rows_from, rows_in}}
 use Rattle.table.specs.{Search.{judged_turn, row_turn, seek, searched}, Table.{steps_by, entry_by}, declared.hits.Hit.{Hit}}
-use Rattle.tzif.specs.Check.{occurs_later, correction_before, correction_at, correction_of, one_apart, is_expiry, nul_end, check_time, check_index, check_type, check_leap, check_leaps, check_standard, is_standard}
+use Rattle.tzif.specs.Check.{occurs_later, correction_before, correction_at, correction_of, one_apart, is_expiry, nul_end, check_time, check_index, check_type, check_leap, check_leaps}
+use Rattle.tzif.specs.Check.{check_standard, is_standard}
 use Rattle.tzif.specs.{Check.{check_ut}, Header.{begins, is_version, is_fourth, version_fits, check_header, block_at, none_or_all, check_counts, check_block, read_block}}
-use Rattle.tzif.specs.{Local.{type_in, type_behind, is_after_last, by_table}, Number.{octets, be32, raised, time_at, lift}, Part.{count_of, check_of, check_part}, Text.{first_with, is_stop, run_to, slice}}
+use Rattle.tzif.specs.{Local.{type_in, type_behind, is_after_last, by_table}, Number.{octets, be32, raised, time_at, lift}, Part.{count_of, check_of, check_part}}
+use Rattle.tzif.specs.Text.{first_with, is_stop, run_to, slice}
 use Rattle.tzif.specs.{Times.{time_in, last_with, last_not_after}, Zone.{read_short, read_zone_by}, declared.local.Found.{Found}}
 use Rattle.verdict.specs.{Distance.{measured}, Edge.{same_point, in_box, quadrant_of, slope_of, edge_of, straight, closest_on}, Verdict.{along, passing, closed_at, then_on, judge, judged_at}}
 use Rattle.verdict.specs.Winding.{turned, quarter_by, half_turn, turn_at, crossing_of, across_by, clear_of, wound_by}
-use Rattle.zones.{proofs.WorkedEnding.{printed, in_the_zone}, specs.{Fields.{fields_from, fields_of}, Lent.{Outcome}, Lookup.{safezone_bits}, Simple.{same, picked_from}, declared.lookup.Zones.{Zones}}}
+use Rattle.zones.proofs.WorkedEnding.{printed, in_the_zone}
+use Rattle.zones.specs.{Fields.{fields_from, fields_of}, Lent.{Outcome}, Lookup.{safezone_bits}, Simple.{same, picked_from}, declared.lookup.Zones.{Zones}}
 use Rattle.bundle.specs.Bundle as B
 use Rattle.calendar.specs.declared.civil.Civil.TheVariants as C
 use Rattle.header.specs.Text as H
@@ -147,7 +150,7 @@ shown_at : (offset : ℤ) (hour minute second : ℕ) → hour ≤ 23 → minute 
 unfolding CivilOf month_length is_leap
 shown_at offset hour minute second h m s e =
     record {
-      date = record { range = record { from = omega arith; to = omega arith }; months = record { month_from_lem = omega arith; month_to = omega arith; day_from = omega arith; day_to = omega arith } };
+      date = record { range = record { from = omega arith; to = omega arith }; months = record { month_from = omega arith; month_to = omega arith; day_from = omega arith; day_to = omega arith } };
       hour = h;
       minute = m;
       second = s;
@@ -374,8 +377,8 @@ both_hours =
     ∙ ap (λ (s : Reply Hour). hour_of pair pair_head two (pos 1782907199) 1 (hit_of 0 0 1 44) >>= λ hour. s >>= λ second. given (hour ∷ second ∷ [])) (ap (of_match 2) second_in ∙ onward second_name _)
     ∙ joined (hour_of pair pair_head two (pos 1782907199) 1 (hit_of 0 0 1 44)) (hour_of pair pair_head two (pos 1782907199) 2 (hit_of 1 17 1 50)) where
       joined : (a b : Reply Hour) → (a >>= λ hour. b >>= λ second. given (hour ∷ second ∷ [])) ≡ (a >>= λ hour. (b >>= λ second. given (second ∷ [])) >>= λ hours. given (hour ∷ hours))
-      joined (given hour) (given second) = refl
-      joined (given hour) (refused why) = refl
+      joined (given h) (given second) = refl
+      joined (given h) (refused why) = refl
       joined (refused why) b = refl
 
 -- their offsets differ: 92

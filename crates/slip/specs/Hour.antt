@@ -1,5 +1,6 @@
 -- S-3, step 6: what a match says of the instant. Its zone's name, the local time by that zone's file, and what a clock shows there.
-use Rattle.numbers.specs.Prelude.{ℕ, ◌+◌, min, eqb, ℤ, not, List, [], ◌∷◌, Option, some, none}
+use Rattle.std.specs.Prelude.{◌+◌, ◌∷◌}
+use Rattle.numbers.specs.Prelude.{ℕ, min, eqb, ℤ, not, List, [], Option, some, none}
 use Rattle.numbers.specs.{Reply.{Reply, given, refused, refusal, plain, demand, ◌>>=◌, ◌>>◌}, declared.refusal.Refusal.{Refusal}}
 use Rattle.bundle.specs.Bundle.{find_of}
 use Rattle.calendar.specs.{Civil.{civil_at}, declared.civil.{Civil.{Civil}, Reading.{Reading}}}

@@ -1,5 +1,6 @@
 -- The printed line: "Wed 2026-07-01 13:59:59 +02:00 CEST Europe/Berlin".
-use Rattle.numbers.specs.{Answer.{if◌then◌else◌}, Prelude.{ℕ, zero, suc, ℤ, length, Bool, false, ◌||◌, List, [], ◌∷◌, ◌++◌, map}}
+use Rattle.std.specs.Prelude.{if◌then◌else◌, ◌||◌, ◌∷◌, ◌++◌}
+use Rattle.numbers.specs.Prelude.{ℕ, zero, suc, ℤ, length, Bool, false, List, [], map}
 use Rattle.calendar.specs.declared.civil.Reading.{Reading}
 use Rattle.line.specs.Clock.{weekday_text, date_text, time_text, offset_text, shown}
 use Rattle.slip.specs.Hour.{Hour}

@@ -1,5 +1,6 @@
 -- A printed line read back as numbers: weekday, date, time and offset, from their letters and digits. Digits count as a request's do.
-use Rattle.numbers.specs.{Answer.{Answer, found, failed, if◌then◌else◌, ◌>>=◌}, Prelude.{ℕ, zero, suc, ◌+◌, ◌*◌, leb, ℤ, length, take, drop, get_or, Bool, ◌&&◌, ◌||◌, List, [], ◌∷◌}}
+use Rattle.std.specs.Prelude.{if◌then◌else◌, ◌+◌, ◌*◌, ◌&&◌, ◌||◌, ◌∷◌}
+use Rattle.numbers.specs.{Answer.{Answer, found, failed, ◌>>=◌}, Prelude.{ℕ, zero, suc, leb, ℤ, length, take, drop, get_or, Bool, List, []}}
 use Rattle.calendar.specs.declared.civil.Reading.{Reading}
 use Rattle.line.specs.Clock.{weekday_text}
 use Rattle.request.specs.{Clock.{signed_of}, Number.{value_of, part_of, is_sign, is_minus}, Text.{digits, formed, until, word}}

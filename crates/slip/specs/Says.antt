@@ -1,5 +1,6 @@
 -- What a stamped slip says of its search and of its matches: the words of its theorems.
-use Rattle.numbers.specs.{Answer.{found, if◌then◌else◌}, Lists.{padded}, Prelude.{ℕ, ◌+◌, ◌≤◌, ◌<◌, leb, ℤ, ◌+ℤ◌, length, take, Bool, false, ◌&&◌, ◌||◌, List, [], ◌∷◌, ◌++◌, ◌≡◌}, Reply.{given}}
+use Rattle.std.specs.Prelude.{if◌then◌else◌, ◌+◌, ◌≤◌, ◌<◌, ◌+ℤ◌, ◌&&◌, ◌||◌, ◌∷◌, ◌++◌, ◌≡◌}
+use Rattle.numbers.specs.{Answer.{found}, Lists.{padded}, Prelude.{ℕ, leb, ℤ, length, take, Bool, false, List, []}, Reply.{given}}
 use Rattle.bundle.specs.{Bundle.{find_of}, declared.find.File.{File}}
 use Rattle.calendar.specs.{Civil.{Shows}, declared.civil.Reading.{Reading}}
 use Rattle.header.specs.{Header.{head_of}, declared.header.Head.{Head}}

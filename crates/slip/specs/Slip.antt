@@ -1,5 +1,6 @@
 -- S-3, the slip, in its order.
-use Rattle.numbers.specs.Prelude.{ℕ, min, eqb, leb, Float, ℤ, length, Bool, true, false, ◌&&◌, List, [], ◌∷◌}
+use Rattle.std.specs.Prelude.{◌&&◌, ◌∷◌}
+use Rattle.numbers.specs.Prelude.{ℕ, min, eqb, leb, Float, ℤ, length, Bool, true, false, List, []}
 use Rattle.numbers.specs.{Lists.{zeros, padded}, Reply.{Reply, given, refused, refusal, plain, demand, ◌>>=◌, ◌>>◌}}
 use Rattle.std.specs.Float.Ieee.{le, neg}
 use Rattle.atlas.specs.Beside.{zones_beside}

@@ -1,6 +1,7 @@
 -- What the code's answers say: names, abbreviations and lines by where they stand in what was lent.
-use Rattle.numbers.specs.Prelude.{ℕ, ◌+◌, ◌≤◌, eqb, ℤ, length, Bool, false, ◌||◌, List, [], ◌∷◌, ◌++◌, ◌≡◌}
-use Rattle.numbers.specs.{Answer.{if◌then◌else◌}, Lists.{padded}, Reply.{Reply, given, refused, refusal, demand, ◌>>=◌, ◌>>◌}}
+use Rattle.std.specs.Prelude.{◌+◌, ◌≤◌, ◌||◌, ◌∷◌, ◌++◌, ◌≡◌, if◌then◌else◌}
+use Rattle.numbers.specs.Prelude.{ℕ, eqb, ℤ, length, Bool, false, List, []}
+use Rattle.numbers.specs.{Lists.{padded}, Reply.{Reply, given, refused, refusal, demand, ◌>>=◌, ◌>>◌}}
 use Rattle.atlas.specs.Beside.{zones_beside}
 use Rattle.header.specs.{Text.{bytes_of}, declared.header.Head.{Head}}
 use Rattle.calendar.specs.declared.civil.Reading.{Reading}

@@ -17,7 +17,7 @@ use tzif::local::Found;
 use zones::simple::Parts;
 
 // The zone's name in the map, its abbreviation in the bundle, its offset, and what a clock shows.
-#[derive(Drop)]
+#[derive(Clone, Copy)]
 pub struct Spot {
     pub name: Parts,
     pub place: usize,
@@ -26,19 +26,19 @@ pub struct Spot {
     pub reading: Reading,
 }
 
-#[derive(Drop)]
+#[derive(Clone, Copy)]
 pub enum Hourly {
     Hour(Spot),
     Refused(Refusal),
 }
 
-#[derive(Drop)]
+#[derive(Clone, Copy)]
 pub enum Told {
     Found(Found),
     Refused(Refusal),
 }
 
-#[derive(Drop)]
+#[derive(Clone, Copy)]
 pub enum Clock {
     Shown(Reading),
     Refused(Refusal),

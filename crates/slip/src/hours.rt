@@ -1,6 +1,5 @@
 // What all matches say: each is asked in order, and their offsets are held against the first one's.
-ghost use mathlib.Core.{Bool.{◌&&◌}, Path.{◌≡◌}};
-ghost use Rattle.std.specs.Prelude.{◌≤◌, ◌<◌, ◌/◌, length, take};
+ghost use Rattle.std.specs.Prelude.{◌≤◌, ◌<◌, ◌/◌, length, take, ◌&&◌, ◌≡◌};
 ghost use Rattle.verdict.specs.Edge.{same_z};
 ghost use Rattle.slip.specs.{Hour.{hours_from}, Told.{Seen, told_hours}};
 ghost use Rattle.table.specs.{inner.Agreeing.{Agrees}, Hits.{width, slots}};
@@ -12,13 +11,13 @@ use request::read::Fix;
 use table::hits::hit_at;
 
 // The first match's, and whether all have its offset.
-#[derive(Drop)]
+#[derive(Clone, Copy)]
 pub struct All {
     pub first: Spot,
     pub agree: bool,
 }
 
-#[derive(Drop)]
+#[derive(Clone, Copy)]
 pub enum Hours {
     All(All),
     Refused(Refusal),

@@ -1,7 +1,8 @@
 // The line, into a lent buffer: what does not fit is left out and counted.
 ghost use Rattle.std.specs.Prelude.{◌≡◌, ◌+◌, ◌≤◌, ◌<◌, ◌/◌, length, take};
 ghost use Rattle.line.specs.{Clock.{offset_text}, Put.{Put}};
-ghost use Rattle.slip.specs.{Hour.{name_of, hour_of, hours_from}, Line.{clock_text, between, shown_text, zone_text}, Told.{name_in, hour_at, Stands, told_hour, StandsHour, is_named, is_named_in, added_by, Lined, Inked, FirstAt}};
+ghost use Rattle.slip.specs.{Hour.{name_of, hour_of, hours_from}, Line.{clock_text, between, shown_text, zone_text}};
+ghost use Rattle.slip.specs.Told.{name_in, hour_at, Stands, told_hour, StandsHour, is_named, is_named_in, added_by, Lined, Inked, FirstAt};
 ghost use Rattle.table.specs.Hits.{width, slots, hit_at};
 ghost use Rattle.zones.specs.Simple.{LiesParts};
 

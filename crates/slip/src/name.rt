@@ -7,7 +7,7 @@ use header::header::Head;
 use numbers::refusal::{Refusal, plain};
 use zones::simple::{Named, Parts, name_of};
 
-#[derive(Drop)]
+#[derive(Clone, Copy)]
 pub enum Zone {
     Name(Parts),
     Refused(Refusal),

@@ -16,14 +16,14 @@ use table::location::Location;
 use zones::lookup::Looked;
 
 // Length of the line, how many matches, seconds east of UT.
-#[derive(Drop)]
+#[derive(Clone, Copy)]
 pub struct Stamped {
     pub length: usize,
     pub matches: usize,
     pub offset: i32,
 }
 
-#[derive(Drop)]
+#[derive(Clone, Copy)]
 pub enum Slipped {
     Stamped(Stamped),
     Refused(Refusal),
