@@ -1,5 +1,6 @@
 -- The new file: document 02, Q-7, "version and metadata section stay, names and notice go inline".
-use Rattle.numbers.specs.Prelude.{ℕ, zero, suc, ◌+◌, ◌-◌, ◌%◌, ◌^◌, ◌≤◌, ◌<◌, ltb, leb, ℤ, length, take, drop, Bool, true, false, ◌&&◌, List, [], ◌∷◌, ◌++◌, flat_map, ◌≡◌}
+use Rattle.std.specs.Prelude.{◌+◌, ◌-◌, ◌%◌, ◌^◌, ◌≤◌, ◌<◌, ◌&&◌, ◌∷◌, ◌++◌, ◌≡◌}
+use Rattle.numbers.specs.Prelude.{ℕ, zero, suc, ltb, leb, ℤ, length, take, drop, Bool, true, false, List, [], flat_map}
 use Rattle.numbers.specs.{Point.{read_i32}, Reply.{Reply, given, refused, plain, demand, ◌or_else◌, ◌>>=◌, ◌>>◌}, Spelling.{varint_of, signed_form}}
 use Rattle.header.specs.{Text.{string_at}, declared.header.Head.{Head}}
 use Rattle.salvage.specs.{Kept.{encoding_in, border_place}, Moves.Moves.{moves_at, moves_bytes}, inner.Moves.Laid.{cap, Capped}}

@@ -1,6 +1,7 @@
 -- Which entries of a damaged file are kept, and why the others are dropped: document 02, Q-7.
-use Rattle.numbers.specs.Prelude.{ℕ, zero, suc, ◌+◌, ◌-◌, ◌%◌, ◌^◌, ◌<◌, ltb, leb, Bool, true, false, ◌&&◌, List, [], ◌∷◌, ◌≡◌}
-use Rattle.numbers.specs.{Answer.{Answer, found, failed, if◌then◌else◌}, Reply.{Reply, given, refused, plain, demand, ◌or_else◌, ◌>>=◌, ◌>>◌}, Varint.{Numeral, reading_of}}
+use Rattle.std.specs.Prelude.{◌+◌, ◌-◌, ◌%◌, ◌^◌, ◌<◌, ◌&&◌, ◌∷◌, ◌≡◌, if◌then◌else◌}
+use Rattle.numbers.specs.Prelude.{ℕ, zero, suc, ltb, leb, Bool, true, false, List, []}
+use Rattle.numbers.specs.{Answer.{Answer, found, failed}, Reply.{Reply, given, refused, plain, demand, ◌or_else◌, ◌>>=◌, ◌>>◌}, Varint.{Numeral, reading_of}}
 use Rattle.border.specs.{Encoding.{version_of, encoded_by}, Trace.{trace_of, border_at}, declared.reader.Encoding.{Encoding}}
 use Rattle.header.specs.{Text.{text_at}, declared.header.Head.{Head}}
 use Rattle.salvage.specs.{Moves.Moves.{end_of}, declared.{strings.{Field.{Field}, Good.{Good}}, walk.Kept.{Kept}}}

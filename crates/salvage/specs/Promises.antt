@@ -1,5 +1,6 @@
 -- What salvage promises, as statements: document 02, Q-7. Each is a theorem (docs/PROMISES.md).
-use Rattle.numbers.specs.Prelude.{ℕ, zero, suc, ◌+◌, ◌≤◌, ◌<◌, length, Bool, true, false, List, [], ◌∷◌, ◌≡◌}
+use Rattle.std.specs.Prelude.{◌+◌, ◌≤◌, ◌<◌, ◌∷◌, ◌≡◌}
+use Rattle.numbers.specs.Prelude.{ℕ, zero, suc, length, Bool, true, false, List, []}
 use Rattle.numbers.specs.{Answer.{Answer, found, failed}, Reply.{Reply, given, refused, ◌>>=◌}, Varint.{reading_of}, declared.refusal.Refusal.{Refusal}}
 use Rattle.verdict.specs.Verdict.{judged_at}
 use Rattle.border.specs.{Trace.{trace_of, border_at}, declared.place.{FixedLat.{FixedLat}, FixedLon.{FixedLon}}}
@@ -82,9 +83,9 @@ pub data KeptAs (file file' : List ℕ) (head head' : Head) : List Row → Rows 
 
 -- the result opens strictly (`salvaged_strict`), and its table is that of the kept entries
 pub record KeptFile (file : List ℕ) (head : Head) (new : List ℕ) (kept : List Row) : Type 0 where
-  pub new_head_lem : Head
-  pub opens : head_by true new ≡ given new_head_lem
-  pub entries : KeptAs file new head new_head_lem kept (rows_in new new_head_lem)
+  pub new_head : Head
+  pub opens : head_by true new ≡ given new_head
+  pub entries : KeptAs file new head new_head kept (rows_in new new_head)
 
 abbrev pub SalvageKept : Type 0
 SalvageKept = (file : List ℕ) (words room : ℕ) (head : Head) (s : Salvaged) → head_by true file ≡ given head → salvaged_of file words room ≡ given s → KeptFile file head s.file s.kept

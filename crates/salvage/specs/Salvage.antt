@@ -1,5 +1,6 @@
 -- Salvage: the reply and both lent outputs. Document 02, Q-7.
-use Rattle.numbers.specs.{Lists.{zeros, padded}, Prelude.{ℕ, ◌/◌, ◌^◌, min, ltb, leb, length, true, ◌&&◌, List}, Reply.{Reply, given, refused, plain, demand, ◌>>=◌, ◌>>◌}}
+use Rattle.std.specs.Prelude.{◌/◌, ◌^◌, ◌&&◌}
+use Rattle.numbers.specs.{Lists.{zeros, padded}, Prelude.{ℕ, min, ltb, leb, length, true, List}, Reply.{Reply, given, refused, plain, demand, ◌>>=◌, ◌>>◌}}
 use Rattle.header.specs.Header.{head_by}
 use Rattle.table.specs.{Rows.{rows_in}, declared.rows.Row.{Row}}
 use Rattle.salvage.specs.{File.{head_texts, new_file}, Kept.{kept_of, lines_from}}

@@ -9,13 +9,13 @@ use numbers::refusal::{Refusal, plain};
 use numbers::varint::{Varint, read_number};
 
 // The place of the next field, or the first reason met.
-#[derive(Drop)]
+#[derive(Clone, Copy)]
 pub enum Field {
     Next(usize),
     Refused(Refusal),
 }
 
-#[derive(Drop)]
+#[derive(Clone, Copy)]
 pub enum Good {
     Good,
     Refused(Refusal),

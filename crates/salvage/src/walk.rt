@@ -7,7 +7,7 @@ use crate::strings::Good;
 use header::header::Head;
 use table::rows::{Cursor, Reading, Row, after, row_at};
 
-#[derive(Drop)]
+#[derive(Clone, Copy)]
 pub enum Kept {
     Row(Row),
     None,

@@ -1,5 +1,5 @@
 -- Kept borders, drawn one behind the other. Assumes nothing.
-use Rattle.numbers.proofs.Prelude.{ℕ, List, [], ◌∷◌, ◌++◌, append_assoc, append-nil, flat_map, ◌≡◌, refl, sym, ap, subst, ◌∙◌, arith}
+use Rattle.numbers.proofs.Prelude.{ℕ, List, [], ◌∷◌, ◌++◌, append_assoc, flat_map, ◌≡◌, refl, sym, ap, subst, ◌∙◌, arith}
 use Rattle.numbers.specs.{Answer.{Answer, found, failed, refused, ◌>>=◌}, Reply.{Reply, given, plain, ◌or_else◌, ◌>>◌}, declared.refusal.Refusal.{Refusal}}
 use Rattle.border.specs.{Trace.{trace_of, border_at}, declared.reader.Encoding.{Encoding}}
 use Rattle.header.specs.declared.header.Head.{Head}
@@ -61,6 +61,3 @@ module _ (file : List ℕ) (head : Head) where
               ∙ sym (append_assoc d.done (r ∷ []) _);
           laid = capped_as (bytes_next (border_bytes file head) d.done r) (capped_then (flat_map (border_bytes file head) d.done) (border_bytes file head r) d.laid c);
         }
-
-    pub draws_end : {now : List ℕ} {next : ℕ} {from : Cursor} → Drawing now next from → kept_from file head from ≡ [] → Capped before at (flat_map (border_bytes file head) all) now next
-    draws_end d e = capped_as (ap (flat_map (border_bytes file head)) (sym (d.rest ∙ ap (λ (rs : List Row). d.done ++ rs) e ∙ append-nil d.done))) d.laid

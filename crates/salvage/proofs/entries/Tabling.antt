@@ -30,7 +30,8 @@ module _ (file : List ℕ) (head : Head) (before : List ℕ) (at : ℕ) where
   -- what is written, and what the rows that are left give, make up the table
   pub record Tabling (now : List ℕ) (next id size : ℕ) (from : Cursor) : Type 0 where
     pub written : List ℕ
-    pub rest : all_short file head all ≡ true → (table_from file head 0 0 all ≡ written ++ table_from file head id size (kept_from file head from)) × (all_short file head (kept_from file head from) ≡ true)
+    pub rest : all_short file head all ≡ true → (table_from file head 0 0 all ≡ written ++ table_from file head id size (kept_from file head from)) × (all_short file head (kept_from file
+        head from) ≡ true)
     pub laid : Capped before at written now next
 
   pub tables_start : {from : Cursor} → from ≡ start_at head.sections.table → Tabling before at 0 0 from

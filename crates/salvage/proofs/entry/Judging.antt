@@ -6,7 +6,8 @@ use Rattle.salvage.specs.{Kept.{encoding_in, border_place, record_place, border_
 use Rattle.table.specs.declared.rows.Row.{Row}
 
 module _ (file : List ℕ) (head : Head) (r : Row) where
-  pub border_told : (end : End) {encoding : Encoding} {place : ℕ} → encoding ≡ encoding_in file head → place ≡ border_place file head r → told_end end ≡ end_of (trace_of file encoding (border_at place))
+  pub border_told : (end : End) {encoding : Encoding} {place : ℕ} → encoding ≡ encoding_in file head → place ≡ border_place file head r
+      → told_end end ≡ end_of (trace_of file encoding (border_at place))
       → (told_end end or_else plain 71) ≡ border_good file head r
   unfolding border_good
   border_told end {encoding} {place} e p t =

@@ -1,6 +1,6 @@
 -- A border's moves, read, written and read again, are the same; and so is what a border says of a location. Assumes nothing.
 use Rattle.numbers.{proofs.Prelude.{ℕ, Bool, List, ◌≡◌, refl, sym, ap, subst, ◌∙◌}, specs.{Answer.{Answer, found, failed, refused, ◌>>=◌}, Varint.{reading_of}, declared.point.RawPoint.{RawPoint}}}
-use Rattle.border.{proofs.OnWay.{At}, specs.{Encoding.{encoded_by}, Trace.{trace_of, border_at}, declared.{place.{FixedLat.{FixedLat}, FixedLon.{FixedLon}}, reader.Encoding.{Encoding}}}}
+use Rattle.border.{proofs.OnWay.{At}, specs.{Trace.{trace_of, border_at}, declared.{place.{FixedLat.{FixedLat}, FixedLon.{FixedLon}}, reader.Encoding.{Encoding}}}}
 use Rattle.border.specs.declared.reader.Version.{Version, TheVariants.{Plain, Packed}}
 use Rattle.verdict.specs.Verdict.{none, judge, judged_at}
 use Rattle.salvage.proofs.moves.{Packed.{packed_again}, Plain.{plain_readable, plain_same, plain_again}}
@@ -53,7 +53,3 @@ module _ (f : List ℕ) (encoding : Encoding) (place : ℕ) (before : List ℕ) 
         let said : Capped before at (moves_bytes Plain read.moves) after next = rw read.are at c in
         subst (λ (w : Version). Capped before at (moves_bytes w (moves_by w f encoding place)) after next) (sym plain)
         (subst (λ (ms : List RawPoint). Capped before at (moves_bytes Plain ms) after next) (sym (ap or_none read.are)) said)
-
-  pub packed_drawn : encoding.version ≡ Packed → Copied (moves_bytes Packed) (closed_moves f (encoded_by encoding.strict Packed encoding.«data») place) before at after next
-      → Copied (moves_bytes encoding.version) (closed_moves f encoding place) before at after next
-  packed_drawn packed c = subst (λ (v : Version). Copied (moves_bytes v) (closed_moves f (encoded_by encoding.strict v encoding.«data») place) before at after next) (sym packed) c

@@ -1,15 +1,8 @@
 -- Bytes that are laid one after another, up to the cap. Assumes nothing.
 use Rattle.numbers.proofs.Prelude.{ℕ, ◌+◌, ◌≤◌, ltb-true, ltb-false, ltb, length, length-append, Bool, true, false, List, [], ◌++◌, ◌≡◌, refl, sym, subst, ◌∙◌, add-zero, arith}
-use Rattle.numbers.specs.Spelling.{Put, varint_of}
-use Rattle.writer.proofs.Stores.{stored_put, stored_then, stored_length}
+use Rattle.numbers.specs.Spelling.{varint_of}
+use Rattle.writer.proofs.Stores.{stored_then}
 use Rattle.salvage.specs.inner.Moves.Laid.{cap, Capped}
-
--- a number below the cap, and none past it
-pub capped_put : {before bytes after : List ℕ} {place size : ℕ} → Put before place bytes after size → Capped before place bytes after (place + size)
-capped_put p = record { fits = λ l. stored_put p; over = λ l. omega (arith, p.counted); size = stored_length (stored_put p) }
-
-pub capped_past : (before bytes : List ℕ) (place : ℕ) → cap ≤ place → Capped before place bytes before place
-capped_past before bytes place h = record { fits = λ l. absurd (omega arith); over = λ l. omega arith; size = refl }
 
 -- nothing
 pub capped_none : (before : List ℕ) (place : ℕ) → Capped before place [] before place

@@ -2,7 +2,8 @@
 use Rattle.numbers.proofs.Prelude.{ℕ, zero, suc, ◌+◌, ◌*◌, ◌/◌, ◌%◌, ◌^◌, ◌<◌, eq-eqb, ne_eqb, ltb-true, ltb-false, ltb, lit<, ℤ, pos, negsuc, ◌-ℤ◌, neg_ℤ, nat_abs, mag, Bool, true, false, ◌≡◌, refl}
 use Rattle.numbers.proofs.Prelude.{sym, ap, subst, ◌∙◌, w32, SFits, of_z, to_z, arith}
 use Rattle.numbers.proofs.{Answers.{All}, Coordinates.{signed_fits}, Spelling.{even_back, odd_back, signed_back, form_positive}, Tests.{differ, both}, point.Joined.{even_lt}, write.Gaps.{size_neg}}
-use Rattle.numbers.specs.{Answer.{found, refused, if◌then◌else◌, in_range, checked, ◌>>=◌}, Point.{signed_of, even_bits, point_of}, Spelling.{signed_form, interleaved}, declared.point.RawPoint.{RawPoint}}
+use Rattle.numbers.specs.{Answer.{found, refused, if◌then◌else◌, in_range, checked, ◌>>=◌}, Point.{signed_of, even_bits, point_of}, Spelling.{signed_form, interleaved}}
+use Rattle.numbers.specs.declared.point.RawPoint.{RawPoint}
 use lib.IntN.{+ℤ_idr}
 use mir.Facts.{to_z-of_z}
 use Rattle.border.specs.Place.{move_by, is_zero, is_still, negated}

@@ -1,10 +1,11 @@
 -- Version 1: the moves between the points, and that they are read again from what is written of them. Assumes nothing.
 use Rattle.numbers.proofs.Prelude.{ℕ, ◌+◌, lit<, ℤ, ◌+ℤ◌, ◌-ℤ◌, length, Bool, true, false, List, [], ◌∷◌, ◌++◌, append_assoc, flat_map, inl, inr, ◌≡◌, refl, sym, ap, subst, ◌∙◌, arith}
-use Rattle.numbers.{proofs.{Answers.{All, found-one}, Spelling.{one_byte, varint_whole}, Tests.{differ}}, specs.Answer.{Answer, found, failed, refused, if◌then◌else◌, in_range, checked, ◌>>=◌}}
+use Rattle.numbers.{proofs.{Answers.{All, found_one}, Spelling.{one_byte, varint_whole}, Tests.{differ}}, specs.Answer.{Answer, found, failed, refused, if◌then◌else◌, in_range, checked, ◌>>=◌}}
 use Rattle.numbers.specs.{Varint.{reading_of}, declared.point.RawPoint.{RawPoint}}
 use lib.IntN.{+ℤ_comm, +ℤ-neg_ℤ_cancel}
 use Rattle.border.{proofs.{OnWay.{At, at_first, at_next, on_way}, Trace.{trace_step}, reader.Turns.{turn_move, turn_marker, mark_closes, advances, open_packed}}, specs.Place.{point_at, moved_by}}
-use Rattle.border.specs.{Reader.{Turn, gives, onward, closing, advanced}, Trace.{Given, reaches, ended, next_point, Trace, point, closed, trace_then, trace_of, border_at}, declared.place.Point.{Point}}
+use Rattle.border.specs.{Reader.{Turn, gives, onward, closing, advanced}, Trace.{Given, reaches, ended, next_point, Trace, point, closed, trace_then, trace_of, border_at}}
+use Rattle.border.specs.declared.place.Point.{Point}
 use Rattle.border.specs.declared.reader.{Encoding.{Encoding}, Reader.{Reader}, Run.TheVariants.{Idle}, Version.TheVariants.{Packed}}
 use Rattle.writer.specs.Moves.{move_to}
 use Rattle.salvage.proofs.moves.{Ends.{unfound, unrefused}, Forms.{step_back, step_some, step_few}, Standing.{reads_both}}
@@ -30,7 +31,7 @@ moved_is p q by e = go (in_range 31 (p.lat.0 +ℤ by.lat)) (in_range 31 (p.lon.0
   lon = p.lon.0 +ℤ by.lon
 
   go : (s t : Bool) → ((if s then found lat else refused 13) >>= λ lat. (if t then found lon else refused 13) >>= λ lon. found (point_at lat lon)) ≡ found q → move_to p q ≡ by
-  go true true g = subst (λ (r : Point). move_to p r ≡ by) (found-one g) (gap_move p by)
+  go true true g = subst (λ (r : Point). move_to p r ≡ by) (found_one g) (gap_move p by)
   go true false g = unrefused g
   go false true g = unrefused g
   go false false g = unrefused g

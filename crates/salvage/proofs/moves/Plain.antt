@@ -1,5 +1,5 @@
 -- Version 0: a border is its pairs, and they are read again from what is written of them. Assumes nothing.
-use Rattle.numbers.proofs.{Answers.{All, then-all, any, found-one}, Laws.{Read, case_of}}
+use Rattle.numbers.proofs.{Answers.{All, then_all, any, found_one}, Laws.{Read, case_of}}
 use Rattle.numbers.proofs.Prelude.{ℕ, zero, suc, ◌+◌, ◌-◌, ◌^◌, ◌<◌, ne_eqb, eqb, length, mag, Bool, true, false, List, [], ◌∷◌, ◌++◌, append_assoc, flat_map, ◌≡◌, refl, sym, ap, subst, ◌∙◌, arith}
 use Rattle.numbers.{proofs.{Prelude.{OneOf, miss}, Readings.{reading_read}, Spelling.{varint_whole}}, specs.{Answer.{Answer, found, failed, refused, if◌then◌else◌, ◌>>=◌}, Point.{signed_of}}}
 use Rattle.numbers.specs.{Spelling.{varint_of, signed_form}, Varint.{Numeral, told, reading_of}, declared.{point.RawPoint.{RawPoint}, varint.Varint.{Varint}}}
@@ -65,7 +65,7 @@ unfolding pairs_from
 split read n place moves e = first (pair_at read place) refl e where
   second : (pair : Pair) → pair_at read place ≡ found pair → (answer : Answer (List RawPoint)) → pairs_from read n pair.place ≡ answer
       → (answer >>= λ rest. found (pair.by ∷ rest)) ≡ found moves → Split read n place moves
-  second pair h (found more) r g = record { pair = pair; more = more; here = h; rest = r; all = sym (found-one g) }
+  second pair h (found more) r g = record { pair = pair; more = more; here = h; rest = r; all = sym (found_one g) }
   second pair h failed r g = unfound g
   second pair h (refused m) r g = unrefused g
 
@@ -76,7 +76,7 @@ split read n place moves e = first (pair_at read place) refl e where
 
 pub pairs_length : (read : Reading) (n place : ℕ) (moves : List RawPoint) → pairs_from read n place ≡ found moves → length moves ≡ n
 unfolding pairs_from
-pairs_length read zero place moves e = ap length (sym (found-one e))
+pairs_length read zero place moves e = ap length (sym (found_one e))
 pairs_length read (suc n) place moves e = let s = split read n place moves e in
     ap length s.all ∙ ap suc (pairs_length read n s.pair.place s.more s.rest)
 
@@ -279,7 +279,7 @@ Fitting pair = (mag pair.by.lat < 2 ^ 31) × (mag pair.by.lon < 2 ^ 31)
 pairs_fit : (read : Reading) (place : ℕ) → All Fitting (pair_at read place)
 unfolding pair_at
 pairs_fit read place =
-    then-all _ Fitting (read place) _ (any (read place)) (λ lat h. then-all _ Fitting (read lat.place) _ (any (read lat.place)) (λ lon k. (signed_mag lat.value, signed_mag lon.value)))
+    then_all _ Fitting (read place) _ (any (read place)) (λ lat h. then_all _ Fitting (read lat.place) _ (any (read lat.place)) (λ lon k. (signed_mag lat.value, signed_mag lon.value)))
 
 module _ (strict : Bool) (f : List ℕ) where
   -- a move that was written is read at its place

@@ -1,12 +1,13 @@
 -- Version 1: what a turn does to a border that is not closed, and the trace by turns. Assumes nothing.
 use Rattle.numbers.proofs.Prelude.{ℕ, zero, suc, ◌<◌, eqb, ℤ, pos, ◌+ℤ◌, Bool, true, false, List, ◌⊎◌, inl, inr, ◌≡◌, refl, sym, ap, subst, ◌∙◌, arith}
-use Rattle.numbers.{proofs.Answers.{All, then-all, any}, specs.{Answer.{Answer, found, failed, refused, if◌then◌else◌, in_range, checked, ◌>>=◌}, Point.{signed_of, point_of}}}
+use Rattle.numbers.{proofs.Answers.{All, then_all, any}, specs.{Answer.{Answer, found, failed, refused, if◌then◌else◌, in_range, checked, ◌>>=◌}, Point.{signed_of, point_of}}}
 use Rattle.numbers.specs.{Varint.{reading_of, backward_at}, declared.point.RawPoint.{RawPoint}}
 use lib.IntN.{+ℤ_idr}
 use native.Mathlib.Nat.{lt-suc_self}
 use Rattle.border.{proofs.{Room.{left}, Trace.{next_step, trace_step, again_less}, reader.Turns.{open_packed, closed_ends}}, specs.Place.{point_at, move_by, moved_by, negated}}
 use Rattle.border.specs.Reader.{Reading, Turn, gives, again, ends, onward, arrived, advanced, as_i64, opened, reference, marker, lent, packed_turn, turn_of}
-use Rattle.border.specs.{Trace.{Given, reaches, ended, round_again, next_point, Trace, point, closed, trace_then, trace_of}, declared.{place.Point.{Point}, reader.{Encoding.{Encoding}, Reader.{Reader}}}}
+use Rattle.border.specs.Trace.{Given, reaches, ended, round_again, next_point, Trace, point, closed, trace_then, trace_of}
+use Rattle.border.specs.declared.{place.Point.{Point}, reader.{Encoding.{Encoding}, Reader.{Reader}}}
 use Rattle.border.specs.declared.reader.{Run.{Run, TheVariants.{Idle, Forward, Backward}}, Version.TheVariants.{Packed}}
 use Rattle.salvage.proofs.moves.Forms.{Small, point_tiny, still_tiny, negated_tiny}
 use Rattle.border.specs.Trace as T
@@ -52,7 +53,8 @@ moved_ranged p by = go (in_range 31 (p.lat.0 +ℤ by.lat)) (in_range 31 (p.lon.0
   lon : ℤ
   lon = p.lon.0 +ℤ by.lon
 
-  go : (s t : Bool) → in_range 31 lat ≡ s → in_range 31 lon ≡ t → All Ranged ((if s then found lat else refused 13) >>= λ lat. (if t then found lon else refused 13) >>= λ lon. found (point_at lat lon))
+  go : (s t : Bool) → in_range 31 lat ≡ s → in_range 31 lon ≡ t
+      → All Ranged ((if s then found lat else refused 13) >>= λ lat. (if t then found lon else refused 13) >>= λ lon. found (point_at lat lon))
   go true true a b = record { lat_fits = a; lon_fits = b }
   go true false a b = tt
   go false true a b = tt
@@ -123,14 +125,14 @@ module _ (read : Reading) (base : ℕ) (s : Reader) (h : s.closed ≡ false) whe
   reference_does : (place : ℕ) → All (Does s) (reference read base (onward s place s.moves Idle))
   unfolding reference
   reference_does place =
-      then-all _ (Does s) (read place) _ (any (read place)) (λ start k. then-all _ (Does s) (read start.place) _ (any (read start.place))
-      (λ size l. then-all _ (Does s) (opened base (as_i64 start.value) (signed_of size.value)) _ (any (opened base (as_i64 start.value) (signed_of size.value)))
+      then_all _ (Does s) (read place) _ (any (read place)) (λ start k. then_all _ (Does s) (read start.place) _ (any (read start.place))
+      (λ size l. then_all _ (Does s) (opened base (as_i64 start.value) (signed_of size.value)) _ (any (opened base (as_i64 start.value) (signed_of size.value)))
       (λ run m. moved_on s h size.place s.moves run)))
 
   marker_does : Ranged s.point → (place : ℕ) → All (Does s) (marker read base (onward s place s.moves Idle))
   unfolding marker
   marker_does r place =
-      then-all _ (Does s) (read place) _ (any (read place)) (λ mark k. either (Does s) (eqb mark.value 0) _ _ (inr (record { now_closed = refl; back = refl }))
+      then_all _ (Does s) (read place) _ (any (read place)) (λ mark k. either (Does s) (eqb mark.value 0) _ _ (inr (record { now_closed = refl; back = refl }))
       (either (Does s) (eqb mark.value 1) _ _ (reference_does mark.place) (inl (step_to s (onward s mark.place s.moves Idle)
       (moved_on s h mark.place s.moves Idle) (move_by (pos 0) (pos 0)) still_tiny s.point (stays s.point r) r))))
 
@@ -142,14 +144,14 @@ module _ (read : Reading) (f : List ℕ) (base : ℕ) (s : Reader) (h : s.closed
   packed_does : (run : Run) → All (Does s) (packed_turn run read f base s)
   unfolding packed_turn
   packed_does Idle =
-      then-all _ (Does s) (read s.place) _ (any (read s.place)) (λ number k. either (Does s) (eqb number.value 0) _ _ (marker_does read base s h r
+      then_all _ (Does s) (read s.place) _ (any (read s.place)) (λ number k. either (Does s) (eqb number.value 0) _ _ (marker_does read base s h r
       number.place) (advance_does s (onward s number.place s.moves Idle) (moved_on s h number.place s.moves Idle) (point_of number.value) (point_tiny number.value)))
   packed_does (Forward next end) =
-      then-all _ (Does s) (read next) _ (any (read next)) (λ number k. then-all Small (Does s) (lent number.value) _ (lent_tiny number.value)
+      then_all _ (Does s) (read next) _ (any (read next)) (λ number k. then_all Small (Does s) (lent number.value) _ (lent_tiny number.value)
       (λ by small. advance_does s _ (moved_on s h s.place s.moves _) by small))
   packed_does (Backward next end) =
-      then-all _ (Does s) (backward_at f next) _ (any (backward_at f next)) (λ number k. then-all Small (Does s) (lent number.value) _ (lent_tiny number.value)
-      (λ by small. then-all Small (Does s) (negated by) _ (negated_tiny by small) (λ back tiny. advance_does s _ (moved_on s h s.place s.moves _) back tiny)))
+      then_all _ (Does s) (backward_at f next) _ (any (backward_at f next)) (λ number k. then_all Small (Does s) (lent number.value) _ (lent_tiny number.value)
+      (λ by small. then_all Small (Does s) (negated by) _ (negated_tiny by small) (λ back tiny. advance_does s _ (moved_on s h s.place s.moves _) back tiny)))
 
 -- ---- up to the next point
 abbrev pub DoesThere : Reader → Given → Type 0

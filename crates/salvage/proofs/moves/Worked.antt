@@ -14,7 +14,8 @@ abbrev twice : Trace
 twice = point (point_at (pos 2) (pos 2)) (point (point_at (pos 2) (pos 2)) (point (point_at (pos 2) (pos 2)) closed))
 
 repeated_trace : trace_of repeated (encoded_in Packed 0) (border_at 0) ≡ twice
-unfolding reading_of trace_of trace_within trace_then next_point next_within round_again turn_of packed_turn marker advanced moved_by checked forward_at value_of size_of too_long signed_of even_bits point_of
+unfolding reading_of trace_of trace_within trace_then next_point next_within round_again turn_of packed_turn marker advanced moved_by checked forward_at value_of size_of too_long signed_of
+    even_bits point_of
 repeated_trace = refl
 
 pub repeated_closes : end_of (trace_of repeated (encoded_in Packed 0) (border_at 0)) ≡ found tt

@@ -46,7 +46,8 @@ module _ (file : List ℕ) (head : Head) where
       fewer = row_less read (reading_grows head.strict file) at more e refl;
     }
 
-    pub kept_not : {r : Row} {next : Cursor} {t : Bool} → found r ≡ row_by read at → next ≡ after r → t ≡ goodness (entry_good file head r) → t ≡ false → kept_from file head next ≡ kept_from file head at
+    pub kept_not : {r : Row} {next : Cursor} {t : Bool} → found r ≡ row_by read at → next ≡ after r → t ≡ goodness (entry_good file head r) → t ≡ false
+        → kept_from file head next ≡ kept_from file head at
     unfolding kept_from kept_of
     kept_not {r} e n g t = sym (ap (kept_of file head) (at_row read (reading_grows head.strict file) at more e n) ∙ kept_if_bad (entry_good file head r) (sym g ∙ t) r _)
 

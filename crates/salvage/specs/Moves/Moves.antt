@@ -1,6 +1,7 @@
 -- A border's moves stand between its bytes and its points: document 02, Q-7, "every move stays, zero moves and version 0's closing pair included".
-use Rattle.numbers.specs.Prelude.{ℕ, zero, suc, ◌-◌, pos, length, Bool, true, false, List, [], ◌∷◌, ◌++◌, flat_map}
-use Rattle.numbers.specs.{Answer.{Answer, found, failed, refused, if◌then◌else◌, ◌>>=◌}, Point.{signed_of}, Spelling.{varint_of}, Varint.{reading_of}, declared.point.RawPoint.{RawPoint}}
+use Rattle.std.specs.Prelude.{◌-◌, ◌∷◌, ◌++◌, if◌then◌else◌}
+use Rattle.numbers.specs.Prelude.{ℕ, zero, suc, pos, length, Bool, true, false, List, [], flat_map}
+use Rattle.numbers.specs.{Answer.{Answer, found, failed, refused, ◌>>=◌}, Point.{signed_of}, Spelling.{varint_of}, Varint.{reading_of}, declared.point.RawPoint.{RawPoint}}
 use Rattle.writer.specs.Moves.{move_to, packed_number, plain_move_bytes}
 use Rattle.border.specs.{Place.{point_at, move_by, is_still}, Reader.{Reading}, Trace.{Trace, point, closed, trace_of, border_at}, declared.{place.Point.{Point}, reader.Encoding.{Encoding}}}
 use Rattle.border.specs.declared.reader.Version.{Version, TheVariants.{Plain, Packed}}

@@ -5,7 +5,7 @@ ghost use Rattle.salvage.specs.{inner.Moves.Laid.{told_end, ended_by}, Moves.Mov
 
 use border::reader::{Encoding, Next, next_point, open_border};
 
-#[derive(Drop)]
+#[derive(Clone, Copy)]
 pub enum End {
     Closed,
     Failed,

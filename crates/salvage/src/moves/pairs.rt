@@ -1,6 +1,6 @@
 // Version 0: the moves and the closing pair, as they are read, and written in the shortest form.
-ghost use mathlib.Core.{Path.{◌≡◌}, List.{flat_map}};
-ghost use Rattle.std.specs.Prelude.{suc};
+ghost use mathlib.Core.List.{flat_map};
+ghost use Rattle.std.specs.Prelude.{suc, ◌≡◌};
 ghost use Rattle.writer.specs.Moves.{plain_move_bytes};
 ghost use Rattle.border.specs.declared.reader.Version.TheVariants.{Plain};
 ghost use Rattle.numbers.specs.Varint.{reading_of};
@@ -12,13 +12,13 @@ use numbers::varint::{Varint, read_number};
 use numbers::write::form_of;
 
 // A move, and the place behind its two numbers.
-#[derive(Drop)]
+#[derive(Clone, Copy)]
 pub struct Pair {
     pub by: RawPoint,
     pub place: usize,
 }
 
-#[derive(Drop)]
+#[derive(Clone, Copy)]
 pub enum Paired {
     Pair(Pair),
     Failed,

@@ -1,6 +1,5 @@
 // The list of dropped entries: the number of each, and the first reason met.
-ghost use mathlib.Core.{Path.{◌≡◌}, List.{[], ◌∷◌}};
-ghost use Rattle.std.specs.Prelude.{◌^◌, ◌<◌, set};
+ghost use Rattle.std.specs.Prelude.{◌^◌, ◌<◌, set, ◌≡◌, [], ◌∷◌};
 ghost use Rattle.writer.specs.inner.Stored.{Stored};
 ghost use Rattle.numbers.specs.Varint.{reading_of};
 ghost use Rattle.salvage.specs.Kept.{entry_good};
@@ -14,14 +13,14 @@ use header::header::Head;
 use table::rows::{Cursor, Reading, Row, after, row_at, start_at};
 
 // Why an entry is dropped, and where the table goes on.
-#[derive(Drop)]
+#[derive(Clone, Copy)]
 pub struct Dropped {
     pub reason: u8,
     pub next: Cursor,
 }
 
 // What becomes of the entry at a cursor.
-#[derive(Drop)]
+#[derive(Clone, Copy)]
 pub enum Turn {
     Kept(Cursor),
     Dropped(Dropped),
@@ -30,7 +29,7 @@ pub enum Turn {
 }
 
 // How many words the list has, and how many entries are kept.
-#[derive(Drop)]
+#[derive(Clone, Copy)]
 pub struct Lines {
     pub words: usize,
     pub kept: usize,

@@ -1,7 +1,5 @@
 // Salvage of a damaged file into a lent list and a lent output.
-ghost use mathlib.Core.{Bool.{true, ◌&&◌}, Path.{◌≡◌}};
-ghost use Rattle.std.specs.Prelude.{◌^◌, min};
-ghost use lib.{Dec.{leb}, ListN.{length}};
+ghost use Rattle.std.specs.Prelude.{◌^◌, min, true, ◌&&◌, ◌≡◌, leb, length};
 ghost use Rattle.header.specs.Header.{head_by};
 ghost use Rattle.numbers.specs.{Lists.{zeros}, Reply.{given}};
 ghost use Rattle.salvage.specs.Salvage.{salvaged_of, salvaged};
@@ -17,14 +15,14 @@ use numbers::limits::LARGEST_FILE;
 use numbers::refusal::{Refusal, plain};
 
 // The new file's length, and how many entries were dropped and kept.
-#[derive(Drop)]
+#[derive(Clone, Copy)]
 pub struct Counts {
     pub size: usize,
     pub lines: usize,
     pub kept: usize,
 }
 
-#[derive(Drop)]
+#[derive(Clone, Copy)]
 pub enum Rescued {
     Counts(Counts),
     Refused(Refusal),

@@ -14,7 +14,7 @@ use numbers::limits::LONGEST_TEXT;
 use numbers::refusal::{Refusal, plain};
 
 // The place behind what was written.
-#[derive(Drop)]
+#[derive(Clone, Copy)]
 pub enum Put {
     Place(usize),
     Refused(Refusal),

@@ -1,6 +1,6 @@
 -- The list, entry by entry: what an entry adds to it, and what is left to store. Assumes nothing.
-use Rattle.numbers.proofs.Prelude.{ℕ, suc, ◌+◌, ◌*◌, ◌≤◌, ◌<◌, length, set, List, [], ◌∷◌, ◌≡◌, refl, sym, ap, subst, ◌∙◌, add-one, arith}
-use Rattle.numbers.{proofs.Readings.{reading_grows}, specs.{Answer.{Answer, found, failed}, Reply.{Reply, given, refused}, Varint.{Numeral, reading_of}, declared.refusal.Refusal.{Refusal}}}
+use Rattle.numbers.proofs.Prelude.{ℕ, suc, ◌+◌, ◌*◌, ◌≤◌, ◌<◌, length, List, [], ◌∷◌, ◌≡◌, refl, sym, ap, subst, ◌∙◌, arith}
+use Rattle.numbers.{proofs.Readings.{reading_grows}, specs.{Answer.{Answer, found, failed}, Reply.{Reply, given, refused}, Varint.{Numeral, reading_of}}}
 use Rattle.writer.{proofs.Stores.{Left, left_all, left_step, left_none, left_last, stored_then}, specs.inner.Stored.{Stored}}
 use Rattle.header.specs.declared.header.Head.{Head}
 use Rattle.salvage.specs.{Kept.{entry_good, kept_if, kept_of, line_if, lines_from}, declared.rescue.lines.{Dropped.{Dropped}, Turn.{Turn}}, inner.Rescue.Turns.{judged_turn, turn_by, Listed}}
@@ -8,20 +8,7 @@ use Rattle.table.{proofs.TableRows.{at_end, at_row, at_unreadable, at_refused, r
 use Rattle.numbers.specs.Answer as A
 use Rattle.salvage.specs.declared.rescue.lines.Turn.TheVariants as T
 
--- a line's two words
-pub line_stored : {before middle after' : List ℕ} {at x y : ℕ} → middle ≡ set before at x → after' ≡ set middle (at + 1) y → Stored before at (x ∷ y ∷ []) after' (at + 2)
-line_stored {before} {middle} {after'} {at} {x} {y} e e' =
-    record {
-      place_after = omega arith;
-      stored = e' ∙ ap (λ (xs : List ℕ). set xs (at + 1) y) e ∙ ap (λ (n : ℕ). set (set before at x) n y) (add-one at);
-    }
-
 -- ---- an entry that was judged
-pub judged_kept : {g : Reply (Unit {0})} {next next' : Cursor} → given tt ≡ g → next ≡ next' → T.Kept next ≡ judged_turn g next'
-judged_kept {g} {next} {next'} e n = ap T.Kept n ∙ ap (λ (r : Reply (Unit {0})). judged_turn r next') e
-
-pub judged_dropped : {g : Reply (Unit {0})} {why : Refusal} {next next' : Cursor} → refused why ≡ g → next ≡ next' → T.Dropped (record { reason = why.number; next = next }) ≡ judged_turn g next'
-judged_dropped {g} {why} {next} {next'} e n = ap (λ (c : Cursor). T.Dropped (record { reason = why.number; next = c })) n ∙ ap (λ (r : Reply (Unit {0})). judged_turn r next') e
 
 module _ (file : List ℕ) (head : Head) where
   abbrev read : ℕ → Answer Numeral

@@ -1,5 +1,5 @@
 -- The reply of salvage, by how far it came. Assumes nothing.
-use Rattle.numbers.proofs.Prelude.{ℕ, ◌/◌, ◌^◌, ◌≤◌, ◌<◌, min, lt-ltb, le-leb, le-ltb, leb-true, ltb-true, lt-leb, ltb-false, ltb, leb, length, drop, Bool, true, false, ◌&&◌, List, ◌++◌, ◌≡◌, refl}
+use Rattle.numbers.proofs.Prelude.{ℕ, ◌/◌, ◌^◌, ◌≤◌, ◌<◌, min, lt-ltb, le-ltb, leb-true, ltb-true, lt-leb, ltb-false, ltb, leb, length, drop, Bool, true, false, ◌&&◌, List, ◌++◌, ◌≡◌, refl}
 use Rattle.numbers.proofs.Prelude.{sym, ap, subst, ◌∙◌, arith}
 use Rattle.numbers.{proofs.{Lists.{zeros_drop}, Tests.{both}}, specs.{Lists.{zeros, padded}, Reply.{Reply, given, refused, plain, demand, ◌>>=◌, ◌>>◌}, declared.refusal.Refusal.{Refusal}}}
 use Rattle.writer.{proofs.Stores.{stored_front}, specs.inner.Stored.{Stored}}
@@ -12,16 +12,6 @@ use Rattle.salvage.specs.declared.rescue.reply.Rescued.TheVariants as R
 use Rattle.salvage.specs.declared.rescue.texts.Put.TheVariants as P
 
 -- ---- room
-module _ (size room count list : ℕ) where
-  pub room_small : room < size → false ≡ (leb size (min room (2 ^ 30)) && leb count list)
-  room_small h = rw (lt-leb size (min room (2 ^ 30)) (omega arith))
-
-  pub room_large : 2 ^ 30 < size → false ≡ (leb size (min room (2 ^ 30)) && leb count list)
-  room_large h = rw (lt-leb size (min room (2 ^ 30)) (omega arith))
-
-  pub room_fits : size ≤ room → size ≤ 2 ^ 30 → leb count list ≡ (leb size (min room (2 ^ 30)) && leb count list)
-  room_fits h k = rw (le-leb size (min room (2 ^ 30)) (omega arith))
-
 -- against the outputs as they were lent
 pub room_as : {t : Bool} (size count : ℕ) {n m room list : ℕ} → t ≡ (leb size (min n (2 ^ 30)) && leb count m) → n ≡ room → m ≡ list → t ≡ (leb size (min room (2 ^ 30)) && leb count list)
 room_as {t} size count {n} {m} {room} {list} e is is' =

@@ -1,9 +1,9 @@
 -- Names and notice, text by text. Assumes nothing.
-use Rattle.numbers.proofs.Prelude.{ℕ, suc, ◌+◌, ◌-◌, ◌≤◌, ◌<◌, le-leb, lt-leb, leb, take, drop, Bool, true, false, List, [], ◌++◌, append_assoc, append-nil, ◌≡◌, refl, sym, ap, subst, ◌∙◌, arith}
+use Rattle.numbers.proofs.Prelude.{ℕ, suc, ◌-◌, ◌≤◌, ◌<◌, le-leb, lt-leb, leb, take, drop, Bool, true, false, List, [], ◌++◌, append_assoc, append-nil, ◌≡◌, refl, sym, ap, subst, ◌∙◌, arith}
 use Rattle.numbers.specs.{Answer.{Answer, found, failed}, Reply.{Reply, given, refused, plain, demand, ◌or_else◌, ◌>>=◌, ◌>>◌}, Spelling.{varint_of}, declared.refusal.Refusal.{Refusal}}
 use Rattle.header.specs.{Text.{string_at}, declared.{header.Head.{Head}, text.Text.{Text}}}
-use Rattle.salvage.proofs.moves.Capping.{capped_none, capped_then, capped_as}
-use Rattle.salvage.specs.{File.{texts_inline, head_texts}, declared.rescue.texts.Put.{Put}, inner.{Moves.Laid.{Capped}, Rescue.Texts.{short_text, text_bytes, behind, Inlined}}}
+use Rattle.salvage.proofs.moves.Capping.{capped_then, capped_as}
+use Rattle.salvage.specs.{File.{texts_inline, head_texts}, inner.{Moves.Laid.{Capped}, Rescue.Texts.{short_text, text_bytes, behind, Inlined}}}
 use Rattle.numbers.specs.Answer as A
 use Rattle.salvage.specs.declared.rescue.texts.Put.TheVariants as P
 
@@ -33,13 +33,6 @@ behind_none (refused why) = refl
 behind_twice : (xs ys : List ℕ) (r : Reply (List ℕ)) → behind xs (behind ys r) ≡ behind (xs ++ ys) r
 behind_twice xs ys (given bytes) = ap given (sym (append_assoc xs ys bytes))
 behind_twice xs ys (refused why) = refl
-
-pub inlined_behind : (front : List ℕ) (r : Reply (List ℕ)) (put : Put) {before middle : List ℕ} (after : List ℕ) {place next : ℕ} → Capped before place front middle next →
-    Inlined r middle next after put → Inlined (behind front r) before place after put
-inlined_behind front (given bytes) (P.Place end) after c i = capped_then front bytes c i
-inlined_behind front (given bytes) (P.Refused why) after c i = i
-inlined_behind front (refused why) (P.Place end) after c i = i
-inlined_behind front (refused why) (P.Refused told) after c i = i
 
 module _ (file : List ℕ) (head : Head) where
   -- a text and those behind it
@@ -88,9 +81,6 @@ module _ (file : List ℕ) (head : Head) where
       pub done : List ℕ
       pub rest : behind done (texts_inline file head left place) ≡ head_texts file head
       pub laid : Capped before at done now next
-
-    pub texts_start : {left : ℕ} → left ≡ head.preamble.count + 1 → Texting before left 7 at
-    texts_start e = record { done = []; rest = behind_none _ ∙ ap (λ (n : ℕ). texts_inline file head n 7) e; laid = capped_none before at }
 
     module _ {now : List ℕ} {left place next : ℕ} (t : Texting now left place next) where
       opened : 0 < left → behind t.done (texts_inline file head (suc (left - 1)) place) ≡ head_texts file head

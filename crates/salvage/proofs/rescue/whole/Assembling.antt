@@ -1,17 +1,12 @@
 -- The new file from its parts, whose sizes were counted with a cap. Assumes nothing.
-use Rattle.numbers.proofs.Prelude.{ℕ, ◌+◌, ◌-◌, ◌≤◌, ◌<◌, ltb-true, ltb-false, ltb, length, take, drop, length-append, Bool, true, false, ◌&&◌, List, [], ◌∷◌, ◌++◌, append_assoc, flat_map, ◌≡◌, refl}
-use Rattle.numbers.{proofs.{Prelude.{sym, ap, ◌∙◌, arith}, Tests.{differ}}, specs.{Reply.{Reply, given, refused}, Spelling.{varint_of}, declared.refusal.Refusal.{Refusal}}}
+use Rattle.numbers.proofs.Prelude.{ℕ, ◌+◌, ◌≤◌, ◌<◌, ltb-true, ltb-false, ltb, length, take, length-append, Bool, true, false, ◌&&◌, List, [], ◌∷◌, ◌++◌, append_assoc, flat_map, ◌≡◌, refl}
+use Rattle.numbers.{proofs.{Prelude.{sym, ap, ◌∙◌, arith}, Tests.{differ}}, specs.{Reply.{Reply, given, refused}, Spelling.{varint_of}}}
 use Rattle.header.specs.declared.header.Head.{Head}
-use Rattle.salvage.proofs.{entries.Tabling.{sized_of}, moves.Capping.{capped_none, capped_then, capped_as, capped_form}}
+use Rattle.salvage.proofs.{entries.Tabling.{sized_of}, moves.Capping.{capped_then, capped_as, capped_form}}
 use Rattle.salvage.specs.{File.{head_texts, metadata_of, border_bytes, assembled, new_file, Sized, all_short, Tabled}, Kept.{kept_of}, inner.Moves.Laid.{cap, Capped}}
 use Rattle.salvage.specs.inner.Rescue.{Texts.{behind, Inlined}, Whole.{new_table, new_data, sizes_of, SizedIf, Sizes, whole_of}}
 use Rattle.table.specs.{Rows.{rows_in}, declared.rows.Row.{Row}}
 use Rattle.salvage.specs.declared.rescue.texts.Put.TheVariants as P
-
--- a span that ends before it begins
-pub none_between : (file before : List ℕ) (from to at : ℕ) → to < from → Capped before at (take (to - from) (drop from file)) before at
-none_between file before from to at h = let none : to - from ≡ 0 = omega arith in
-    capped_as (ap (λ (n : ℕ). take n (drop from file)) (sym none)) (capped_none before at)
 
 -- ---- a border that reaches the cap makes the data section reach it
 module _ (file : List ℕ) (head : Head) where
@@ -39,7 +34,8 @@ module _ (file : List ℕ) (head : Head) where
       → length one ≡ length before → Capped before at (new_table file head ++ (metadata_of file head ++ new_data file head)) after next
   sections_laid before at {one} {two} {after} {p} {q} {next} t m d same = go (all_short file head kept) refl t where
     sum : length (new_table file head ++ (metadata_of file head ++ new_data file head)) ≡ length (new_table file head) + (length (metadata_of file head) + length (new_data file head))
-    sum = length-append (new_table file head) (metadata_of file head ++ new_data file head) ∙ ap (λ (n : ℕ). length (new_table file head) + n) (length-append (metadata_of file head) (new_data file head))
+    sum = length-append (new_table file head) (metadata_of file head ++ new_data file head)
+        ∙ ap (λ (n : ℕ). length (new_table file head) + n) (length-append (metadata_of file head) (new_data file head))
 
     go : (b : Bool) → all_short file head kept ≡ b → Tabled b before at (new_table file head) one p → Capped before at (new_table file head ++ (metadata_of file head ++ new_data file head)) after next
     go true is c = capped_then (new_table file head) (metadata_of file head ++ new_data file head) c (capped_then (metadata_of file head) (new_data file head) m d)
@@ -99,11 +95,6 @@ module _ (front table metadata bytes : List ℕ) where
     go true true false x y z = past (omega (arith, sum, ltb-false (length bytes) cap z))
 
 module _ (file : List ℕ) (head : Head) where
-  pub whole_refused : (r : Reply (List ℕ)) → r ≡ head_texts file head → (before after after' : List ℕ) (why : Refusal) → Inlined (behind (take 7 file) r) before 0 after (P.Refused why) →
-      Inlined (whole_of file head) before 0 after' (P.Refused why)
-  whole_refused (given bytes) e before after after' told i = absurd i
-  whole_refused (refused why) e before after after' told i = rw (← e) i
-
   pub whole_given : (r : Reply (List ℕ)) → r ≡ head_texts file head → (before : List ℕ) {one two after : List ℕ} {p q next : ℕ} → Inlined (behind (take 7 file) r) before 0 one (P.Place p)
       → Sizes (new_table file head) (metadata_of file head) (new_data file head) one p two q → Capped two q (new_table file head ++ (metadata_of file head ++ new_data file head)) after next
       → Inlined (whole_of file head) before 0 after (P.Place next)

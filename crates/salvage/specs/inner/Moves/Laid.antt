@@ -1,5 +1,6 @@
 -- Bytes that go into a lent output, counted with a cap: repeated runs can make a border longer than any number.
-use Rattle.numbers.specs.Prelude.{ℕ, ◌+◌, ◌^◌, ◌≤◌, ◌<◌, length, List, ◌≡◌}
+use Rattle.std.specs.Prelude.{◌+◌, ◌^◌, ◌≤◌, ◌<◌, ◌≡◌}
+use Rattle.numbers.specs.Prelude.{ℕ, length, List}
 use Rattle.numbers.specs.{Answer.{Answer, found, failed, refused, ◌>>=◌}, Varint.{told}, declared.{point.RawPoint.{RawPoint}, varint.Varint.{Varint}}}
 use Rattle.writer.specs.inner.Stored.{Stored}
 use Rattle.border.specs.declared.reader.Next.{Next}

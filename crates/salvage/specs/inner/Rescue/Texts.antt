@@ -1,5 +1,6 @@
 -- Names and notice, one by one, and what is written of them.
-use Rattle.numbers.specs.{Limits.{longest_text}, Prelude.{ℕ, leb, take, drop, Bool, List, ◌++◌, ◌≡◌}, Reply.{Reply, given, refused, plain, demand, ◌or_else◌, ◌>>=◌, ◌>>◌}, Spelling.{varint_of}}
+use Rattle.std.specs.Prelude.{◌++◌, ◌≡◌}
+use Rattle.numbers.specs.{Limits.{longest_text}, Prelude.{ℕ, leb, take, drop, Bool, List}, Reply.{Reply, given, refused, plain, demand, ◌or_else◌, ◌>>=◌, ◌>>◌}, Spelling.{varint_of}}
 use Rattle.header.specs.{Text.{string_at}, declared.text.Text.{Text}}
 use Rattle.salvage.specs.{declared.rescue.texts.Put.{Put}, inner.Moves.Laid.{Capped}}
 use Rattle.salvage.specs.declared.rescue.texts.Put.TheVariants as P

@@ -1,5 +1,6 @@
 -- The code's answer, as the reply of document 02, Q-7.
-use Rattle.numbers.specs.{Prelude.{ℕ, List, ◌≡◌}, Reply.{Reply, given, refused}}
+use Rattle.std.specs.Prelude.{◌≡◌}
+use Rattle.numbers.specs.{Prelude.{ℕ, List}, Reply.{Reply, given, refused}}
 use Rattle.salvage.specs.{Salvage.{Salvaged, Counts, Replied, replied_of}, declared.rescue.reply.Rescued.{Rescued}}
 use Rattle.salvage.specs.declared.rescue.reply.Rescued.TheVariants as R
 

@@ -1,5 +1,6 @@
 -- What becomes of an entry, and the list of dropped ones as it is stored.
-use Rattle.numbers.specs.{Answer.{Answer, found, failed}, Prelude.{ℕ, length, List, ◌≡◌}, Reply.{Reply, given, refused}}
+use Rattle.std.specs.Prelude.{◌≡◌}
+use Rattle.numbers.specs.{Answer.{Answer, found, failed}, Prelude.{ℕ, length, List}, Reply.{Reply, given, refused}}
 use Rattle.writer.specs.inner.Stored.{Stored}
 use Rattle.header.specs.declared.header.Head.{Head}
 use Rattle.salvage.specs.{Kept.{entry_good, kept_of, lines_from}, declared.rescue.lines.{Lines.{Lines}, Turn.{Turn}}}

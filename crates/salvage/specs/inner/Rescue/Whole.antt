@@ -1,5 +1,6 @@
 -- The new file, section by section.
-use Rattle.numbers.specs.{Prelude.{ℕ, ◌<◌, length, List, ◌++◌, flat_map, ◌≡◌}, Reply.{Reply, given, ◌>>=◌}, Spelling.{varint_of}}
+use Rattle.std.specs.Prelude.{◌<◌, ◌++◌, ◌≡◌}
+use Rattle.numbers.specs.{Prelude.{ℕ, length, List, flat_map}, Reply.{Reply, given, ◌>>=◌}, Spelling.{varint_of}}
 use Rattle.header.specs.declared.header.Head.{Head}
 use Rattle.salvage.specs.{File.{head_texts, border_bytes, table_from, new_file, Sized}, Kept.{kept_of}, inner.Moves.Laid.{cap, Capped}}
 use Rattle.table.specs.Rows.{rows_in}
