@@ -1,5 +1,6 @@
 -- Borders that are checked one after another, as they are lent. Assumes nothing.
-use Rattle.numbers.proofs.Prelude.{ℕ, suc, ◌+◌, ◌-◌, ◌*◌, ◌≤◌, ◌<◌, le-leb, leb-true, lt-leb, leb-false, tag_of, declared, leb, ℤ, length, take, drop, get_or, length-drop, drop_of_length-le, drop-cons}
+use Rattle.numbers.proofs.Prelude.{ℕ, suc, ◌+◌, ◌-◌, ◌*◌, ◌≤◌, ◌<◌, le-leb, leb-true, lt-leb, leb-false, tag_of, declared, leb, ℤ, length, take, drop, get_or, length-drop, drop_of_length-le}
+use Rattle.numbers.proofs.Prelude.{drop-cons}
 use Rattle.numbers.proofs.Prelude.{drop-drop, Bool, true, false, List, [], ◌∷◌, ◌≡◌, refl, sym, ap, ◌∙◌, arith}
 use Rattle.numbers.specs.{Answer.{if◌then◌else◌}, Reply.{Reply, given, refused, ◌>>◌}, declared.refusal.Refusal.{Refusal}}
 use Rattle.writer.specs.Writer.{checks}
@@ -134,7 +135,8 @@ module _ (yards : List ℕ) (lats lons : List ℤ) (lat lon i : ℕ) (c : Checki
           index = omega (arith, more);
           tall = begins_inside (length lats) lat (get_or yards i 0) c.tall lat' tall';
           wide = begins_inside (length lons) lon (get_or yards (i + 1) 0) c.wide lon' wide';
-          same = ap (λ (l : List ℤ). good_from (drop (i + 4) yards) l (drop lon' lons)) ys ∙ (ap (λ (l : List ℤ). good_from (drop (i + 4) yards) (drop (get_or yards i 0) (drop lat lats)) l) xs ∙ rest);
+          same = ap (λ (l : List ℤ). good_from (drop (i + 4) yards) l (drop lon' lons)) ys
+              ∙ (ap (λ (l : List ℤ). good_from (drop (i + 4) yards) (drop (get_or yards i 0) (drop lat lats)) l) xs ∙ rest);
         }
 
   pub check_ends : length yards - i < 4 → given tt ≡ good_from yards lats lons

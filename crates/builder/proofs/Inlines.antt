@@ -1,5 +1,6 @@
 -- Texts that go into the output one after another. Assumes nothing.
-use Rattle.numbers.proofs.Prelude.{ℕ, suc, ◌+◌, ◌-◌, ◌*◌, ◌^◌, ◌≤◌, ◌<◌, eq-eqb, ne_eqb, eqb, length, take, drop, get_or, length-append, length-drop, length-map, length-take-le, drop-cons, drop-length}
+use Rattle.numbers.proofs.Prelude.{ℕ, suc, ◌+◌, ◌-◌, ◌*◌, ◌^◌, ◌≤◌, ◌<◌, eq-eqb, ne_eqb, eqb, length, take, drop, get_or, length-append, length-drop, length-map, length-take-le, drop-cons}
+use Rattle.numbers.proofs.Prelude.{drop-length}
 use Rattle.numbers.proofs.Prelude.{drop-drop, Bool, true, false, List, [], ◌∷◌, ◌++◌, map, flat_map, ◌≡◌, refl, ap, subst, ◌∙◌, add-one, arith}
 use Rattle.numbers.{proofs.Spelling.{varint_few}, specs.{Answer.{if◌then◌else◌}, Spelling.{varint_of}}}
 use Rattle.writer.{proofs.Stores.{Left, left_all, left_step, left_none}, specs.inner.Stored.{Stored}}
@@ -53,8 +54,8 @@ module _ (bytes : ℕ → Text → List ℕ) where
     pub text_size : length (take (at + get_or lengths i 0 - at) (drop at texts)) ≡ get_or lengths i 0
     text_size = length-take-le (at + get_or lengths i 0 - at) (drop at texts) (omega (arith, text_in, length-drop at texts)) ∙ omega arith
 
-    pub text_room_lem : next + length (take (at + get_or lengths i 0 - at) (drop at texts)) < 2 ^ 61
-    text_room_lem = omega (arith, text_size, l.bound, sum_next lengths i more)
+    pub text_fits : next + length (take (at + get_or lengths i 0 - at) (drop at texts)) < 2 ^ 61
+    text_fits = omega (arith, text_size, l.bound, sum_next lengths i more)
 
     cuts : joined_from bytes i (cut_by (drop i lengths) (drop at texts)) ≡ bytes i (take (at + get_or lengths i 0 - at) (drop at texts)) ++ joined_from bytes (suc i)
         (cut_by (drop (suc i) lengths) (drop (at + get_or lengths i 0) texts))

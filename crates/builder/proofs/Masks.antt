@@ -46,6 +46,6 @@ module _ (text room stored : List ℕ) (next : ℕ) (s : Stored room 0 (map unma
   pub masked_size : length text ≡ length (take (length text) stored)
   masked_size = sym (ap length masked_front ∙ mapped)
 
-  pub is_text_lem : (r : Bool) → r ≡ is_utf8 (map unmasked (take (length text) stored)) → r ≡ is_text text
+  pub text_tested : (r : Bool) → r ≡ is_utf8 (map unmasked (take (length text) stored)) → r ≡ is_text text
   unfolding is_text
-  is_text_lem r e = e ∙ ap is_utf8 (ap (map unmasked) masked_front ∙ unmask_twice text) ∙ rw (le-leb (length text) 255 h) refl
+  text_tested r e = e ∙ ap is_utf8 (ap (map unmasked) masked_front ∙ unmask_twice text) ∙ rw (le-leb (length text) 255 h) refl

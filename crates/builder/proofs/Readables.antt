@@ -1,5 +1,5 @@
 -- Texts that are tested one after another. Assumes nothing.
-use Rattle.numbers.proofs.Prelude.{ℕ, suc, ◌+◌, ◌-◌, ◌≤◌, ◌<◌, le-leb, not-false, lt-leb, not-true, leb, length, take, drop, get_or, drop-cons, drop-length, drop-drop, Bool, true, false, ◌&&◌, not}
+use Rattle.numbers.proofs.Prelude.{ℕ, suc, ◌+◌, ◌-◌, ◌≤◌, ◌<◌, le-leb, lt-leb, leb, length, take, drop, get_or, drop-cons, drop-length, drop-drop, Bool, true, false, ◌&&◌}
 use Rattle.numbers.proofs.Prelude.{List, [], ◌∷◌, ◌≡◌, sym, ap, ◌∙◌, add-one, arith}
 use Rattle.writer.specs.Writer.{every}
 use Rattle.builder.specs.{File.{is_text, are_texts}, Yards.{cut_by, sum_of}}
@@ -35,14 +35,14 @@ module _ (lengths texts : List ℕ) (at i : ℕ) (t : Testing lengths texts at i
       let l : leb (at + sum_of (drop i lengths)) (length texts) ≡ false = lt-leb (at + sum_of (drop i lengths)) (length texts) (omega (arith, sum_next lengths i more, t.inside)) in
       let e : left lengths texts at i ≡ false = rw l in sym e ∙ t.same
 
-  pub test_bad : (r : Bool) → r ≡ is_text (take (at + get_or lengths i 0 - at) (drop at texts)) → not r ≡ true → false ≡ are_texts lengths texts
-  test_bad r is bad = let b : is_text (take (at + get_or lengths i 0 - at) (drop at texts)) ≡ false = sym is ∙ not-true r bad in
+  pub test_bad : (r : Bool) → r ≡ is_text (take (at + get_or lengths i 0 - at) (drop at texts)) → r ≡ false → false ≡ are_texts lengths texts
+  test_bad r is bad = let b : is_text (take (at + get_or lengths i 0 - at) (drop at texts)) ≡ false = sym is ∙ bad in
       let n : every is_text (cut_by (drop i lengths) (drop at texts)) ≡ false = cuts ∙ rw b in
       let e : left lengths texts at i ≡ false = rw n (and-false (leb (at + sum_of (drop i lengths)) (length texts))) in sym e ∙ t.same
 
-  pub test_good : (r : Bool) → r ≡ is_text (take (at + get_or lengths i 0 - at) (drop at texts)) → not r ≡ false → get_or lengths i 0 ≤ length texts - at
+  pub test_good : (r : Bool) → r ≡ is_text (take (at + get_or lengths i 0 - at) (drop at texts)) → r ≡ true → get_or lengths i 0 ≤ length texts - at
       → Testing lengths texts (at + get_or lengths i 0) (i + 1)
-  test_good r is good h = let b : is_text (take (at + get_or lengths i 0 - at) (drop at texts)) ≡ true = sym is ∙ not-false r good in
+  test_good r is good h = let b : is_text (take (at + get_or lengths i 0 - at) (drop at texts)) ≡ true = sym is ∙ good in
       let n : every is_text (cut_by (drop i lengths) (drop at texts)) ≡ every is_text (cut_by (drop (suc i) lengths) (drop (at + get_or lengths i 0) texts)) = cuts ∙ rw b in
       let s : at + sum_of (drop i lengths) ≡ at + get_or lengths i 0 + sum_of (drop (suc i) lengths) = omega (arith, sum_next lengths i more) in
       let e : left lengths texts at i ≡ left lengths texts (at + get_or lengths i 0) (suc i) = rw (s, n) in

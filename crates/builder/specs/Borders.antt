@@ -1,6 +1,7 @@
 -- The data section: "begins with one zero byte, for backward runs"; borders lie in order of arrival. 23 and 28 come yard by yard.
-use Rattle.numbers.specs.Prelude.{ℕ, ◌≤◌, ◌<◌, eqb, leb, length, take, Bool, not, List, [], ◌∷◌, ◌++◌, ◌≡◌}
-use Rattle.numbers.specs.{Answer.{if◌then◌else◌}, Reply.{Reply, given, refused, refusal, plain, demand, ◌>>=◌, ◌>>◌}}
+use Rattle.std.specs.Prelude.{◌≤◌, ◌<◌, ◌∷◌, ◌++◌, ◌≡◌, if◌then◌else◌}
+use Rattle.numbers.specs.Prelude.{ℕ, eqb, leb, length, take, Bool, not, List, []}
+use Rattle.numbers.specs.Reply.{Reply, given, refused, refusal, plain, demand, ◌>>=◌, ◌>>◌}
 use Rattle.writer.specs.Writer.{border_of}
 use Rattle.builder.specs.{Yards.{Yard}, declared.borders.Border.{Border}}
 use Rattle.builder.specs.declared.borders.Border.TheVariants as B

@@ -1,5 +1,6 @@
 -- The table: "boxes from the borders, entries sorted by lower latitude and then by order of arrival, polygon deltas modulo 2^32".
-use Rattle.numbers.specs.{Answer.{if◌then◌else◌}, Prelude.{ℕ, suc, ◌+◌, ◌-◌, ◌*◌, ◌%◌, ◌^◌, ℤ, pos, negsuc, ◌-ℤ◌, get_or, lt_z, List, [], ◌∷◌, ◌++◌}, Spelling.{varint_of, signed_form}}
+use Rattle.std.specs.Prelude.{if◌then◌else◌, ◌+◌, ◌-◌, ◌*◌, ◌%◌, ◌^◌, ◌-ℤ◌, ◌∷◌, ◌++◌}
+use Rattle.numbers.specs.{Prelude.{ℕ, suc, ℤ, pos, negsuc, get_or, lt_z, List, []}, Spelling.{varint_of, signed_form}}
 use Rattle.builder.specs.declared.{boxes.Bounds.{Bounds}, entry.Places.{Places}}
 use Rattle.layout.specs.Order.{sorted_by}
 
@@ -59,7 +60,12 @@ table_of entries = table_from 0 0 (sorted_by (λ e. from_south e.bounds.south) e
 
 -- ---- entries as they are kept while a file is built: four numbers and two words a yard, and sorted words whose lower halves are yards
 abbrev pub bounds_at : List ℤ → ℕ → Bounds
-bounds_at boxes yard = record { south = get_or boxes (4 * yard) (pos 0); west = get_or boxes (4 * yard + 1) (pos 0); north = get_or boxes (4 * yard + 2) (pos 0); east = get_or boxes (4 * yard + 3) (pos 0) }
+bounds_at boxes yard = record {
+  south = get_or boxes (4 * yard) (pos 0);
+  west = get_or boxes (4 * yard + 1) (pos 0);
+  north = get_or boxes (4 * yard + 2) (pos 0);
+  east = get_or boxes (4 * yard + 3) (pos 0);
+}
 
 abbrev pub places_at : List ℕ → ℕ → Places
 places_at places yard = record { «record» = get_or places (2 * yard) 0; border = get_or places (2 * yard + 1) 0 }

@@ -1,5 +1,6 @@
 -- A built file, and when building is refused: document 02, Q-4.
-use Rattle.numbers.specs.Prelude.{ℕ, ◌^◌, min, ltb, leb, length, Bool, ◌&&◌, List, [], ◌∷◌, ◌++◌, flat_map, zip_with}
+use Rattle.std.specs.Prelude.{◌^◌, ◌&&◌, ◌∷◌, ◌++◌}
+use Rattle.numbers.specs.Prelude.{ℕ, min, ltb, leb, length, Bool, List, [], flat_map, zip_with}
 use Rattle.numbers.specs.{Lists.{zeros, padded}, Reply.{Reply, given, refused, plain, demand, ◌>>=◌, ◌>>◌}, Spelling.{varint_of}}
 use Rattle.writer.specs.Writer.{every, checks}
 use Rattle.header.specs.{Header.{is_kind}, Utf8.{is_utf8}}

@@ -1,6 +1,7 @@
 -- The metadata section: "Yards with equal field values share one metadata record, others have their own. Records lie in order of arrival; a nonempty value
 -- found twice in the records is stored once, remotely, after them, by first use; of several layouts that fit, the shortest."
-use Rattle.numbers.specs.{Answer.{if◌then◌else◌}, Prelude.{ℕ, zero, suc, ◌+◌, ◌*◌, eqb, leb, length, get_or, Bool, ◌&&◌, not, List, [], ◌∷◌, ◌++◌, map, flat_map}, Spelling.{varint_of}}
+use Rattle.std.specs.Prelude.{if◌then◌else◌, ◌+◌, ◌*◌, ◌&&◌, ◌∷◌, ◌++◌}
+use Rattle.numbers.specs.{Prelude.{ℕ, zero, suc, eqb, leb, length, get_or, Bool, not, List, [], map, flat_map}, Spelling.{varint_of}}
 use Rattle.header.specs.Utf8.{unmasked}
 use Rattle.builder.specs.{Sharing.{same_text, same_texts, times_in, firsts, size_before, good_ones}, Yards.{Text, Yard}}
 

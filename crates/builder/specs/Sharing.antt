@@ -1,5 +1,6 @@
 -- What is found twice: equal texts, equal records, and the first of each. "Equal means the same texts, byte for byte, field by field."
-use Rattle.numbers.specs.{Answer.{if◌then◌else◌}, Prelude.{ℕ, ◌+◌, eqb, Bool, true, false, ◌&&◌, ◌||◌, List, [], ◌∷◌}}
+use Rattle.std.specs.Prelude.{if◌then◌else◌, ◌+◌, ◌&&◌, ◌||◌, ◌∷◌}
+use Rattle.numbers.specs.Prelude.{ℕ, eqb, Bool, true, false, List, []}
 use Rattle.builder.specs.Yards.{Text}
 
 -- two lists have the same items, in turn

@@ -1,5 +1,6 @@
 -- What a file is built of: document 02, Q-4, "from yards (borders with pieces, field values, names, notice, precision, type, version)".
-use Rattle.numbers.specs.{Answer.{if◌then◌else◌}, Prelude.{ℕ, ◌+◌, ◌-◌, ◌*◌, ◌/◌, eqb, ltb, leb, ℤ, length, take, drop, get_or, Bool, ◌&&◌, List, [], ◌∷◌}}
+use Rattle.std.specs.Prelude.{if◌then◌else◌, ◌+◌, ◌-◌, ◌*◌, ◌/◌, ◌&&◌, ◌∷◌}
+use Rattle.numbers.specs.Prelude.{ℕ, eqb, ltb, leb, ℤ, length, take, drop, get_or, Bool, List, []}
 use Rattle.writer.specs.{Pieces.{pieces_of}, Writer.{every}, declared.write.Piece.{Piece}}
 
 -- a text is its bytes

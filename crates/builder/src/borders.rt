@@ -10,7 +10,7 @@ use writer::write::{Written, write_border_words};
 // The data or the file does not fit the output, or 1 GiB.
 pub const OUTPUT_FULL: u8 = 28;
 
-#[derive(Drop)]
+#[derive(Clone, Copy)]
 pub enum Border {
     // How many bytes.
     Drawn(usize),

@@ -9,7 +9,7 @@ use crate::put::put_varint;
 use numbers::write::form_of;
 
 // Where a yard's record begins in the metadata section, and its border in the data section.
-#[derive(Drop)]
+#[derive(Clone, Copy)]
 pub struct Places {
     pub record: u32,
     pub border: u32,

@@ -7,7 +7,7 @@ use crate::put::put_bytes;
 use crate::texts::put_texts;
 
 // What a file is like: its type, version and precision, and how many names there are.
-#[derive(Drop)]
+#[derive(Clone, Copy)]
 pub struct Form {
     pub kind: u8,
     pub version: u8,

@@ -1,4 +1,6 @@
 // Files built from yards: document 02, Q-4.
+#![tactic(auto)]
+
 pub mod borders;
 pub mod boxes;
 pub mod counts;

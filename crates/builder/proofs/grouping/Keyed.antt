@@ -112,8 +112,8 @@ module _ (starts texts : List ℕ) (width : ℕ) where
     items : map item_of keys ≡ order_of (length keys)
     items = ap (map item_of) order ∙ items_are (length keys) few
 
-    item_at_lem : (i : ℕ) → item_of (get_or keys i 0) ≡ get_or (order_of (length keys)) i 0
-    item_at_lem i = sym (get_or-map item_of keys i 0) ∙ ap (λ (l : List ℕ). get_or l i 0) items
+    item_stands : (i : ℕ) → item_of (get_or keys i 0) ≡ get_or (order_of (length keys)) i 0
+    item_stands i = sym (get_or-map item_of keys i 0) ∙ ap (λ (l : List ℕ). get_or l i 0) items
 
     pub keys_rise : Rising key_of keys
     unfolding keys_of
@@ -125,7 +125,7 @@ module _ (starts texts : List ℕ) (width : ℕ) where
     hash_at : (i : ℕ) → i < length keys → key_of (get_or keys i 0) ≡ hash (item_of (get_or keys i 0))
     hash_at i h = let l : length (map key_of keys) ≡ length keys = length-map keys key_of in
         sym (get_or-map key_of keys i 0) ∙ ap (λ (l : List ℕ). get_or l i 0) (ap (map key_of) order ∙ keys_hashes (length keys) few) ∙ at_map hash
-        (order_of (length keys)) i (omega (arith, h, item_many)) ∙ ap hash (sym (item_at_lem i)) where
+        (order_of (length keys)) i (omega (arith, h, item_many)) ∙ ap hash (sym (item_stands i)) where
           at_map : (f : ℕ → ℕ) (xs : List ℕ) (i : ℕ) → i < length xs → get_or (map f xs) i 0 ≡ f (get_or xs i 0)
           at_map f [] i h = absurd (omega arith)
           at_map f (x ∷ xs) zero h = refl
@@ -134,7 +134,7 @@ module _ (starts texts : List ℕ) (width : ℕ) where
     pub members : Inside starts texts (length keys * width) → Members starts texts width keys
     members inside = record {
       inside = inside;
-      member = λ i h. rw (item_at_lem i) (below_at (length keys) (order_of (length keys)) (order_below (length keys)) i (omega (arith, h, item_many)));
+      member = λ i h. rw (item_stands i) (below_at (length keys) (order_of (length keys)) (order_below (length keys)) i (omega (arith, h, item_many)));
       keyed = hash_at;
     }
 

@@ -1,5 +1,6 @@
 -- How many items are the same, counted among those that have one hash. Assumes nothing.
-use Rattle.numbers.proofs.Prelude.{ℕ, zero, suc, ◌+◌, ◌^◌, ◌≤◌, ◌<◌, le-leb, lt-leb, eqb-false, eqb, leb, length, drop, get_or, length-drop, length-map, drop-cons, get_or-drop, Bool, true, false, List}
+use Rattle.numbers.proofs.Prelude.{ℕ, zero, suc, ◌+◌, ◌^◌, ◌≤◌, ◌<◌, le-leb, lt-leb, eqb-false, eqb, leb, length, drop, get_or, length-drop, length-map, drop-cons, get_or-drop, Bool, true, false}
+use Rattle.numbers.proofs.Prelude.{List}
 use Rattle.numbers.{proofs.{Prelude.{[], ◌∷◌, map, ◌≡◌, refl, sym, ap, ◌∙◌, add-one, arith}, Tests.{fails}}, specs.Answer.{if◌then◌else◌}}
 use Rattle.builder.specs.{Grouping.Keys.{numbers_from, item_of, hash_of, alike, keys_of, Lower, Members}, Sharing.{times_in}}
 use Rattle.layout.{proofs.Orders.{sorted_kept}, specs.Order.{key_of, sorted_by, Rising, kept_by}}

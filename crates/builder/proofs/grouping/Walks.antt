@@ -1,5 +1,5 @@
 -- Hashes and comparisons, byte by byte and text by text. Assumes nothing.
-use Rattle.numbers.proofs.Prelude.{ℕ, suc, ◌+◌, ◌-◌, ◌*◌, ◌≤◌, ◌<◌, eq-eqb, ne_eqb, not-false, not-true, eqb, length, drop, get_or, drop-cons, drop-length, Bool, true, false, ◌&&◌, not, List, [], ◌∷◌}
+use Rattle.numbers.proofs.Prelude.{ℕ, suc, ◌+◌, ◌-◌, ◌*◌, ◌≤◌, ◌<◌, eq-eqb, ne_eqb, eqb, length, drop, get_or, drop-cons, drop-length, Bool, true, false, ◌&&◌, List, [], ◌∷◌}
 use Rattle.numbers.proofs.Prelude.{◌≡◌, refl, sym, ap, ◌∙◌, suc-mul, mul-le-mul_right, add-one, arith}
 use Rattle.builder.specs.{Grouping.Items.{hash_byte, hash_text, hash_texts, text_at, item_at, Inside}, Sharing.{same_by, same_text, same_texts}}
 
@@ -112,13 +112,13 @@ module _ (starts texts : List ℕ) where
       unfolding same_by
       two = rw (item_next a width i h, item_next b width i h)
 
-      pub same_differs : (r : Bool) → r ≡ same_text (text_at starts texts (a + i)) (text_at starts texts (b + i)) → not r ≡ true →
+      pub same_differs : (r : Bool) → r ≡ same_text (text_at starts texts (a + i)) (text_at starts texts (b + i)) → r ≡ false →
           false ≡ same_texts (item_at starts texts a width) (item_at starts texts b width)
-      same_differs r e n = let f : same_text (text_at starts texts (a + i)) (text_at starts texts (b + i)) ≡ false = sym e ∙ not-true r n in
+      same_differs r e n = let f : same_text (text_at starts texts (a + i)) (text_at starts texts (b + i)) ≡ false = sym e ∙ n in
           sym (two ∙ rw f) ∙ c.same
 
-      pub same_goes : (r : Bool) → r ≡ same_text (text_at starts texts (a + i)) (text_at starts texts (b + i)) → not r ≡ false → ItemSame a b width (i + 1)
-      same_goes r e n = let f : same_text (text_at starts texts (a + i)) (text_at starts texts (b + i)) ≡ true = sym e ∙ not-false r n in
+      pub same_goes : (r : Bool) → r ≡ same_text (text_at starts texts (a + i)) (text_at starts texts (b + i)) → r ≡ true → ItemSame a b width (i + 1)
+      same_goes r e n = let f : same_text (text_at starts texts (a + i)) (text_at starts texts (b + i)) ≡ true = sym e ∙ n in
           record { index = omega arith; same = sym (two ∙ rw f) ∙ c.same }
 
     pub same_ends : width ≤ i → true ≡ same_texts (item_at starts texts a width) (item_at starts texts b width)

@@ -1,5 +1,6 @@
 -- Items: so many texts in a row, by where each text of a list begins. A text alone is an item of one, a record one of as many as there are names.
-use Rattle.numbers.specs.Prelude.{ℕ, zero, suc, ◌+◌, ◌-◌, ◌*◌, ◌%◌, ◌^◌, ◌≤◌, ◌<◌, length, take, drop, get_or, List, [], ◌∷◌}
+use Rattle.std.specs.Prelude.{◌+◌, ◌-◌, ◌*◌, ◌%◌, ◌^◌, ◌≤◌, ◌<◌, ◌∷◌}
+use Rattle.numbers.specs.Prelude.{ℕ, zero, suc, length, take, drop, get_or, List, []}
 use Rattle.builder.specs.Yards.{Text}
 
 -- a hash: any function of the bytes would do

@@ -1,5 +1,6 @@
 -- Items in the order of their hashes, and the first of those that are the same.
-use Rattle.numbers.specs.{Lists.{zeros}, Prelude.{ℕ, zero, suc, ◌+◌, ◌*◌, ◌%◌, ◌^◌, ◌≤◌, ◌<◌, length, get_or, Bool, List, [], ◌∷◌, map, ◌≡◌}}
+use Rattle.std.specs.Prelude.{◌+◌, ◌*◌, ◌%◌, ◌^◌, ◌≤◌, ◌<◌, ◌∷◌, ◌≡◌}
+use Rattle.numbers.specs.{Lists.{zeros}, Prelude.{ℕ, zero, suc, length, get_or, Bool, List, [], map}}
 use Rattle.builder.specs.{Grouping.Items.{item_at, hash_texts, Inside}, Sharing.{same_texts, first_with}}
 use Rattle.layout.specs.Order.{key_of, sorted_by}
 

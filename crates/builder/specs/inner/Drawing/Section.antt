@@ -1,5 +1,6 @@
 -- What the functions that draw the data section say.
-use Rattle.numbers.specs.{Prelude.{ℕ, ◌+◌, ◌*◌, ◌≤◌, min, ltb, ℤ, length, take, set, List, [], ◌∷◌, ◌≡◌}, Reply.{Reply, given, refused}}
+use Rattle.std.specs.Prelude.{◌+◌, ◌*◌, ◌≤◌, ◌∷◌, ◌≡◌}
+use Rattle.numbers.specs.{Prelude.{ℕ, min, ltb, ℤ, length, take, set, List, []}, Reply.{Reply, given, refused}}
 use Rattle.writer.specs.{Pieces.{pieces_of}, Writer.{border_of}}
 use Rattle.builder.specs.{Borders.{Drawn, appended}, Yards.{part_of}, declared.borders.Border.{Border}}
 use Rattle.builder.specs.declared.borders.Border.TheVariants as B
