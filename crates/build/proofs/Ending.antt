@@ -3,9 +3,11 @@ use Rattle.numbers.proofs.{Lists.{zeros_drop}, Prelude.{ℕ, ◌+◌, ◌*◌, �
 use Rattle.numbers.{proofs.{Prelude.{◌&&◌, List, [], ◌∷◌, ◌++◌, ◌≡◌, refl, sym, ap, subst, ◌∙◌, arith}, Replies.{demanded, given_from}, Tests.{both}}, specs.{Lists.{padded, zeros}, Reply.{Reply}}}
 use Rattle.numbers.specs.{Reply.{given, refused, plain, demand, ◌>>=◌, ◌>>◌}, declared.refusal.Refusal.{Refusal}}
 use Rattle.writer.{proofs.Stores.{stored_front}, specs.{Writer.{border_of, every}, inner.Stored.{Stored}}}
-use Rattle.builder.{proofs.{Counting.{counted_is, readable_is, values_many, yards_many}, drawing.Sections.{appended_fits, drawn_alone}}, specs.Borders.{Drawn, drawn_from, drawn_of, passed, with_border}}
+use Rattle.builder.proofs.{Counting.{counted_is, readable_is, values_many, yards_many}, drawing.Sections.{appended_fits, drawn_alone}}
+use Rattle.builder.specs.Borders.{Drawn, drawn_from, drawn_of, passed, with_border}
 use Rattle.builder.specs.File.{Room, are_texts, borders_good, built_of, counted, file_of, fitted, known, readable, up_to}
-use Rattle.builder.specs.{Yards.{Lent, Plan, Yard, counted_lengths, counts_good, cut_by, lengths_good, plan_of, values_from, yards_from}, declared.borders.Border.{Border}, inner.Drawing.Section.{DrawsAll}}
+use Rattle.builder.specs.{Yards.{Lent, Plan, Yard, counted_lengths, counts_good, cut_by, lengths_good, plan_of, values_from, yards_from}, declared.borders.Border.{Border}}
+use Rattle.builder.specs.inner.Drawing.Section.{DrawsAll}
 use Rattle.build.proofs.entries.Tabled.{drawn_many}
 use Rattle.build.specs.{Checked.{checked, lent_as}, Room.{enough_for, need_of, room_of}, Whole.{Builds, told_built}, declared.{file.Built.{Built}, room.Work.{Work}}}
 use Rattle.build.specs.inner.Whole.{Drew, Fills, Good, Settles, Starts, ends_as, file_for}

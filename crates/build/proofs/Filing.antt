@@ -4,7 +4,7 @@ use Rattle.numbers.{proofs.{Prelude.{false, ◌&&◌, List, [], ◌∷◌, ◌++
 use Rattle.builder.{proofs.{Counting.{cut_many, lengths_room, yards_many, cut_take}, Inlines.{inlined_few}}, specs.Entries.{entry_of_word, table_from, table_of}}
 use Rattle.builder.specs.{File.{assembled, entry_of, file_of, head_from, head_of}, Grouping.Keys.{numbers_from}, Metadata.{inlined, is_remote, metadata_of, records_of, remotes}}
 use Rattle.builder.specs.{Sharing.{firsts_after, good_ones, is_in, same_text, same_texts, firsts}, Yards.{Lent, Text, Yard, cut_by, plan_of, sum_of, yards_from}, inner.Drawing.Section.{spread}}
-use Rattle.build.proofs.{Planned.{all_lengths, few_names}, Slices.{texts_few, value_all, value_bound, value_few, value_whole, plan_values, told, sums}, entries.Tabled.{begins_are, table_of_lem}}
+use Rattle.build.proofs.{Planned.{all_lengths, few_names}, Slices.{texts_few, value_all, value_bound, value_few, value_whole, plan_values, told, sums}, entries.Tabled.{begins_are, table_stands}}
 use Rattle.build.proofs.recording.{Fewer.{fields_few, fields_short, layout_few}, Spreading.{spread_size}}
 use Rattle.build.proofs.recording.Written.{recorded_few, recorded_lengths, recorded_section, recorded_size, recorded_texts, recorded_words}
 use Rattle.build.specs.{Checked.{lent_as}, Entries.Corners.{InOrder}, Metadata.Kept.{begin_of, fields_to, joined, values_to}, Room.{enough, enough_for, need_of}, declared.room.Need.{Need}}
@@ -211,12 +211,13 @@ module _ (names : ℕ) (yards lengths texts : List ℕ) (need : Need) (work : Wo
           ∙ ap (λ (n : ℕ). head_from kind version precision n (take names cut ++ (get_or cut names [] ∷ []))) named
 
       table_is : (boxes boxes' : List ℤ) (keys spare spare' : List ℕ) → InOrder (yards_from yards lats lons [] []) boxes boxes' keys spare spare' → (drawn : List ℕ)
-          → Drew yards drawn before → work.places ≡ length before → table_from 0 0 (map (entry_of_word boxes' places) keys) ≡ table_of (zip_with (entry_of (plan_of lent).yards) (plan_of lent).yards drawn)
+          → Drew yards drawn before → work.places ≡ length before
+          → table_from 0 0 (map (entry_of_word boxes' places) keys) ≡ table_of (zip_with (entry_of (plan_of lent).yards) (plan_of lent).yards drawn)
       unfolding plan_of spread
       table_is boxes boxes' keys spare spare' o drawn d e =
           let all : length (plan_of lent).yards ≡ count = yards_many yards lats lons pieces (drop (names + 1) (cut_by lengths texts)) in
           let wide : length before ≡ length d.before = ap length d.stored ∙ spread_size 1 drawn d.before in
-          table_of_lem yards lats lons pieces (drop (names + 1) (cut_by lengths texts)) (plan_of lent).yards refl boxes boxes' keys spare spare' o d.before drawn
+          table_stands yards lats lons pieces (drop (names + 1) (cut_by lengths texts)) (plan_of lent).yards refl boxes boxes' keys spare spare' o d.before drawn
           [] (map (begin_of names values strings count) (numbers_from 0 count)) places (d.many ∙ sym all) (omega (arith, all, wide, e, reach.places))
           (begins_are (plan_of lent).yards names values strings count valued) (own.placed ∙ ap (spread 0 (map (begin_of names values strings count) (numbers_from 0 count))) d.stored)
 

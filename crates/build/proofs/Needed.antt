@@ -1,5 +1,5 @@
 -- What a plan needs lies inside what is lent. Assumes nothing.
-use Rattle.numbers.proofs.Prelude.{ℕ, zero, suc, ◌+◌, ◌-◌, ◌*◌, ◌/◌, ◌^◌, ◌≤◌, ◌<◌, not-false, not-true, length, take, get_or, length-take-le, Bool, true, false, not, List, ◌≡◌, refl, sym, ap, subst}
+use Rattle.numbers.proofs.Prelude.{ℕ, zero, suc, ◌+◌, ◌-◌, ◌*◌, ◌/◌, ◌^◌, ◌≤◌, ◌<◌, length, take, get_or, length-take-le, Bool, true, false, List, ◌≡◌, refl, sym, ap, subst}
 use Rattle.numbers.{proofs.Prelude.{◌∙◌, arith}, specs.{Lists.{zeros}, declared.refusal.Refusal.{Refusal}}}
 use Rattle.writer.specs.inner.Stored.{Stored}
 use Rattle.builder.{proofs.Counting.{lengths_room}, specs.Yards.{sum_of}}
@@ -84,12 +84,12 @@ unfolding Settles
 settle_refused b why e before after z = subst (λ (x : Built). Settles x before after (W.Refused why)) (sym e) (refl, z)
 
 -- ---- whether there is room
-pub lacks : (work : Work) (names words : ℕ) (lengths : List ℕ) (need : Need) → need ≡ need_of names words lengths → (b : Bool) → b ≡ enough_for work need → not b ≡ true →
+pub lacks : (work : Work) (names words : ℕ) (lengths : List ℕ) (need : Need) → need ≡ need_of names words lengths → (b : Bool) → b ≡ enough_for work need → b ≡ false →
     enough_for work (need_of names words lengths) ≡ false
-lacks work names words lengths need is b e n = ap (enough_for work) (sym is) ∙ (sym e ∙ not-true b n)
+lacks work names words lengths need is b e n = ap (enough_for work) (sym is) ∙ (sym e ∙ n)
 
-pub holds : (work : Work) (need : Need) (b : Bool) → b ≡ enough_for work need → not b ≡ false → enough_for work need ≡ true
-holds work need b e n = sym e ∙ not-false b n
+pub holds : (work : Work) (need : Need) (b : Bool) → b ≡ enough_for work need → b ≡ true → enough_for work need ≡ true
+holds work need b e n = sym e ∙ n
 
 pub zero_first : (n : ℕ) (list : List ℕ) → list ≡ zeros n → get_or list 0 0 ≡ 0
 zero_first n list e = ap (λ (l : List ℕ). get_or l 0 0) e ∙ first n where
@@ -97,6 +97,6 @@ zero_first n list e = ap (λ (l : List ℕ). get_or l 0 0) e ∙ first n where
   first zero = refl
   first (suc n) = refl
 
-pub enough_is : (work : Work) (names words : ℕ) (lengths : List ℕ) (need : Need) → need ≡ need_of names words lengths → (b : Bool) → b ≡ enough_for work need → not b ≡ false →
+pub enough_is : (work : Work) (names words : ℕ) (lengths : List ℕ) (need : Need) → need ≡ need_of names words lengths → (b : Bool) → b ≡ enough_for work need → b ≡ true →
     enough_for work (need_of names words lengths) ≡ true
-enough_is work names words lengths need is b e n = ap (enough_for work) (sym is) ∙ (sym e ∙ not-false b n)
+enough_is work names words lengths need is b e n = ap (enough_for work) (sym is) ∙ (sym e ∙ n)

@@ -1,5 +1,5 @@
 -- The checks of a plan, by those of what is lent. Assumes nothing.
-use Rattle.numbers.proofs.Prelude.{ℕ, ◌+◌, ◌*◌, ◌/◌, ◌≤◌, leb-true, not-false, not-true, eqb, ltb, leb, ℤ, length, take, drop, Bool, true, false, ◌&&◌, not, List, [], ◌≡◌, sym, ap, ◌∙◌}
+use Rattle.numbers.proofs.Prelude.{ℕ, ◌+◌, ◌*◌, ◌/◌, ◌≤◌, leb-true, eqb, ltb, leb, ℤ, length, take, drop, Bool, true, false, ◌&&◌, List, [], ◌≡◌, sym, ap, ◌∙◌}
 use Rattle.numbers.{proofs.Tests.{both}, specs.{Reply.{Reply, given, plain, demand, ◌>>◌}, declared.refusal.Refusal.{Refusal}}}
 use Rattle.writer.specs.Writer.{every}
 use Rattle.builder.{proofs.{Checking.{borders_alone}, Counting.{counted_is, readable_is, values_many}}, specs.{Borders.{passed}, File.{borders_good, counted, readable, known, are_texts}}}
@@ -57,34 +57,34 @@ module _ (kind version precision names : ℕ) (yards : List ℕ) (lats lons : Li
         counted_by : counted plan ≡ b
         counted_by = counted_is lent ∙ sym counts
 
-        pub counts_bad : not b ≡ true → (s : Border) → s ≡ B.Refused (plain 25) → passed s ≡ checked plan
+        pub counts_bad : b ≡ false → (s : Border) → s ≡ B.Refused (plain 25) → passed s ≡ checked plan
         counts_bad n s e = ap passed e ∙
-            sym (past_borders ∙ ap (λ (x : Bool). demand x (plain 25) >> (demand (readable plan) (plain 26) >> demand (known plan) (plain 27))) (counted_by ∙ not-true b n))
+            sym (past_borders ∙ ap (λ (x : Bool). demand x (plain 25) >> (demand (readable plan) (plain 26) >> demand (known plan) (plain 27))) (counted_by ∙ n))
 
-        module _ (good : not b ≡ false) where
+        module _ (good : b ≡ true) where
           past_counts : checked plan ≡ (demand (readable plan) (plain 26) >> demand (known plan) (plain 27))
-          past_counts = past_borders ∙ ap (λ (x : Bool). demand x (plain 25) >> (demand (readable plan) (plain 26) >> demand (known plan) (plain 27))) (counted_by ∙ not-false b good)
+          past_counts = past_borders ∙ ap (λ (x : Bool). demand x (plain 25) >> (demand (readable plan) (plain 26) >> demand (known plan) (plain 27))) (counted_by ∙ good)
 
-          pub counts_good_lem : counts_good names yards (length lengths) ≡ true
-          counts_good_lem = sym counts ∙ not-false b good
+          pub counts_hold : counts_good names yards (length lengths) ≡ true
+          counts_hold = sym counts ∙ good
 
           module _ (t : Bool) (tested : t ≡ are_texts (take (names + 1 + names * (length yards / 4)) lengths) texts) where
             readable_by : readable plan ≡ t
             unfolding counted_lengths
             readable_by =
-                sym (readable_is lent counts_good_lem) ∙ (ap (λ (n : ℕ). are_texts (take (names + 1 + names * n) lengths) texts) (values_many yards) ∙ sym tested)
+                sym (readable_is lent counts_hold) ∙ (ap (λ (n : ℕ). are_texts (take (names + 1 + names * n) lengths) texts) (values_many yards) ∙ sym tested)
 
-            pub texts_bad : not t ≡ true → (s : Border) → s ≡ B.Refused (plain 26) → passed s ≡ checked plan
-            texts_bad n s e = ap passed e ∙ sym (past_counts ∙ ap (λ (x : Bool). demand x (plain 26) >> demand (known plan) (plain 27)) (readable_by ∙ not-true t n))
+            pub texts_bad : t ≡ false → (s : Border) → s ≡ B.Refused (plain 26) → passed s ≡ checked plan
+            texts_bad n s e = ap passed e ∙ sym (past_counts ∙ ap (λ (x : Bool). demand x (plain 26) >> demand (known plan) (plain 27)) (readable_by ∙ n))
 
-            module _ (fine : not t ≡ false) (k : Bool) (form : k ≡ ((leb 1 precision && leb precision 31) && (ltb version 2 && is_kind kind))) where
+            module _ (fine : t ≡ true) (k : Bool) (form : k ≡ ((leb 1 precision && leb precision 31) && (ltb version 2 && is_kind kind))) where
               past_texts : checked plan ≡ demand k (plain 27)
               unfolding known plan_of
               past_texts =
-                  past_counts ∙ (ap (λ (x : Bool). demand x (plain 26) >> demand (known plan) (plain 27)) (readable_by ∙ not-false t fine) ∙ ap (λ (x : Bool). demand x (plain 27)) (sym form))
+                  past_counts ∙ (ap (λ (x : Bool). demand x (plain 26) >> demand (known plan) (plain 27)) (readable_by ∙ fine) ∙ ap (λ (x : Bool). demand x (plain 27)) (sym form))
 
-              pub form_bad : not k ≡ true → (s : Border) → s ≡ B.Refused (plain 27) → passed s ≡ checked plan
-              form_bad n s e = ap passed e ∙ sym (past_texts ∙ ap (λ (x : Bool). demand x (plain 27)) (not-true k n))
+              pub form_bad : k ≡ false → (s : Border) → s ≡ B.Refused (plain 27) → passed s ≡ checked plan
+              form_bad n s e = ap passed e ∙ sym (past_texts ∙ ap (λ (x : Bool). demand x (plain 27)) n)
 
-              pub all_good : not k ≡ false → given tt ≡ checked plan
-              all_good n = sym (past_texts ∙ ap (λ (x : Bool). demand x (plain 27)) (not-false k n))
+              pub all_good : k ≡ true → given tt ≡ checked plan
+              all_good n = sym (past_texts ∙ ap (λ (x : Bool). demand x (plain 27)) n)

@@ -1,5 +1,6 @@
 -- How much room a build is lent, and how much a plan needs.
-use Rattle.numbers.specs.Prelude.{ℕ, ◌+◌, ◌-◌, ◌*◌, ◌/◌, ltb, leb, length, take, Bool, ◌&&◌, List}
+use Rattle.std.specs.Prelude.{◌+◌, ◌-◌, ◌*◌, ◌/◌, ◌&&◌}
+use Rattle.numbers.specs.Prelude.{ℕ, ltb, leb, length, take, Bool, List}
 use Rattle.builder.specs.{File.{Room}, Yards.{Lent, sum_of}}
 use Rattle.build.specs.declared.room.{Need.{Need}, Work.{Work}}
 

@@ -1,5 +1,6 @@
 -- What `build` replies, and what it leaves in all that was lent.
-use Rattle.numbers.specs.{Lists.{zeros}, Prelude.{ℕ, ℤ, pos, length, replicate, List, ◌≡◌}, Reply.{Reply, given, refused}}
+use Rattle.std.specs.Prelude.{◌≡◌}
+use Rattle.numbers.specs.{Lists.{zeros}, Prelude.{ℕ, ℤ, pos, length, replicate, List}, Reply.{Reply, given, refused}}
 use Rattle.builder.specs.{File.{Room, built_of, fitted}, Yards.{Lent, plan_of}}
 use Rattle.build.specs.declared.{file.Built.{Built}, room.Work.{Work}}
 use Rattle.build.specs.declared.file.Built.TheVariants as W

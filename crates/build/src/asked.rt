@@ -1,7 +1,7 @@
 // What a file is to be like.
 
 // Its type, version and precision, and how many names there are.
-#[derive(Drop)]
+#[derive(Clone, Copy)]
 pub struct Asked {
     pub kind: u8,
     pub version: u8,

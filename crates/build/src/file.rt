@@ -16,7 +16,7 @@ use header::field::zero;
 use header::zero::zero_words;
 use numbers::refusal::{Refusal, plain};
 
-#[derive(Drop)]
+#[derive(Clone, Copy)]
 pub enum Built {
     // How long the file is.
     Length(usize),

@@ -1,4 +1,6 @@
 // Files built from yards: document 02, Q-4.
+#![tactic(auto)]
+
 pub mod asked;
 pub mod checks;
 pub mod draw;

@@ -4,7 +4,7 @@ ghost use Rattle.builder.specs.{File.{up_to}, Yards.{sum_of}};
 ghost use Rattle.build.specs.Room.{enough, enough_for, need_of};
 
 // The lengths of the working lists.
-#[derive(Drop)]
+#[derive(Clone, Copy)]
 pub struct Work {
     pub starts: usize,
     pub keys: usize,
@@ -17,7 +17,7 @@ pub struct Work {
 }
 
 // How many yards there are; how many lengths the names and the notice have, and all texts; how many bytes they have.
-#[derive(Drop)]
+#[derive(Clone, Copy)]
 pub struct Need {
     pub count: usize,
     pub front: usize,

@@ -64,7 +64,7 @@ fn put_sections(
 ) -> usize
     requires { Sectioned records size words.now lengths.now texts.now × (place < 2 ^ 56) × (length keys.now ≤ 4096) × (length bytes.now ≤ 2 ^ 30) }
     ensures { Stored out.old place (table_from 0 0 (map (entry_of_word boxes.now places.now) keys.now)
-        ++ (section_from records words.now lengths.now texts.now ++ (λ x. x.now) bytes.entry)) out.new result }
+        ++ (section_from records words.now lengths.now texts.now ++ bytes.now)) out.new result }
 {
     let table = put_table(out, place, keys, boxes, places);
     let section = put_section(out, table, records, size, words, lengths, texts);

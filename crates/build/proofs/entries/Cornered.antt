@@ -7,7 +7,8 @@ use Rattle.build.specs.Entries.Corners.{corners_of}
 pub corners_alone : (ns : List ℕ) (ys xs : List ℤ) (w w' : List ℕ) (t t' : List Text) → corners_of (yards_from ns ys xs w t) ≡ corners_of (yards_from ns ys xs w' t')
 unfolding yards_from corners_of
 corners_alone (a ∷ b ∷ p ∷ v ∷ rest) ys xs w w' t t' =
-    ap (λ (l : List ℤ). (box_of (part_of a ys) (part_of b xs)).south ∷ (box_of (part_of a ys) (part_of b xs)).west ∷ (box_of (part_of a ys) (part_of b xs)).north ∷ (box_of (part_of a ys) (part_of b xs)).east ∷ l)
+    ap (λ (l : List ℤ). (box_of (part_of a ys) (part_of b xs)).south ∷ (box_of (part_of a ys) (part_of b xs)).west ∷ (box_of (part_of a ys) (part_of b xs)).north ∷ (box_of (part_of a ys)
+    (part_of b xs)).east ∷ l)
     (corners_alone rest (drop a ys) (drop b xs) (drop (5 * p) w) (drop (5 * p) w') (drop v t) (drop v t'))
 corners_alone (a ∷ b ∷ p ∷ []) ys xs w w' t t' = refl
 corners_alone (a ∷ b ∷ []) ys xs w w' t t' = refl

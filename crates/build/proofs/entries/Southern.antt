@@ -1,5 +1,6 @@
 -- A latitude counted from the south, and a yard's word. Assumes nothing.
-use Rattle.numbers.proofs.Prelude.{ℕ, suc, ◌+◌, ◌-◌, ◌*◌, ◌%◌, ◌^◌, ◌<◌, le-ltb, T, ℤ, pos, negsuc, ◌+ℤ◌, nat_abs, get_or, Bool, cond, List, ◌≡◌, refl, sym, ap, subst, ◌∙◌, w32, w64, SFits, of_z, to_z}
+use Rattle.numbers.proofs.Prelude.{ℕ, suc, ◌+◌, ◌-◌, ◌*◌, ◌%◌, ◌^◌, ◌<◌, le-ltb, T, ℤ, pos, negsuc, ◌+ℤ◌, nat_abs, get_or, Bool, cond, List, ◌≡◌, refl, sym, ap, subst, ◌∙◌, w32, w64, SFits, of_z}
+use Rattle.numbers.proofs.Prelude.{to_z}
 use Rattle.numbers.proofs.{Prelude.{arith}, write.Gaps.{widened}}
 use lib.Signed.{non_neg}
 use mir.Facts.{to_z-of_z}

@@ -1,7 +1,9 @@
 -- What is written over the lists that stand while a file is built is the definition's table. Assumes nothing.
-use Rattle.numbers.proofs.Prelude.{ℕ, suc, ◌+◌, ◌*◌, ◌%◌, ◌^◌, ◌≤◌, ◌<◌, ℤ, pos, length, drop, get_or, set, length-map, sets, drop-drop, get_or-drop, sets-eq, get_or-set_other, List, [], ◌∷◌, ◌++◌, map}
+use Rattle.numbers.proofs.Prelude.{ℕ, suc, ◌+◌, ◌*◌, ◌%◌, ◌^◌, ◌≤◌, ◌<◌, ℤ, pos, length, drop, get_or, set, length-map, sets, drop-drop, get_or-drop, sets-eq, get_or-set_other, List, [], ◌∷◌}
+use Rattle.numbers.proofs.Prelude.{◌++◌, map}
 use Rattle.numbers.{proofs.{Prelude.{zip_with, ◌≡◌, refl, sym, ap, ◌∙◌, arith}, Replies.{given_from}}, specs.Reply.{given}}
-use Rattle.builder.{proofs.Ordered.{table_is}, specs.{Borders.{Drawn, with_border, drawn_from}, Entries.{Entry, box_of, bounds_at, places_at, entry_at, entry_of_word, word_of_yard, table_from, table_of}}}
+use Rattle.builder.proofs.Ordered.{table_is}
+use Rattle.builder.specs.{Borders.{Drawn, with_border, drawn_from}, Entries.{Entry, box_of, bounds_at, places_at, entry_at, entry_of_word, word_of_yard, table_from, table_of}}
 use Rattle.builder.specs.{File.{entry_of}, Grouping.{Items.{starts_from, item_at}, Keys.{numbers_from}}, Metadata.{records_of, start_of}, Sharing.{same_texts, firsts}, Yards.{Text, Yard, yards_from}}
 use Rattle.builder.specs.{declared.boxes.Bounds.{Bounds}, inner.Drawing.Section.{spread}}
 use Rattle.layout.specs.Order.{key_of, sorted_by}
@@ -13,7 +15,8 @@ pub spread_odd : (i : ℕ) (ns list : List ℕ) (j : ℕ) → get_or (spread (2 
 unfolding spread
 spread_odd i [] list j = refl
 spread_odd i (n ∷ ns) list j = let next : 2 * i + 2 ≡ 2 * suc i = omega arith in
-    ap (λ (k : ℕ). get_or (spread k ns (set list (2 * i) n)) (2 * j + 1) 0) next ∙ (spread_odd (suc i) ns (set list (2 * i) n) j ∙ get_or-set_other list (2 * i) (2 * j + 1) n 0 (λ e. omega (arith, e)))
+    ap (λ (k : ℕ). get_or (spread k ns (set list (2 * i) n)) (2 * j + 1) 0) next ∙ (spread_odd (suc i) ns (set list (2 * i) n) j
+    ∙ get_or-set_other list (2 * i) (2 * j + 1) n 0 (λ e. omega (arith, e)))
 
 -- ---- the entries of the yards, one after another
 pub corners_size : (yards : List Yard) → length (corners_of yards) ≡ 4 * length yards
@@ -119,11 +122,11 @@ table_over yards boxes rest keys few laid order before drawn heads begins places
     ∙ (table_is boxes places (numbers_from 0 (length yards)) ∙ ap table_of (entries_from yards boxes places 0 yards drawn lies))
 
 -- the yards' boxes and words as they were put in order
-pub table_of_lem : (ns : List ℕ) (ys xs : List ℤ) (w : List ℕ) (t : List Text) (yards : List Yard) → yards ≡ yards_from ns ys xs w t
+pub table_stands : (ns : List ℕ) (ys xs : List ℤ) (w : List ℕ) (t : List Text) (yards : List Yard) → yards ≡ yards_from ns ys xs w t
     → (boxes boxes' : List ℤ) (keys spare spare' : List ℕ) → InOrder (yards_from ns ys xs [] []) boxes boxes' keys spare spare' → (before drawn heads begins places : List ℕ)
     → length drawn ≡ length yards → 2 * length yards ≤ length before → begins ≡ map (λ (y : Yard). start_of (records_of yards) y.values) yards
     → places ≡ spread 0 begins (spread 0 heads (spread 1 drawn before)) → table_from 0 0 (map (entry_of_word boxes' places) keys) ≡ table_of (zip_with (entry_of yards) yards drawn)
-table_of_lem ns ys xs w t yards is boxes boxes' keys spare spare' o before drawn heads begins places many room eb ep =
+table_stands ns ys xs w t yards is boxes boxes' keys spare spare' o before drawn heads begins places many room eb ep =
     let bare : List Yard = yards_from ns ys xs [] [] in
     let corners : corners_of bare ≡ corners_of yards = corners_alone ns ys xs [] w [] t ∙ ap corners_of (sym is) in
     let four : 4 * length bare ≡ 4 * length yards = sym (corners_size bare) ∙ (ap length corners ∙ corners_size yards) in

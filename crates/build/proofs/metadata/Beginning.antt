@@ -2,7 +2,8 @@
 use Rattle.numbers.proofs.Prelude.{ℕ, zero, suc, ◌+◌, ◌-◌, ◌*◌, ◌^◌, ◌≤◌, ◌<◌, length, take, drop, get_or, set, length-append, length-drop, length-map, length-set, length-take, take-take, true, false}
 use Rattle.numbers.proofs.Prelude.{List, [], ◌∷◌, ◌++◌, map, flat_map, ◌≡◌, refl, sym, ap, subst, ◌∙◌, suc-mul, add-one, arith}
 use Rattle.builder.proofs.{drawing.Sections.{spread_more}, grouping.{Keyed.{texts_equal}, Listed.{numbers_many}, Meant.{First, first_means, starts_inside, texts_itself}, Walks.{item_among}}}
-use Rattle.builder.{proofs.grouping.Walks.{fewer_inside}, specs.{Grouping.{Items.{starts_from, item_at, Inside}, Keys.{numbers_from, alike, first_of}}, Metadata.{fields_of, written, layout_of, start_of}}}
+use Rattle.builder.proofs.grouping.Walks.{fewer_inside}
+use Rattle.builder.specs.{Grouping.{Items.{starts_from, item_at, Inside}, Keys.{numbers_from, alike, first_of}}, Metadata.{fields_of, written, layout_of, start_of}}
 use Rattle.builder.specs.{Metadata.{joined_from, field_bytes}, Sharing.{same_texts, is_in, firsts_after, size_before, good_ones}, Yards.{Text, cut_by, sum_of}, inner.Drawing.Section.{spread}}
 use Rattle.build.proofs.metadata.Begun.{cut_join, record_written, numbers_split, spread_behind, spread_at, values_on, fields_new, fields_old, fields_there, fields_part}
 use Rattle.build.proofs.metadata.{Itemed.{map_take, map_drop, item_lengths, item_bytes, starts_climb}, Keeping.{starts_within}, Offsets.{total, used, new_place, total_old, total_new}}
@@ -200,7 +201,8 @@ module _ (names records count : ℕ) (words lengths texts starts before : List �
             (omega (arith, a, b), omega (arith, s, t), omega (arith, s, t, l, d, a, r.bound, here_to))
 
         size_as : (s : ℕ) → s ≡ length (joined_from (field_bytes records (take (field + names - field) (drop field words))) 0 (cut_by (take (yard * names + names - yard * names)
-            (drop (yard * names) lengths)) (take (get_or starts (yard * names + names) 0 - get_or starts (yard * names) 0) (drop (get_or starts (yard * names) 0) texts)))) → s ≡ size_in all (item yard)
+            (drop (yard * names) lengths)) (take (get_or starts (yard * names + names) 0 - get_or starts (yard * names) 0) (drop (get_or starts (yard * names) 0) texts))))
+            → s ≡ size_in all (item yard)
         size_as s e =
             e ∙ (ap (λ (w : List ℕ). length (joined_from (field_bytes records w) 0 (cut_by (take (yard * names + names - yard * names) (drop (yard * names) lengths))
             (take (get_or starts (yard * names + names) 0 - get_or starts (yard * names) 0) (drop (get_or starts (yard * names) 0) texts))))) words_part

@@ -3,7 +3,8 @@ use Rattle.numbers.proofs.Prelude.{ℕ, zero, suc, ◌+◌, ◌-◌, ◌*◌, �
 use Rattle.numbers.proofs.Prelude.{drop-append_seam, Bool, true, false, List, [], ◌∷◌, ◌++◌, map, append_assoc, append-nil, flat_map, ◌≡◌, refl, sym, ap, ◌∙◌, add-one, arith}
 use Rattle.numbers.specs.{Answer.{if◌then◌else◌}, Spelling.{varint_of}}
 use lib.Seq.{get_or-append_seam}
-use Rattle.builder.{proofs.grouping.Keyed.{texts_equal}, specs.{Grouping.{Items.{starts_from, item_at}, Keys.{numbers_from}}, Metadata.{inlined, fields_of, is_remote, offset_of, written, joined_from}}}
+use Rattle.builder.proofs.grouping.Keyed.{texts_equal}
+use Rattle.builder.specs.{Grouping.{Items.{starts_from, item_at}, Keys.{numbers_from}}, Metadata.{inlined, fields_of, is_remote, offset_of, written, joined_from}}
 use Rattle.builder.specs.{Metadata.{word_bytes, field_bytes}, Sharing.{same_texts, is_in, firsts_after}, Yards.{Text, cut_by}, inner.Drawing.Section.{spread}}
 use Rattle.build.proofs.metadata.Shared.{numbers_more, map_more, fields_more, fields_one, firsts_new, firsts_old}
 use Rattle.build.specs.{Metadata.Kept.{values_to, fields_to, joined}, inner.Metadata.Words.{word_in}}
@@ -38,7 +39,8 @@ joined_written fields records front (t ∷ ts) =
     ap (λ (w : ℕ). word_bytes records w t ++ joined_from (field_bytes records (front ++ word_in fields t ∷ map (word_in fields) ts)) (suc (length front)) ts) here
     ∙ (ap (λ (l : List ℕ). l ++ joined_from (field_bytes records (front ++ word_in fields t ∷ map (word_in fields) ts)) (suc (length front)) ts) (field_written fields records t)
     ∙ ap (λ (l : List ℕ). written fields records t ++ l) (ap (λ (ws : List ℕ). joined_from (field_bytes records ws) (suc (length front)) ts) shift
-    ∙ (ap (λ (n : ℕ). joined_from (field_bytes records ((front ++ (word_in fields t ∷ [])) ++ map (word_in fields) ts)) n ts) next ∙ joined_written fields records (front ++ (word_in fields t ∷ [])) ts)))
+    ∙ (ap (λ (n : ℕ). joined_from (field_bytes records ((front ++ (word_in fields t ∷ [])) ++ map (word_in fields) ts)) n ts) next
+    ∙ joined_written fields records (front ++ (word_in fields t ∷ [])) ts)))
 
 pub record_written : (fields : List Text) (records : ℕ) (ts : List Text) → joined_from (field_bytes records (map (word_in fields) ts)) 0 ts ≡ flat_map (written fields records) ts
 record_written fields records ts = joined_written fields records [] ts

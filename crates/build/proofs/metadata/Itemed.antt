@@ -1,5 +1,6 @@
 -- An item's lengths and bytes are parts of the lent lists. Assumes nothing.
-use Rattle.numbers.proofs.Prelude.{ℕ, zero, suc, ◌+◌, ◌-◌, ◌≤◌, ◌<◌, length, take, drop, get_or, length-drop, length-take-le, drop-drop, take-add, List, [], ◌∷◌, ◌++◌, map, flat_map, ◌≡◌, refl, sym, ap}
+use Rattle.numbers.proofs.Prelude.{ℕ, zero, suc, ◌+◌, ◌-◌, ◌≤◌, ◌<◌, length, take, drop, get_or, length-drop, length-take-le, drop-drop, take-add, List, [], ◌∷◌, ◌++◌, map, flat_map, ◌≡◌, refl}
+use Rattle.numbers.proofs.Prelude.{sym, ap}
 use Rattle.numbers.proofs.Prelude.{◌∙◌, add-one, arith}
 use Rattle.builder.{proofs.grouping.{Meant.{item_part}, Walks.{fewer_inside}}, specs.{Grouping.Items.{starts_from, text_at, item_at, Inside}, Yards.{Text, cut_by, sum_of}}}
 use Rattle.build.specs.Metadata.Kept.{joined}
@@ -39,7 +40,8 @@ module _ (starts texts : List ℕ) where
   starts_most zero c h = absurd (omega arith)
   starts_most (suc at) c h = rw (sym (add-one at)) (c.most at (omega arith))
 
-  pub item_bytes : (at width : ℕ) → Inside starts texts (at + width) → joined (item_at starts texts at width) ≡ take (get_or starts (at + width) 0 - get_or starts at 0) (drop (get_or starts at 0) texts)
+  pub item_bytes : (at width : ℕ) → Inside starts texts (at + width)
+      → joined (item_at starts texts at width) ≡ take (get_or starts (at + width) 0 - get_or starts at 0) (drop (get_or starts at 0) texts)
   unfolding item_at flat_map text_at
   item_bytes at zero c = let e : at + 0 ≡ at = omega arith in
       let z : get_or starts (at + 0) 0 - get_or starts at 0 ≡ 0 = let f : get_or starts (at + 0) 0 ≡ get_or starts at 0 = ap (λ (n : ℕ). get_or starts n 0) e in omega (arith, f) in

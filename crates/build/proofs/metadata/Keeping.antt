@@ -1,5 +1,6 @@
 -- The records' lengths and texts, yard by yard. Assumes nothing.
-use Rattle.numbers.proofs.Prelude.{ℕ, zero, suc, ◌+◌, ◌-◌, ◌*◌, ◌^◌, ◌≤◌, ◌<◌, length, take, drop, get_or, set, length-map, length-set, length-take, true, false, List, [], ◌∷◌, ◌++◌, map, flat_map, ◌≡◌}
+use Rattle.numbers.proofs.Prelude.{ℕ, zero, suc, ◌+◌, ◌-◌, ◌*◌, ◌^◌, ◌≤◌, ◌<◌, length, take, drop, get_or, set, length-map, length-set, length-take, true, false, List, [], ◌∷◌, ◌++◌, map}
+use Rattle.numbers.proofs.Prelude.{flat_map, ◌≡◌}
 use Rattle.numbers.proofs.Prelude.{refl, sym, ap, subst, ◌∙◌, suc-mul, add-one, arith}
 use Rattle.writer.{proofs.Stores.{stored_then}, specs.inner.Stored.{Stored}}
 use Rattle.builder.proofs.{drawing.Sections.{spread_more}, grouping.{Keyed.{texts_equal}, Listed.{numbers_many}, Meant.{First, first_means, starts_inside}, Walks.{item_among, fewer_inside}}}
@@ -113,7 +114,8 @@ module _ (names count : ℕ) (lengths texts before kept₀ held₀ : List ℕ) (
 
       -- a yard with a record of its own
       pub keep_new : r ≡ yard → (kept' : List ℕ) (sizes' : ℕ) → Stored kept sizes (take (yard * names + names - yard * names) (drop (yard * names) lengths)) kept' sizes'
-          → (held' : List ℕ) (bytes' : ℕ) → Stored held bytes (take (get_or starts (yard * names + names) 0 - get_or starts (yard * names) 0) (drop (get_or starts (yard * names) 0) texts)) held' bytes'
+          → (held' : List ℕ) (bytes' : ℕ) → Stored held bytes (take (get_or starts (yard * names + names) 0 - get_or starts (yard * names) 0) (drop (get_or starts (yard * names) 0) texts))
+          held' bytes'
           → Keeping names count lengths texts before kept₀ held₀ (set places (2 * yard) r) kept' held' sizes' bytes' (yard + 1)
       unfolding alike values_to
       keep_new own kept' sizes' s held' bytes' t =
@@ -205,7 +207,8 @@ module _ (names : ℕ) (lengths texts starts keys before kept₀ held₀ : List 
       lent_old = keep_old names (length keys) lengths texts before kept₀ held₀ total all places kept held sizes bytes yard c h r is'
 
       pub lent_new : r ≡ yard → (kept' : List ℕ) (sizes' : ℕ) → Stored kept sizes (take (yard * names + names - yard * names) (drop (yard * names) lengths)) kept' sizes'
-          → (held' : List ℕ) (bytes' : ℕ) → Stored held bytes (take (get_or starts (yard * names + names) 0 - get_or starts (yard * names) 0) (drop (get_or starts (yard * names) 0) texts)) held' bytes'
+          → (held' : List ℕ) (bytes' : ℕ) → Stored held bytes (take (get_or starts (yard * names + names) 0 - get_or starts (yard * names) 0) (drop (get_or starts (yard * names) 0) texts))
+          held' bytes'
           → Keeping names (length keys) lengths texts before kept₀ held₀ (set places (2 * yard) r) kept' held' sizes' bytes' (yard + 1)
       lent_new mine kept' sizes' s held' bytes' t =
           keep_new names (length keys) lengths texts before kept₀ held₀ total all places kept held sizes bytes yard c h r is' mine kept' sizes' s held' bytes'

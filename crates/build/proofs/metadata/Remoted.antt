@@ -1,5 +1,6 @@
 -- The texts behind the records, field by field. Assumes nothing.
-use Rattle.numbers.proofs.Prelude.{ℕ, suc, ◌+◌, ◌-◌, ◌*◌, ◌^◌, ◌≤◌, ◌<◌, length, take, drop, get_or, length-take, drop-cons, drop-drop, take_all, get_or-take, take-suc, Bool, true, false, List, [], ◌∷◌}
+use Rattle.numbers.proofs.Prelude.{ℕ, suc, ◌+◌, ◌-◌, ◌*◌, ◌^◌, ◌≤◌, ◌<◌, length, take, drop, get_or, length-take, drop-cons, drop-drop, take_all, get_or-take, take-suc, Bool, true, false, List}
+use Rattle.numbers.proofs.Prelude.{[], ◌∷◌}
 use Rattle.numbers.proofs.Prelude.{◌++◌, map, append-nil, flat_map, ◌≡◌, refl, sym, ap, subst, ◌∙◌, add-one, arith}
 use Rattle.writer.{proofs.Stores.{stored_then}, specs.inner.Stored.{Stored}}
 use Rattle.builder.{proofs.{Inlines.{inlined_few}, Sums.{sum_next}, grouping.{Keyed.{text_equal}, Meant.{text_itself}}}, specs.Metadata.{inlined, is_remote, remotes, offset_of}}
@@ -50,8 +51,8 @@ module _ (lengths texts words : List ℕ) (sum : sum_of lengths ≤ length texts
     here = let e : at + get_or lengths i 0 - at ≡ get_or lengths i 0 = omega arith in
         ap (λ (n : ℕ). take n (drop at texts)) e ∙ ap (λ (l : List Text). get_or l 0 []) parts
 
-    pub text_room_lem : next + length (take (at + get_or lengths i 0 - at) (drop at texts)) < 2 ^ 61
-    text_room_lem = let e : at + get_or lengths i 0 - at ≡ get_or lengths i 0 = omega arith in
+    pub text_fits : next + length (take (at + get_or lengths i 0 - at) (drop at texts)) < 2 ^ 61
+    text_fits = let e : at + get_or lengths i 0 - at ≡ get_or lengths i 0 = omega arith in
         let l : length (take (get_or lengths i 0) (drop at texts)) ≤ get_or lengths i 0 = omega (arith, length-take (get_or lengths i 0) (drop at texts)) in
         let f : length (take (at + get_or lengths i 0 - at) (drop at texts)) ≡ length (take (get_or lengths i 0) (drop at texts)) = ap (λ (n : ℕ). length (take n (drop at texts))) e in
         omega (arith, c.bound, sum_next lengths i h, l, f)
@@ -101,7 +102,8 @@ module _ (lengths texts words : List ℕ) (sum : sum_of lengths ≤ length texts
       go true f false g = let t : Stored out next (inlined (field i)) out' next' = subst (λ (x : Text). Stored out next (inlined x) out' next') here s in
           let more : flat_map inlined (used_to (i + 1)) ≡ flat_map inlined (used_to i) ++ inlined (field i) = ap (λ (l : List Text). flat_map inlined (firsts_after
           same_text [] (good_ones (is_remote fields) l))) snoc ∙ (ap (flat_map inlined) (used_first same_text text_equal text_itself (is_remote fields)
-          (λ (x : Text). length (inlined x)) (take i fields) (field i) f g) ∙ (flat_more inlined (used_to i) (field i ∷ []) ∙ ap (λ (l : List ℕ). flat_map inlined (used_to i) ++ l) (one (field i)))) in
+          (λ (x : Text). length (inlined x)) (take i fields) (field i) f g) ∙ (flat_more inlined (used_to i) (field i ∷ [])
+          ∙ ap (λ (l : List ℕ). flat_map inlined (used_to i) ++ l) (one (field i)))) in
           let few : length (field i) ≤ get_or lengths i 0 = let l = length-take (at + get_or lengths i 0 - at) (drop at texts) in let q = ap length here in omega (arith, l, q) in
           on out' next' (subst (λ (l : List ℕ). Stored out₀ place l out' next') (sym more) (stored_then (flat_map inlined (used_to i)) (inlined (field i)) c.stored t))
           (omega (arith, t.place_after, inlined_few (field i), few))

@@ -1,6 +1,7 @@
 -- The words of the fields, field by field. Assumes nothing.
 use Rattle.numbers.proofs.Prelude.{ℕ, zero, suc, ◌+◌, ◌*◌, ◌^◌, ◌≤◌, ◌<◌, eq-eqb, ne_eqb, eqb-true, eqb, leb, length, take, drop, get_or, set, length-append, length-map, length-set, take-append-drop}
-use Rattle.numbers.proofs.Prelude.{length-take-le, drop-cons, take_all, get_or-take, take-suc, take-suc-set, Bool, true, false, ◌&&◌, not, List, [], ◌∷◌, ◌++◌, map, flat_map, ◌≡◌, refl, sym, ap, subst}
+use Rattle.numbers.proofs.Prelude.{length-take-le, drop-cons, take_all, get_or-take, take-suc, take-suc-set, Bool, true, false, ◌&&◌, not, List, [], ◌∷◌, ◌++◌, map, flat_map, ◌≡◌, refl, sym, ap}
+use Rattle.numbers.proofs.Prelude.{subst}
 use Rattle.numbers.{proofs.{Prelude.{◌∙◌, add-one, arith}, Spelling.{varint_few}}, specs.{Answer.{if◌then◌else◌}, Spelling.{varint_of}}}
 use lib.Seq.{split_at}
 use Rattle.builder.proofs.{Counting.{cut_many}, Sums.{sum_next}, grouping.{Keyed.{text_equal}, Meant.{First, first_means, text_is, text_itself, starts_inside}}}

@@ -2,7 +2,8 @@
 use Rattle.numbers.proofs.Prelude.{ℕ, zero, suc, ◌+◌, ◌*◌, ◌≤◌, ◌<◌, length, take, drop, length-append, drop-drop, take_all, take-add, Bool, true, false, List, [], ◌∷◌, ◌++◌, map, flat_map, ◌≡◌, refl}
 use Rattle.numbers.{proofs.Prelude.{sym, ap, ◌∙◌, suc-mul, arith}, specs.Answer.{if◌then◌else◌}}
 use Rattle.builder.proofs.{Counting.{cut_many}, Inlines.{word_few}, Shortest.{records_size, layout_least}, grouping.{Meant.{item_part}, Walks.{item_among}}}
-use Rattle.builder.specs.{Grouping.{Items.{starts_from, item_at}, Keys.{numbers_from}}, Metadata.{fields_of, written, layout_of}, Sharing.{is_in, firsts_after, same_texts}, Yards.{Text, cut_by, sum_of}}
+use Rattle.builder.specs.{Grouping.{Items.{starts_from, item_at}, Keys.{numbers_from}}, Metadata.{fields_of, written, layout_of}, Sharing.{is_in, firsts_after, same_texts}}
+use Rattle.builder.specs.Yards.{Text, cut_by, sum_of}
 use Rattle.layout.specs.inner.Layout.{Fits}
 use Rattle.build.proofs.metadata.{Begun.{field_written}, Itemed.{cut_lengths}}
 use Rattle.build.specs.{Metadata.Kept.{values_to, fields_to, joined}, inner.Metadata.Words.{word_in}}

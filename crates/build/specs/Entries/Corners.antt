@@ -1,5 +1,6 @@
 -- The boxes of the yards, as they are kept: four numbers each; and the yards in the order of the table.
-use Rattle.numbers.specs.{Lists.{zeros}, Prelude.{ℕ, ◌*◌, ◌≤◌, ℤ, length, sets, List, [], ◌∷◌, map, ◌≡◌}}
+use Rattle.std.specs.Prelude.{◌*◌, ◌≤◌, ◌∷◌, ◌≡◌}
+use Rattle.numbers.specs.{Lists.{zeros}, Prelude.{ℕ, ℤ, length, sets, List, [], map}}
 use Rattle.builder.specs.{Entries.{box_of, word_of_yard}, Grouping.Keys.{numbers_from}, Yards.{Yard}}
 use Rattle.layout.specs.Order.{key_of, sorted_by}
 

@@ -1,5 +1,6 @@
 -- What the functions that lay out the metadata section say.
-use Rattle.numbers.specs.Prelude.{ℕ, ◌+◌, ◌*◌, ◌^◌, ◌≤◌, ◌<◌, length, take, get_or, List, map, flat_map, ◌≡◌}
+use Rattle.std.specs.Prelude.{◌+◌, ◌*◌, ◌^◌, ◌≤◌, ◌<◌, ◌≡◌}
+use Rattle.numbers.specs.Prelude.{ℕ, length, take, get_or, List, map, flat_map}
 use Rattle.writer.specs.inner.Stored.{Stored}
 use Rattle.builder.specs.{Grouping.{Items.{starts_from, item_at}, Keys.{numbers_from, first_of}}, Metadata.{fields_of, layout_of, start_of}, Sharing.{same_texts, firsts}, Yards.{Text, sum_of}}
 use Rattle.builder.specs.inner.Drawing.Section.{spread}

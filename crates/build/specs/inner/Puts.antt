@@ -1,5 +1,6 @@
 -- What is written of a file, from the lists that stand while it is built.
-use Rattle.numbers.specs.Prelude.{ℕ, ◌+◌, ◌*◌, ◌^◌, ◌≤◌, ◌<◌, length, take, List, ◌++◌, map, flat_map, ◌≡◌}
+use Rattle.std.specs.Prelude.{◌+◌, ◌*◌, ◌^◌, ◌≤◌, ◌<◌, ◌++◌, ◌≡◌}
+use Rattle.numbers.specs.Prelude.{ℕ, length, take, List, map, flat_map}
 use Rattle.builder.specs.{Metadata.{inlined, remotes, joined_from, field_bytes}, Yards.{cut_by, sum_of}}
 use Rattle.build.specs.inner.Metadata.Words.{word_in}
 

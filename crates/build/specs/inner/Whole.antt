@@ -1,6 +1,7 @@
 -- What the functions that build a file say of each other.
-use Rattle.numbers.specs.{Lists.{zeros}, Prelude.{ℕ, ◌+◌, ◌*◌, ◌/◌, min, leb, ℤ, length, take, Bool, true, ◌&&◌, List, ◌≡◌}, Reply.{Reply, given, refused, plain, demand, ◌>>◌}}
-use Rattle.builder.specs.{Borders.{Drawn, drawn_of}, File.{are_texts, built_of, file_of, fitted, up_to}, Yards.{Lent, plan_of, counts_good}, declared.borders.Border.{Border}, inner.Drawing.Section.{spread}}
+use Rattle.std.specs.Prelude.{◌+◌, ◌*◌, ◌/◌, ◌&&◌, ◌≡◌}
+use Rattle.numbers.specs.{Lists.{zeros}, Prelude.{ℕ, min, leb, ℤ, length, take, Bool, true, List}, Reply.{Reply, given, refused, plain, demand, ◌>>◌}}
+use Rattle.builder.specs.{Borders.{drawn_of}, File.{are_texts, built_of, file_of, fitted, up_to}, Yards.{Lent, plan_of, counts_good}, declared.borders.Border.{Border}, inner.Drawing.Section.{spread}}
 use Rattle.build.specs.{Checked.{checked, lent_as}, Room.{need_of, enough_for}, declared.{asked.Asked.{Asked}, file.Built.{Built}, room.{Need.{Need}, Work.{Work}}}}
 use Rattle.builder.specs.declared.borders.Border.TheVariants as B
 use Rattle.builder.specs.inner.Drawing.Section

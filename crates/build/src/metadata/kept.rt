@@ -10,7 +10,7 @@ use builder::grouping::first::first_of;
 use builder::put::put_bytes;
 
 // How many lengths and bytes the records have.
-#[derive(Drop)]
+#[derive(Clone, Copy)]
 pub struct Sizes {
     pub lengths: usize,
     pub bytes: usize,

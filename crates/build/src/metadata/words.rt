@@ -9,7 +9,7 @@ use builder::grouping::first::{first_of, is_twice};
 use layout::records::size_of_varint;
 
 // The bytes of the fields that are inline, and of the texts behind the records.
-#[derive(Drop)]
+#[derive(Clone, Copy)]
 pub struct Sums {
     pub inline: u32,
     pub remote: u32,

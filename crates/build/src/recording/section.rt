@@ -13,14 +13,14 @@ use builder::grouping::keys::sort_keys;
 use layout::records::{Laid, least_layout};
 
 // The bytes of the records, and of the texts behind them.
-#[derive(Drop)]
+#[derive(Clone, Copy)]
 pub struct Layout {
     pub records: u32,
     pub remote: u32,
 }
 
 // The layout, and how many lengths and bytes the records have.
-#[derive(Drop)]
+#[derive(Clone, Copy)]
 pub struct Section {
     pub records: u32,
     pub remote: u32,

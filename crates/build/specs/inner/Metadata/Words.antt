@@ -1,5 +1,6 @@
 -- The words of the records' fields: 0 for one that is inline, else one more than how far behind the records its text lies.
-use Rattle.numbers.specs.{Answer.{if◌then◌else◌}, Prelude.{ℕ, suc, ◌+◌, ◌*◌, ◌^◌, ◌≤◌, ◌<◌, eqb, length, take, List, [], ◌∷◌, map, flat_map, ◌≡◌}}
+use Rattle.std.specs.Prelude.{if◌then◌else◌, ◌+◌, ◌*◌, ◌^◌, ◌≤◌, ◌<◌, ◌∷◌, ◌≡◌}
+use Rattle.numbers.specs.Prelude.{ℕ, suc, eqb, length, take, List, [], map, flat_map}
 use Rattle.builder.specs.{Grouping.{Items.{starts_from}, Keys.{keys_of}}, Metadata.{inlined, is_remote, remotes, offset_of}, Sharing.{same_text, firsts, good_ones}, Yards.{Text, cut_by, sum_of}}
 
 module _ (fields : List Text) where

@@ -1,5 +1,6 @@
 -- What the functions that lay out the metadata section say.
-use Rattle.numbers.specs.Prelude.{ℕ, ◌+◌, ◌*◌, ◌^◌, ◌≤◌, ◌<◌, length, take, List, map, flat_map, ◌≡◌}
+use Rattle.std.specs.Prelude.{◌+◌, ◌*◌, ◌^◌, ◌≤◌, ◌<◌, ◌≡◌}
+use Rattle.numbers.specs.Prelude.{ℕ, length, take, List, map, flat_map}
 use Rattle.builder.specs.{Grouping.Keys.{numbers_from}, Metadata.{inlined, remotes, layout_of}, Yards.{Text, sum_of}, inner.Drawing.Section.{spread}}
 use Rattle.layout.specs.inner.Layout.{Least}
 use Rattle.build.specs.{Metadata.Kept.{fields_to, joined, begin_of}, inner.Metadata.Words.{word_in}}

@@ -1,0 +1,29 @@
+-- `build::file::finish` meets its contract.
+use Rattle.build.proofs.{Ending.{short_fills, long_fills, whole_fills}, Moving.{over_top, under_top}, Needed.{need_room, room_needs, lacks, holds, enough_is}}
+use Rattle.build.proofs.file.finish.Goals as goal
+
+pub need_of-need-requires : goal.need_of-need-requires
+need_of-need-requires c =
+    need_room _ _ _ _ c.requires.0
+
+pub has_room-requires : goal.has_room-requires
+has_room-requires c =
+    room_needs _ _ _ _ c.requires.0 _ c.need_of-need.ensures
+
+pub returns-then-not-has_room : goal.returns-then-not-has_room
+returns-then-not-has_room c =
+    λ pieces drawn d. short_fills _ _ _ _ (lacks _ _ _ _ _ c.need_of-need.ensures _ c.has_room.ensures c.if-not-has_room.true) _ c.no_room.ensures
+
+pub fill-end-requires : goal.fill-end-requires
+fill-end-requires c =
+    (record { good = c.requires.0; is = c.need_of-need.ensures; room = holds _ _ _ c.has_room.ensures c.if-not-has_room.false }, c.requires.1)
+
+pub returns-then-up_to-end : goal.returns-then-up_to-end
+returns-then-up_to-end c =
+    λ pieces drawn d. long_fills _ _ _ _ (enough_is _ _ _ _ _ c.need_of-need.ensures _ c.has_room.ensures c.if-not-has_room.false) _ (c.fill-end.ensures pieces
+    drawn d) (over_top _ _ _ _ c.up_to.ensures c.out-1.given c.if-up_to-end.true) _ c.no_room-then-up_to-end.ensures
+
+pub returns : goal.returns
+returns c =
+    λ pieces drawn d. whole_fills _ _ _ _ (enough_is _ _ _ _ _ c.need_of-need.ensures _ c.has_room.ensures c.if-not-has_room.false) _ (c.fill-end.ensures pieces
+    drawn d) (under_top _ _ _ _ c.up_to.ensures c.out-1.given c.if-up_to-end.false)
