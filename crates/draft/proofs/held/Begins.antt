@@ -1,7 +1,8 @@
 -- Where the records begin with one more of them, and how long the section is, where the step is sure. Assumes nothing.
 use Rattle.numbers.proofs.Prelude.{ℕ, suc, ◌+◌, ◌≤◌, eqb-false, eqb, length, length-append, Bool, true, false, ◌||◌, List, [], ◌∷◌, ◌++◌, map, append-nil, flat_map, ◌≡◌, refl, sym, ap, ◌∙◌, arith}
 use Rattle.numbers.specs.{Answer.{if◌then◌else◌}, Spelling.{varint_of}}
-use Rattle.builder.{proofs.{Shortest.{word_of, inline_of, records_size, layout_least}, grouping.{Keyed.{text_equal}, Meant.{text_itself, texts_itself}}}, specs.Metadata.{fields_of, inlined, is_remote}}
+use Rattle.builder.proofs.{Shortest.{word_of, inline_of, records_size, layout_least}, grouping.{Keyed.{text_equal}, Meant.{text_itself, texts_itself}}}
+use Rattle.builder.specs.Metadata.{fields_of, inlined, is_remote}
 use Rattle.builder.specs.{Metadata.{remotes, offset_of, written, layout_of, start_of, metadata_of}, Sharing.{same_text, same_texts, is_in, firsts_after, good_ones, size_before}, Yards.{Text}}
 use Rattle.layout.{proofs.{Everyone.{Every}, Sizes.{size_rises, size_least}}, specs.inner.Layout.{word_size, words_size, next, Fits}}
 use Rattle.build.proofs.metadata.{Offsets.{total, old_place}, Shared.{fields_more, fields_one, flat_more, map_more}}
@@ -101,7 +102,8 @@ module _ (records : List (List Text)) (r : List Text) where
 
   module _ (sure : Every (Sure (fields_of records) r) r) (by : ℕ) (size : by ≡ length (flat_map (written (fields_of records) (layout_of (fields_of records))) r))
       (kept : length (varint_of (256 + layout_of (fields_of records))) ≡ length (varint_of (255 + layout_of (fields_of records) + by + length (flat_map inlined (remotes (fields_of records)))))) where
-    all_kept : (ts : List Text) → words_size (map (word_of (fields_of records)) ts) (layout_of (fields_of records) + by) ≡ words_size (map (word_of (fields_of records)) ts) (layout_of (fields_of records))
+    all_kept : (ts : List Text) → words_size (map (word_of (fields_of records)) ts) (layout_of (fields_of records) + by) ≡ words_size (map (word_of (fields_of records)) ts) (layout_of
+        (fields_of records))
     unfolding words_size
     all_kept [] = refl
     all_kept (t ∷ ts) = omega (arith, word_kept layout by (remote fields) kept (word_of fields t) (word_most fields t), all_kept ts)

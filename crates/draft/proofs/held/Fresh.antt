@@ -3,7 +3,7 @@ use Rattle.numbers.{proofs.Prelude.{ℕ, ◌-◌, min, eqb, ltb, leb, length, ta
 use Rattle.writer.specs.Writer.{checks}
 use Rattle.builder.specs.{Borders.{with_border}, File.{are_texts, head_of, is_text, known, readable, up_to}, Yards.{Text, Plan}}
 use Rattle.draft.specs.Held.Builder.{Builder, Offered, holding, yard_of, joined, changed_at, with_value, summed, fitting, begin, add, drop_last, replace, clear}
-use Rattle.draft.specs.Held.{Calls.{Call, add_yard, drop_last_lem, replace_value, clear_all, called, after, ran}, Space.{Space}, Totals.{data_of, file_size, totals_of}}
+use Rattle.draft.specs.Held.{Calls.{Call, add_yard, drop_yard, replace_value, clear_all, called, after, ran}, Space.{Space}, Totals.{data_of, file_size, totals_of}}
 
 abbrev Fresh : Builder → Type 0
 Fresh b = b.totals ≡ totals_of b.plan
@@ -61,7 +61,7 @@ replace_fresh b yard field text space = let changed : Plan = holding b.plan (cha
 called_fresh : (b : Builder) (call : Call) → Gives (called b call)
 unfolding called clear
 called_fresh b (add_yard o space) = add_fresh b o space
-called_fresh b (drop_last_lem space) = drop_fresh b space
+called_fresh b (drop_yard space) = drop_fresh b space
 called_fresh b (replace_value yard field text space) = replace_fresh b yard field text space
 called_fresh b clear_all = summed_fresh (holding b.plan []) b.room
 

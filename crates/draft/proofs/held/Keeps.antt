@@ -5,7 +5,7 @@ use Rattle.builder.specs.{Borders.{drawn_from, drawn_of}, File.{borders_good, bu
 use Rattle.writer.specs.Writer.{every}
 use Rattle.draft.proofs.held.{Adds.{Added, add_given, add_refuses_as_build, added_sound}, Ends.{finish_builds}, Fresh.{ran_from_fresh}, Kept.{cleared_sound, dropped_sound, replaced_sound}}
 use Rattle.draft.specs.Held.Builder.{Builder, Offered, holding, joined, changed_at, with_value, summed, fitting, begin, add, drop_last, replace, clear, finish}
-use Rattle.draft.specs.Held.{Calls.{Call, add_yard, drop_last_lem, replace_value, clear_all, called, after, ran}, Sound.{Sound, room_for}, Space.{Space}, Totals.{data_of, file_size}}
+use Rattle.draft.specs.Held.{Calls.{Call, add_yard, drop_yard, replace_value, clear_all, called, after, ran}, Sound.{Sound, room_for}, Space.{Space}, Totals.{data_of, file_size}}
 
 -- ---- what a call gives is sound
 unfoldable Keeps : Reply Builder → Type 0
@@ -54,7 +54,7 @@ module _ (b : Builder) (sound : Sound b.plan b.room) where
   called_keeps : (call : Call) → Keeps (called b call)
   unfolding called clear
   called_keeps (add_yard o space) = add_keeps o space
-  called_keeps (drop_last_lem space) = drop_keeps space
+  called_keeps (drop_yard space) = drop_keeps space
   called_keeps (replace_value yard field text space) = replace_keeps yard field text space
   called_keeps clear_all = summed_keeps (holding b.plan []) b.room (cleared_sound b.plan b.room sound)
 

@@ -1,5 +1,6 @@
 -- How a plan lies in the lists after each call, and the builder's numbers with it. Assumes nothing.
-use Rattle.numbers.proofs.Prelude.{ℕ, ◌+◌, ◌*◌, ◌≤◌, ◌<◌, pos, length, take, drop, get_or, length-take, take-append-drop, length-take-le, true, List, [], ◌∷◌, ◌++◌, map, ◌≡◌, refl, sym, ap, subst, ◌∙◌}
+use Rattle.numbers.proofs.Prelude.{ℕ, ◌+◌, ◌*◌, ◌≤◌, ◌<◌, pos, length, take, drop, get_or, length-take, take-append-drop, length-take-le, true, List, [], ◌∷◌, ◌++◌, map, ◌≡◌, refl, sym, ap}
+use Rattle.numbers.proofs.Prelude.{subst, ◌∙◌}
 use Rattle.numbers.{proofs.Prelude.{arith}, specs.Reply.{given}}
 use Rattle.builder.specs.{Borders.{with_border}, File.{are_texts, head_of, up_to}, Yards.{Text, Plan, Yard, sum_of}}
 use Rattle.build.{proofs.entries.Tabled.{corners_size}, specs.Entries.Corners.{corners_of}}

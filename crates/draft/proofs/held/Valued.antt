@@ -1,5 +1,6 @@
 -- Some yards that stand in lists: their values are the items of the texts, and of their boxes the first numbers are the lower latitudes. Assumes nothing.
-use Rattle.numbers.proofs.Prelude.{ℕ, suc, ◌+◌, ◌*◌, eqb-true, eqb, ℤ, pos, length, take, drop, get_or, length-map, take-append-drop, take_at, drop-drop, drop_at, get_or-drop, true, List, [], ◌∷◌, ◌++◌}
+use Rattle.numbers.proofs.Prelude.{ℕ, suc, ◌+◌, ◌*◌, eqb-true, eqb, ℤ, pos, length, take, drop, get_or, length-map, take-append-drop, take_at, drop-drop, drop_at, get_or-drop, true, List, []}
+use Rattle.numbers.proofs.Prelude.{◌∷◌, ◌++◌}
 use Rattle.numbers.proofs.{Prelude.{map, ◌≡◌, refl, sym, ap, ◌∙◌, mul_comm, arith}, Tests.{both}}
 use Rattle.writer.specs.Writer.{every}
 use Rattle.builder.{proofs.grouping.{Meant.{item_part}, Walks.{item_among}}, specs.{Borders.{Drawn}, Entries.{box_of, lowest_of}, Grouping.{Items.{starts_from, item_at}, Keys.{numbers_from}}}}
@@ -32,7 +33,8 @@ unfolding numbers_from corners_of
 souths_from boxes i [] rest e = refl
 souths_from boxes i (y ∷ ys) rest e = let box : Bounds = box_of y.lats y.lons in let none : 4 * i ≡ 4 * i + 0 = omega arith in
     let four : 4 * suc i ≡ 4 * i + 4 = omega arith in
-    let here : get_or boxes (4 * i) (pos 0) ≡ lowest_of y.lats = ap (λ (n : ℕ). get_or boxes n (pos 0)) none ∙ (sym (get_or-drop (4 * i) boxes 0 (pos 0)) ∙ ap (λ (l : List ℤ). get_or l 0 (pos 0)) e) in
+    let here : get_or boxes (4 * i) (pos 0) ≡ lowest_of y.lats = ap (λ (n : ℕ). get_or boxes n (pos 0)) none ∙ (sym (get_or-drop (4 * i) boxes 0 (pos 0))
+    ∙ ap (λ (l : List ℤ). get_or l 0 (pos 0)) e) in
     let onward : drop (4 * suc i) boxes ≡ corners_of ys ++ rest = ap (λ (n : ℕ). drop n boxes) four ∙ (sym (drop-drop 4 (4 * i) boxes) ∙ ap (drop 4) e) in
     ap (λ (z : ℤ). z ∷ map (λ (yard : ℕ). get_or boxes (4 * yard) (pos 0)) (numbers_from (suc i) (length ys))) here ∙
     ap (λ (l : List ℤ). lowest_of y.lats ∷ l) (souths_from boxes (suc i) ys rest onward)

@@ -8,7 +8,7 @@ use Rattle.header.specs.Utf8.{characters, started_by, begun_by, followed, goes_o
 use Rattle.builder.specs.{Borders.{appended, with_border, drawn_from, drawn_of}, Entries.{lesser, greater, best_by, lowest_of, highest_of, box_bytes, entry_bytes, table_from, from_south, table_of}}
 use Rattle.builder.specs.{File.{head_from, head_of, is_text, are_texts, readable, known}, Metadata.{inlined, fields_of, is_remote, remotes, offset_of, written, fits, first_from, layout_of, start_of}}
 use Rattle.builder.specs.{Metadata.{metadata_of}, Sharing.{same_by, is_in, times_in, firsts_after, size_before, good_ones}, Yards.{Plan, cut_by, sum_of}}
-use Rattle.draft.specs.Held.{Builder.{Builder, Offered, summed, fitting, begin, joined, add, drop_last}, Calls.{add_yard, drop_last_lem, called, after, ran}, Space.{Space}}
+use Rattle.draft.specs.Held.{Builder.{Builder, Offered, summed, fitting, begin, joined, add, drop_last}, Calls.{add_yard, drop_yard, called, after, ran}, Space.{Space}}
 use Rattle.draft.specs.Held.Totals.{drawn_or, data_of, totals_for, totals_of, file_size}
 
 abbrev plan : Plan
@@ -40,7 +40,7 @@ unfolding plain_move_bytes packed_number packed_move_bytes move_to moves_from po
     size_before good_ones cut_by sum_of flat_map zip_with drawn_or data_of totals_for totals_of file_size summed fitting begin joined add drop_last called after ran
 one_yard = refl
 
-pub one_dropped : ran begun (add_yard yard space ∷ drop_last_lem space ∷ []) ≡ begun
+pub one_dropped : ran begun (add_yard yard space ∷ drop_yard space ∷ []) ≡ begun
 unfolding plain_move_bytes packed_number packed_move_bytes move_to moves_from points_of moves_of good_pieces packed_from first_pieces pieces_of is_still every sized near
     checks plain_border packed_border border_of insert_by sorted_by digits_of varint_of signed_form interleaved characters started_by begun_by followed goes_on is_utf8
     appended with_border drawn_from drawn_of lesser greater best_by lowest_of highest_of box_bytes entry_bytes table_from from_south table_of head_from head_of is_text
@@ -65,7 +65,7 @@ unfolding plain_move_bytes packed_number packed_move_bytes move_to moves_from po
     size_before good_ones cut_by sum_of flat_map zip_with drawn_or data_of totals_for totals_of file_size summed fitting begin joined add drop_last called after ran
 too_long = refl
 
-pub none_to_drop : called begun (drop_last_lem space) ≡ refused (plain 29)
+pub none_to_drop : called begun (drop_yard space) ≡ refused (plain 29)
 unfolding plain_move_bytes packed_number packed_move_bytes move_to moves_from points_of moves_of good_pieces packed_from first_pieces pieces_of is_still every sized near
     checks plain_border packed_border border_of insert_by sorted_by digits_of varint_of signed_form interleaved characters started_by begun_by followed goes_on is_utf8
     appended with_border drawn_from drawn_of lesser greater best_by lowest_of highest_of box_bytes entry_bytes table_from from_south table_of head_from head_of is_text

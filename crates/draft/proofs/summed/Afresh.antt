@@ -1,7 +1,8 @@
 -- What was laid out of the held yards gives their totals. Assumes nothing.
-use Rattle.numbers.proofs.Prelude.{ℕ, ◌+◌, ◌*◌, ◌^◌, ◌≤◌, ◌<◌, not-true, eqb-false, eqb, ℤ, length, take, drop, get_or, Bool, true, not, List, [], ◌++◌, map, zip_with, ◌≡◌, sym, ap, ◌∙◌, mul_comm}
+use Rattle.numbers.proofs.Prelude.{false, ℕ, ◌+◌, ◌*◌, ◌^◌, ◌≤◌, ◌<◌, eqb-false, eqb, ℤ, length, take, drop, get_or, Bool, List, [], ◌++◌, map, zip_with, ◌≡◌, sym, ap, ◌∙◌, mul_comm}
 use Rattle.numbers.proofs.Prelude.{arith}
-use Rattle.builder.{proofs.Counting.{lengths_room}, specs.{Borders.{Drawn}, Entries.{entry_of_word, highest_of, lowest_of, table_from, table_of, word_of_yard}, File.{entry_of}, Grouping.Keys.{numbers_from}}}
+use Rattle.builder.proofs.Counting.{lengths_room}
+use Rattle.builder.specs.{Borders.{Drawn}, Entries.{entry_of_word, highest_of, lowest_of, table_from, table_of, word_of_yard}, File.{entry_of}, Grouping.Keys.{numbers_from}}
 use Rattle.builder.specs.{Metadata.{fields_of, layout_of, metadata_of, records_of}, Sharing.{firsts, same_texts}, Yards.{Text, Yard, sum_of}, inner.Drawing.Section.{spread}}
 use Rattle.build.{proofs.{entries.Tabled.{begins_are, table_over}, recording.{Fewer.{map_same}, Spreading.{spread_read, spread_size}, Written.{recorded_size}}}, specs.Entries.Corners.{corners_of}}
 use Rattle.build.specs.Metadata.Kept.{begin_of, values_to}
@@ -70,5 +71,5 @@ module _ (yards : List Yard) (drawn : Drawn) (names count : ℕ) (boxes : List �
   pub never_long : names ≤ 255 → 536870912 < length texts → (places : List ℕ) → SumsUp yards drawn places S.Broken
   never_long named h places = absurd (omega (arith, h, held_small named))
 
-  pub never_other : (b : Bool) → b ≡ eqb (sum_of lengths) (length texts) → not b ≡ true → (places : List ℕ) → SumsUp yards drawn places S.Broken
-  never_other b e n places = absurd (eqb-false (sum_of lengths) (length texts) (sym e ∙ not-true b n) (sym own_whole))
+  pub never_other : (b : Bool) → b ≡ eqb (sum_of lengths) (length texts) → b ≡ false → (places : List ℕ) → SumsUp yards drawn places S.Broken
+  never_other b e n places = absurd (eqb-false (sum_of lengths) (length texts) (sym e ∙ n) (sym own_whole))

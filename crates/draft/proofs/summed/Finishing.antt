@@ -1,5 +1,5 @@
 -- The end of a builder: each way out of it, and how it is settled. Assumes nothing.
-use Rattle.numbers.proofs.Prelude.{ℕ, ◌≤◌, ◌<◌, lt-ltb, le-ltb, not-false, not-true, leb, length, Bool, true, false, ◌&&◌, not, List, ◌≡◌, refl, sym, ap, subst, ◌∙◌, arith}
+use Rattle.numbers.proofs.Prelude.{ℕ, ◌≤◌, ◌<◌, lt-ltb, le-ltb, leb, length, Bool, true, false, ◌&&◌, List, ◌≡◌, refl, sym, ap, subst, ◌∙◌, arith}
 use Rattle.numbers.specs.{Lists.{zeros}, Reply.{Reply, given, refused, plain, demand, ◌>>◌}, declared.refusal.Refusal.{Refusal}}
 use Rattle.writer.specs.inner.Stored.{Stored}
 use Rattle.builder.specs.{File.{file_of, head_of, up_to}, Yards.{Plan}}
@@ -48,12 +48,12 @@ module _ (held : Held) (lists : Lists) (work : Works) (out : ℕ) where
   abbrev Said : List ℕ → Built → Type 0
   Said after r = ((b : Builder) → Holds b held lists → Fills (finish b out (space_of held rooms)) out after r) × (standing held rooms ≡ false → r ≡ W.Refused (plain 28))
 
-  pub not_stands : (t : Bool) → t ≡ standing held rooms → not t ≡ true → (after : List ℕ) (r : Built) → r ≡ W.Refused (plain 28) → Said after r
-  not_stands t e n after r er = (λ b h. absurd (differ (standing held rooms) (holds_standing b held lists h rooms refl refl refl refl refl) (sym e ∙ not-true t n)), λ f. er)
+  pub not_stands : (t : Bool) → t ≡ standing held rooms → t ≡ false → (after : List ℕ) (r : Built) → r ≡ W.Refused (plain 28) → Said after r
+  not_stands t e n after r er = (λ b h. absurd (differ (standing held rooms) (holds_standing b held lists h rooms refl refl refl refl refl) (sym e ∙ n)), λ f. er)
 
-  module _ (t : Bool) (et : t ≡ standing held rooms) (nt : not t ≡ false) where
+  module _ (t : Bool) (et : t ≡ standing held rooms) (nt : t ≡ true) where
     good : standing held rooms ≡ true
-    good = sym et ∙ not-false t nt
+    good = sym et ∙ nt
 
     pub no_yards : held.yards ≡ 0 → (after : List ℕ) (r : Built) → r ≡ W.Refused (plain 25) → Said after r
     unfolding Fills
@@ -73,21 +73,21 @@ module _ (held : Held) (lists : Lists) (work : Works) (out : ℕ) where
         λ f. absurd (differ (standing held rooms) good f),
       )
 
-      pub no_space : not w ≡ true → (after : List ℕ) (r : Built) → r ≡ W.Refused (plain 28) → Said after r
-      no_space nw after r er = said after r (λ b h. short_fills (space_of held rooms).lists out (file_of b.plan (data_of b.plan)) after (sym ew ∙ not-true w nw) r er)
+      pub no_space : w ≡ false → (after : List ℕ) (r : Built) → r ≡ W.Refused (plain 28) → Said after r
+      no_space nw after r er = said after r (λ b h. short_fills (space_of held rooms).lists out (file_of b.plan (data_of b.plan)) after (sym ew ∙ nw) r er)
 
-      module _ (nw : not w ≡ false) where
+      module _ (nw : w ≡ true) where
         enough_space : (space_of held rooms).lists ≡ true
-        enough_space = sym ew ∙ not-false w nw
+        enough_space = sym ew ∙ nw
 
-        pub not_whole : (v : Bool) → v ≡ texts_whole held lists.lengths → not v ≡ true → (after : List ℕ) (r : Built) → r ≡ W.Refused (plain 28) → Said after r
-        not_whole v ev nv after r er = said after r (λ b h. absurd (differ (texts_whole held lists.lengths) (holds_whole b held lists h) (sym ev ∙ not-true v nv)))
+        pub not_whole : (v : Bool) → v ≡ texts_whole held lists.lengths → v ≡ false → (after : List ℕ) (r : Built) → r ≡ W.Refused (plain 28) → Said after r
+        not_whole v ev nv after r er = said after r (λ b h. absurd (differ (texts_whole held lists.lengths) (holds_whole b held lists h) (sym ev ∙ nv)))
 
-        pub putting : (v : Bool) → v ≡ texts_whole held lists.lengths → not v ≡ false →
+        pub putting : (v : Bool) → v ≡ texts_whole held lists.lengths → v ≡ true →
             Putting held lists.lengths (length lists.texts) (length lists.borders) (length lists.bytes) (work_in rooms)
         putting v ev nv = let s = stood held rooms good in record {
           fits = texts_asked;
-          whole = sym ev ∙ not-false v nv;
+          whole = sym ev ∙ nv;
           strings = s.own.texts_room;
           bordered = s.own.borders_room;
           data_in = s.bytes_room;

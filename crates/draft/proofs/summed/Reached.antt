@@ -1,5 +1,5 @@
 -- What is laid out and summed up lies inside the lists that are lent. Assumes nothing.
-use Rattle.numbers.proofs.Prelude.{ℕ, ◌*◌, ◌≤◌, not-false, eqb-true, eqb, ℤ, length, take, length-map, length-take, take_at, Bool, false, not, List, ◌++◌, map, ◌≡◌, sym, ap, subst, ◌∙◌, mul_comm}
+use Rattle.numbers.proofs.Prelude.{true, ℕ, ◌*◌, ◌≤◌, eqb-true, eqb, ℤ, length, take, length-map, length-take, take_at, Bool, List, ◌++◌, map, ◌≡◌, sym, ap, subst, ◌∙◌, mul_comm}
 use Rattle.numbers.proofs.Prelude.{arith}
 use Rattle.builder.{proofs.{Counting.{lengths_room}, grouping.Listed.{numbers_many}}, specs.{Entries.{word_of_yard}, Grouping.Keys.{numbers_from}, Yards.{sum_of}, inner.Drawing.Section.{spread}}}
 use Rattle.build.{proofs.Filing.{Reach, reaches}, specs.{declared.room.Work.{Work}, inner.Recording.Recorded.{Laying, Recorded}}}
@@ -40,18 +40,20 @@ order_room n count boxes spare other e few room long same = (omega (arith, e, fe
 -- the sorted words stand at the front of the keys
 pub arranged : (names count : ℕ) (boxes : List ℤ) (borders lengths texts before middle sorted rest kept held words places : List ℕ) (records remote sizes bytes k : ℕ)
     → k ≡ count → middle ≡ spread 1 (take count borders) before → Recorded names count lengths texts middle kept held words places records remote sizes bytes
-    → sorted ≡ sorted_by key_of (map (word_of_yard boxes) (numbers_from 0 k)) → Arranged names count boxes borders lengths texts before (sorted ++ rest) kept held words places records remote sizes bytes
+    → sorted ≡ sorted_by key_of (map (word_of_yard boxes) (numbers_from 0 k))
+    → Arranged names count boxes borders lengths texts before (sorted ++ rest) kept held words places records remote sizes bytes
 arranged names count boxes borders lengths texts before middle sorted rest kept held words places records remote sizes bytes k front em r es =
-    let size : length sorted ≡ k = ap length es ∙ (sorted_size key_of (map (word_of_yard boxes) (numbers_from 0 k)) ∙ (length-map (numbers_from 0 k) (word_of_yard boxes) ∙ numbers_many 0 k)) in record {
+    let size : length sorted ≡ k = ap length es ∙ (sorted_size key_of (map (word_of_yard boxes) (numbers_from 0 k)) ∙ (length-map (numbers_from 0 k) (word_of_yard boxes)
+    ∙ numbers_many 0 k)) in record {
       recorded = subst (λ (l : List ℕ). Recorded names count lengths texts l kept held words places records remote sizes bytes) em r;
       order = take_at sorted rest count (size ∙ front) ∙ (es ∙ ap (λ (n : ℕ). sorted_by key_of (map (word_of_yard boxes) (numbers_from 0 n))) front);
     }
 
 -- ---- the tests of `sum_up`
 pub arranging : (names count : ℕ) (lengths texts : List ℕ) (borders : ℕ) (work : Work) → Summing names count (length lengths) borders (length texts) work
-    → length texts ≤ 536870912 → (b : Bool) → b ≡ eqb (sum_of lengths) (length texts) → not b ≡ false → Arranging names count lengths texts borders work
+    → length texts ≤ 536870912 → (b : Bool) → b ≡ eqb (sum_of lengths) (length texts) → b ≡ true → Arranging names count lengths texts borders work
 arranging names count lengths texts borders work s small b e n =
-    record { summing = s; whole = sym (eqb-true (sum_of lengths) (length texts) (sym e ∙ not-false b n)); small = omega (arith, small) }
+    record { summing = s; whole = sym (eqb-true (sum_of lengths) (length texts) (sym e ∙ n)); small = omega (arith, small) }
 
 pub front_most : (n most : ℕ) (list : List ℕ) → n ≤ most → length (take n list) ≤ most
 front_most n most list h = omega (arith, h, length-take n list)

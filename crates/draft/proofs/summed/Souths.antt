@@ -18,9 +18,9 @@ at_number boxes i zero j h = absurd (omega arith)
 at_number boxes i (suc n) zero h = let e : i ≡ i + 0 = omega arith in ap (south_at boxes) e
 at_number boxes i (suc n) (suc j) h = let e : suc i + j ≡ i + suc j = omega arith in at_number boxes (suc i) n j (omega arith) ∙ ap (south_at boxes) e
 
-pub south_at_lem : (boxes : List ℤ) (count yard : ℕ) → yard < count → get_or boxes (4 * yard) (pos 0) ≡ get_or (souths_of boxes count) yard (pos 0)
+pub south_stands : (boxes : List ℤ) (count yard : ℕ) → yard < count → get_or boxes (4 * yard) (pos 0) ≡ get_or (souths_of boxes count) yard (pos 0)
 unfolding souths_of
-south_at_lem boxes count yard h = let e : 0 + yard ≡ yard = omega arith in sym (at_number boxes 0 count yard h ∙ ap (south_at boxes) e)
+south_stands boxes count yard h = let e : 0 + yard ≡ yard = omega arith in sym (at_number boxes 0 count yard h ∙ ap (south_at boxes) e)
 
 -- ---- the loop over them
 module _ (boxes : List ℤ) (count : ℕ) where
@@ -32,7 +32,7 @@ module _ (boxes : List ℤ) (count : ℕ) where
   none_greatest e = highest_none (souths_of boxes count) (souths_many boxes count ∙ e)
 
   pub seek_starts : (count ≡ 0 → ⊥) → SFits w32 (get_or boxes 0 (pos 0)) → Seeking (to_z w32 (of_z w32 (get_or boxes 0 (pos 0)))) 1
-  seek_starts some h = let first : get_or boxes 0 (pos 0) ≡ get_or (souths_of boxes count) 0 (pos 0) = south_at_lem boxes count 0 (more some) in
+  seek_starts some h = let first : get_or boxes 0 (pos 0) ≡ get_or (souths_of boxes count) 0 (pos 0) = south_stands boxes count 0 (more some) in
       read_back greater (highest_of (souths_of boxes count)) (souths_of boxes count) (get_or boxes 0 (pos 0)) 1 h
       (subst (λ (z : ℤ). Seeking z 1) (sym first) (highest_starts (souths_of boxes count) (λ e. some (sym (souths_many boxes count) ∙ e)))) where
         more : (count ≡ 0 → ⊥) → 0 < count
@@ -41,7 +41,8 @@ module _ (boxes : List ℤ) (count : ℕ) where
   module _ (so : ℤ) (yard : ℕ) (s : Seeking so yard) where
     pub seek_goes : yard < count → (later : ℤ) → later ≡ greater so (get_or boxes (4 * yard) (pos 0)) → Seeking later (yard + 1)
     seek_goes h later e =
-        choose_goes greater (highest_of (souths_of boxes count)) (souths_of boxes count) so yard s (omega (arith, h, souths_many boxes count)) later (e ∙ ap (greater so) (south_at_lem boxes count yard h))
+        choose_goes greater (highest_of (souths_of boxes count)) (souths_of boxes count) so yard s (omega (arith, h, souths_many boxes count)) later (e
+        ∙ ap (greater so) (south_stands boxes count yard h))
 
     pub seek_up : yard < count → SFits w32 (get_or boxes (4 * yard) (pos 0)) → lt_z so (to_z w32 (of_z w32 (get_or boxes (4 * yard) (pos 0)))) ≡ true →
         Seeking (to_z w32 (of_z w32 (get_or boxes (4 * yard) (pos 0)))) (yard + 1)

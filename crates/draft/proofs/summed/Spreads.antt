@@ -32,7 +32,8 @@ module _ (borders before places : List ℕ) (i : ℕ) (s : Spreading borders bef
       sym (ap (λ (l : List ℕ). spread (2 * i + 1) l places) (ap (λ (k : ℕ). drop k borders) e ∙ drop-length borders)) ∙ s.same
 
 -- the yards' words, sorted
-pub words_sorted : (boxes : List ℤ) (k : ℕ) (words spare after other : List ℕ) (has : Bool) → k ≤ length spare → words ≡ map (word_of_yard boxes) (numbers_from 0 k) → Sorted words spare after other has
+pub words_sorted : (boxes : List ℤ) (k : ℕ) (words spare after other : List ℕ) (has : Bool) → k ≤ length spare → words ≡ map (word_of_yard boxes) (numbers_from 0 k)
+    → Sorted words spare after other has
     → after ≡ sorted_by key_of (map (word_of_yard boxes) (numbers_from 0 k))
 words_sorted boxes k words spare after other has long e s =
     let size : length words ≡ k = ap length e ∙ (length-map (numbers_from 0 k) (word_of_yard boxes) ∙ numbers_many 0 k) in

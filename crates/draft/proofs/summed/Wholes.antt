@@ -1,6 +1,6 @@
 -- The lengths of a builder's texts, tested against the texts. Assumes nothing.
-use Rattle.numbers.proofs.Prelude.{ℕ, ◌+◌, ◌-◌, ◌*◌, ◌^◌, ◌≤◌, ◌<◌, eq-eqb, le-leb, leb-true, not-false, lt-leb, not-true, eqb-true, eqb, leb, length, take, drop, length-drop, length-map}
-use Rattle.numbers.proofs.{Prelude.{length-take-le, Bool, true, false, ◌&&◌, not, List, ◌++◌, map, ◌≡◌, refl, sym, ap, subst, ◌∙◌, arith}, Tests.{both}}
+use Rattle.numbers.proofs.Prelude.{ℕ, ◌+◌, ◌-◌, ◌*◌, ◌^◌, ◌≤◌, ◌<◌, eq-eqb, le-leb, leb-true, lt-leb, eqb-true, eqb, leb, length, take, drop, length-drop, length-map}
+use Rattle.numbers.proofs.{Prelude.{length-take-le, Bool, true, false, ◌&&◌, List, ◌++◌, map, ◌≡◌, refl, sym, ap, subst, ◌∙◌, arith}, Tests.{both}}
 use Rattle.writer.specs.Writer.{every}
 use Rattle.builder.specs.{File.{is_text}, Yards.{Text, Plan, cut_by, sum_of}}
 use Rattle.build.{proofs.{Slices.{texts_few}, metadata.Begun.{cut_join}, recording.Fewer.{joined_sum}}, specs.Metadata.Kept.{joined}}
@@ -20,13 +20,13 @@ module _ (held : Held) (lengths : List ℕ) where
   long_strings h = rw (lt-leb held.strings (2 ^ 29) (omega (arith, h))) refl
 
   module _ (short : held.strings ≤ 536870912) where
-    pub other_front : (b : Bool) → b ≡ front → not b ≡ true → false ≡ texts_whole held lengths
+    pub other_front : (b : Bool) → b ≡ front → b ≡ false → false ≡ texts_whole held lengths
     unfolding texts_whole
-    other_front b e n = let f : front ≡ false = sym e ∙ not-true b n in rw (le-leb held.strings (2 ^ 29) (omega (arith, short)), f) refl
+    other_front b e n = let f : front ≡ false = sym e ∙ n in rw (le-leb held.strings (2 ^ 29) (omega (arith, short)), f) refl
 
-    pub front_then : (b : Bool) → b ≡ front → not b ≡ false → (r : Bool) → r ≡ values → r ≡ texts_whole held lengths
+    pub front_then : (b : Bool) → b ≡ front → b ≡ true → (r : Bool) → r ≡ values → r ≡ texts_whole held lengths
     unfolding texts_whole
-    front_then b e n r er = let f : front ≡ true = sym e ∙ not-false b n in rw (le-leb held.strings (2 ^ 29) (omega (arith, short)), f) er
+    front_then b e n r er = let f : front ≡ true = sym e ∙ n in rw (le-leb held.strings (2 ^ 29) (omega (arith, short)), f) er
 
   module _ (w : texts_whole held lengths ≡ true) where
     told : (leb held.strings (2 ^ 29) ≡ true) × (front ≡ true) × (values ≡ true)

@@ -1,5 +1,6 @@
 -- A builder, and what its calls do: document 02, Q-5. A call that is refused changes nothing: it gives no other builder.
-use Rattle.numbers.specs.{Prelude.{ℕ, zero, suc, ◌-◌, min, eqb, ltb, leb, ℤ, length, take, false, ◌&&◌, List, [], ◌∷◌, ◌++◌}, Reply.{Reply, given, plain, demand, ◌>>=◌, ◌>>◌}}
+use Rattle.std.specs.Prelude.{◌-◌, ◌&&◌, ◌∷◌, ◌++◌}
+use Rattle.numbers.specs.{Prelude.{ℕ, zero, suc, min, eqb, ltb, leb, ℤ, length, take, false, List, []}, Reply.{Reply, given, plain, demand, ◌>>◌}}
 use Rattle.writer.specs.{Pieces.{pieces_of}, Writer.{checks}}
 use Rattle.builder.specs.{Borders.{with_border}, File.{are_texts, file_of, head_of, is_text, known, readable, up_to}, Yards.{Text, Yard, Plan, cut_by, sum_of}}
 use Rattle.draft.specs.Held.{Space.{Space}, Totals.{Totals, data_of, totals_of, file_size}}

@@ -1,17 +1,18 @@
 -- One call after another.
-use Rattle.numbers.specs.{Prelude.{ℕ, List, [], ◌∷◌}, Reply.{Reply, given, refused}}
+use Rattle.std.specs.Prelude.{◌∷◌}
+use Rattle.numbers.specs.{Prelude.{ℕ, List, []}, Reply.{Reply, given, refused}}
 use Rattle.builder.specs.Yards.{Text}
 use Rattle.draft.specs.Held.{Builder.{Builder, Offered, add, drop_last, replace, clear}, Space.{Space}}
 
 pub data Call : Type 0 where
   add_yard : Offered → Space → Call
-  drop_last_lem : Space → Call
+  drop_yard : Space → Call
   replace_value : ℕ → ℕ → Text → Space → Call
   clear_all : Call
 
 unfoldable pub called : Builder → Call → Reply Builder
 called b (add_yard o space) = add b o space
-called b (drop_last_lem space) = drop_last b space
+called b (drop_yard space) = drop_last b space
 called b (replace_value yard field text space) = replace b yard field text space
 called b clear_all = given (clear b)
 

@@ -1,5 +1,6 @@
 -- What holds of a builder that calls have made: nothing that it holds is refused, but for the length of the whole file.
-use Rattle.numbers.specs.{Prelude.{ℕ, ◌≤◌, eqb, leb, length, true, ◌≡◌}, Reply.{given}}
+use Rattle.std.specs.Prelude.{◌≤◌, ◌≡◌}
+use Rattle.numbers.specs.{Prelude.{ℕ, eqb, leb, length, true}, Reply.{given}}
 use Rattle.builder.specs.{Borders.{Drawn, drawn_of}, File.{Room, borders_good, known, readable, up_to}, Yards.{Plan}}
 use Rattle.writer.specs.Writer.{every}
 use Rattle.draft.specs.Held.Space.{Space}

@@ -1,5 +1,6 @@
 -- How much room is lent with a builder, and what it is asked for.
-use Rattle.numbers.specs.Prelude.{ℕ, ◌+◌, ◌-◌, ◌*◌, ◌^◌, leb, Bool, ◌&&◌}
+use Rattle.std.specs.Prelude.{◌+◌, ◌-◌, ◌*◌, ◌^◌, ◌&&◌}
+use Rattle.numbers.specs.Prelude.{ℕ, leb, Bool}
 use Rattle.build.specs.{Room.{enough}, declared.room.Work.{Work}}
 use Rattle.draft.specs.declared.held.{room.Rooms.{Rooms}, state.Held.{Held}}
 

@@ -1,5 +1,6 @@
 -- How a builder lies in its lists: each begins with what is held, and is zero behind it.
-use Rattle.numbers.specs.{Lists.{zeros}, Prelude.{ℕ, ◌-◌, ◌*◌, ◌≤◌, eqb, ℤ, pos, length, take, replicate, true, List, [], ◌∷◌, ◌++◌, map, ◌≡◌}, Reply.{Reply, given, refused}}
+use Rattle.std.specs.Prelude.{◌-◌, ◌*◌, ◌≤◌, ◌∷◌, ◌++◌, ◌≡◌}
+use Rattle.numbers.specs.{Lists.{zeros}, Prelude.{ℕ, eqb, ℤ, pos, length, take, replicate, true, List, [], map}, Reply.{Reply, given, refused}}
 use Rattle.writer.specs.Writer.{every}
 use Rattle.builder.specs.{Borders.{Drawn}, File.{head_of}, Metadata.{fields_of}, Yards.{Text, Plan, Yard, sum_of}}
 use Rattle.build.specs.{Entries.Corners.{corners_of}, Metadata.Kept.{joined}}

@@ -1,5 +1,6 @@
 -- The totals of the yards that are held, as a fresh sum: document 02, Q-5, "the sizes, the yard count and the greatest lower latitude (0 if none)".
-use Rattle.numbers.specs.{Prelude.{ℕ, ◌+◌, ◌^◌, ℤ, length, List, [], ◌∷◌, map, zip_with}, Reply.{Reply, given, refused}, Spelling.{varint_of}}
+use Rattle.std.specs.Prelude.{◌+◌, ◌^◌, ◌∷◌}
+use Rattle.numbers.specs.{Prelude.{ℕ, ℤ, length, List, [], map, zip_with}, Reply.{Reply, given, refused}, Spelling.{varint_of}}
 use Rattle.builder.specs.{Borders.{Drawn, drawn_of}, Entries.{lowest_of, highest_of, table_of}, File.{entry_of}, Metadata.{records_of, metadata_of}, Yards.{Yard, Plan}}
 
 -- the sizes of the three sections, how many yards there are, their greatest lower latitude

@@ -1,5 +1,6 @@
 -- The end of a builder.
-use Rattle.numbers.specs.{Lists.{zeros}, Prelude.{ℕ, ◌+◌, ◌-◌, ◌*◌, ◌^◌, ◌≤◌, eqb, leb, length, take, drop, Bool, true, false, ◌&&◌, List, ◌≡◌}, Reply.{Reply, plain}}
+use Rattle.std.specs.Prelude.{◌+◌, ◌-◌, ◌*◌, ◌^◌, ◌≤◌, ◌&&◌, ◌≡◌}
+use Rattle.numbers.specs.{Lists.{zeros}, Prelude.{ℕ, eqb, leb, length, take, drop, Bool, true, false, List}, Reply.{Reply, plain}}
 use Rattle.numbers.specs.declared.refusal.Refusal.{Refusal}
 use Rattle.builder.specs.{File.{fitted}, Yards.{sum_of}}
 use Rattle.build.specs.{Room.{enough}, Whole.{told_built}, declared.{file.Built.{Built}, room.Work.{Work}}}

@@ -6,7 +6,7 @@ use crate::held::state::Held;
 use build::room::{Work, has_lists};
 
 // The lengths of the builder's lists, and of those to work in.
-#[derive(Drop)]
+#[derive(Clone, Copy)]
 pub struct Rooms {
     pub boxes: usize,
     pub borders: usize,

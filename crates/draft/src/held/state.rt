@@ -1,7 +1,7 @@
 // A builder's numbers. What it holds lies in the lists that are lent with it.
 use numbers::refusal::Refusal;
 
-#[derive(Drop)]
+#[derive(Clone, Copy)]
 pub struct Held {
     // What the file to come is like.
     pub kind: u8,
@@ -23,7 +23,7 @@ pub struct Held {
 }
 
 // What a call makes of a builder.
-#[derive(Drop)]
+#[derive(Clone, Copy)]
 pub enum Changed {
     Into(Held),
     Refused(Refusal),

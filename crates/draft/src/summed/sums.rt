@@ -13,7 +13,7 @@ use build::write::table_size;
 use layout::records::size_of_varint;
 
 // The bytes of the table and of the metadata, the greatest lower latitude, and the bytes of the records.
-#[derive(Drop)]
+#[derive(Clone, Copy)]
 pub struct Sums {
     pub table: usize,
     pub metadata: usize,
@@ -21,7 +21,7 @@ pub struct Sums {
     pub records: u32,
 }
 
-#[derive(Drop)]
+#[derive(Clone, Copy)]
 pub enum Summed {
     Sums(Sums),
     // The lengths are not those of the texts.

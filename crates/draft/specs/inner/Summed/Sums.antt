@@ -1,6 +1,8 @@
 -- What the functions that sum up the held yards say of each other.
-use Rattle.numbers.specs.Prelude.{ℕ, ◌*◌, ◌^◌, ◌≤◌, ℤ, pos, length, take, get_or, true, List, map, ◌≡◌}
-use Rattle.builder.specs.{Borders.{Drawn}, Entries.{word_of_yard}, Grouping.Keys.{numbers_from}, Metadata.{fields_of, layout_of, records_of, start_of}, Yards.{Yard, sum_of}, inner.Drawing.Section.{spread}}
+use Rattle.std.specs.Prelude.{◌*◌, ◌^◌, ◌≤◌, ◌≡◌}
+use Rattle.numbers.specs.Prelude.{ℕ, ℤ, pos, length, take, get_or, true, List, map}
+use Rattle.builder.specs.{Borders.{Drawn}, Entries.{word_of_yard}, Grouping.Keys.{numbers_from}, Metadata.{fields_of, layout_of, records_of, start_of}, Yards.{Yard, sum_of}}
+use Rattle.builder.specs.inner.Drawing.Section.{spread}
 use Rattle.build.specs.{Room.{enough}, declared.room.Work.{Work}, inner.Recording.Recorded.{Recorded}}
 use Rattle.draft.specs.{Held.Totals.{Totals, totals_for}, declared.summed.sums.{Summed.{Summed}, Sums.{Sums}}}
 use Rattle.layout.specs.Order.{key_of, sorted_by}
