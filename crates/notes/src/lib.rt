@@ -1,4 +1,6 @@
 // What a builder notes of its yards, so that one more is added without all being summed again.
+#![tactic(auto)]
+
 pub mod chains;
 pub mod nearby;
 pub mod noted;

@@ -14,9 +14,9 @@ pub entering_size : (chain : List ℕ) (item k : ℕ) → length (entering chain
 entering_size chain item k = length-set (set chain (4096 + item) (get_or chain k 0)) k (item + 1) ∙ length-set chain (4096 + item) (get_or chain k 0)
 
 module _ (bucket : ℕ → ℕ) (entered : ℕ → Bool) where
-  pub in_bucket_lem : (k item : ℕ) → entered item ≡ true → bucket item ≡ k → in_bucket bucket entered k item ≡ true
+  pub bucket_has : (k item : ℕ) → entered item ≡ true → bucket item ≡ k → in_bucket bucket entered k item ≡ true
   unfolding in_bucket
-  in_bucket_lem k item e b = rw (e, eq-eqb (bucket item) k b)
+  bucket_has k item e b = rw (e, eq-eqb (bucket item) k b)
 
   -- what an item in a bucket is
   pub from_bucket : (k item : ℕ) → in_bucket bucket entered k item ≡ true → (entered item ≡ true) × (bucket item ≡ k)
@@ -69,7 +69,7 @@ module _ (bucket : ℕ → ℕ) (entered : ℕ → Bool) where
         go true e = let same : j ≡ k = eqb-true j k e in
             let inside : k < length (set chain (4096 + item) (get_or chain k 0)) = omega (arith, length-set chain (4096 + item) (get_or chain k 0)) in
             ap (λ (n : ℕ). get_or (entering chain item k) n 0) same ∙ (get_or-set_same (set chain (4096 + item) (get_or chain k 0)) k (item + 1) 0 inside
-            ∙ (add-one item ∙ sym (last_in (in_bucket bucket entered j) item (in_bucket_lem j item in' (sym is ∙ sym same)))))
+            ∙ (add-one item ∙ sym (last_in (in_bucket bucket entered j) item (bucket_has j item in' (sym is ∙ sym same)))))
         go false e = let other = eqb-false j k e in
             get_or-set_other (set chain (4096 + item) (get_or chain k 0)) k j (item + 1) 0 other ∙ (get_or-set_other chain (4096 + item) j (get_or chain k 0) 0
             (λ e. omega (arith, e)) ∙ (c.heads j h ∙ sym (last_out (in_bucket bucket entered j) item (other_bucket j item (λ b. other (sym (is ∙ b)))))))

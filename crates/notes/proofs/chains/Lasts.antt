@@ -62,7 +62,8 @@ pub last_within : (few more : ℕ → Bool) → ((i : ℕ) → few i ≡ true �
 unfolding last_with
 last_within few more each zero = refl
 last_within few more each (suc n) = go (more n) refl (few n) refl (last_within few more each n) where
-  go : (t : Bool) → more n ≡ t → (s : Bool) → few n ≡ s → last_with few (last_with more n) ≡ last_with few n → last_with few (if t then suc n else last_with more n) ≡ (if s then suc n else last_with few n)
+  go : (t : Bool) → more n ≡ t → (s : Bool) → few n ≡ s → last_with few (last_with more n) ≡ last_with few n
+      → last_with few (if t then suc n else last_with more n) ≡ (if s then suc n else last_with few n)
   go true e s f next = rw f
   go false e true f next = never (sym (each n f) ∙ e)
   go false e false f next = next

@@ -1,7 +1,7 @@
 -- A walk along the chain of an item. Assumes nothing.
 use Rattle.numbers.proofs.Prelude.{ℕ, suc, ◌+◌, ◌-◌, ◌*◌, ◌%◌, ◌≤◌, ◌<◌, get_or, Bool, true, false, ◌&&◌, List, ◌≡◌, refl, sym, ap, subst, ◌∙◌, arith}
 use Rattle.builder.{proofs.grouping.{Keyed.{alike_hash}, Walks.{fewer_inside, item_among}}, specs.{Grouping.{Items.{item_at, Inside}, Keys.{alike}}, Sharing.{same_texts}}}
-use Rattle.notes.proofs.chains.{Entering.{in_bucket_lem, from_bucket}, Lasts.{never, last_in, last_out, last_most, last_good, last_within}}
+use Rattle.notes.proofs.chains.{Entering.{bucket_has, from_bucket}, Lasts.{never, last_in, last_out, last_most, last_good, last_within}}
 use Rattle.notes.specs.Chains.{Chains.{last_with, in_bucket, Chained, meets, ItemsInside}, Entered.{bucket_of, Walked}}
 
 -- ---- an item and those before it
@@ -28,7 +28,7 @@ module _ (starts texts : List ℕ) (width : ℕ) (entered : ℕ → Bool) (item 
   pub meets_bucket : (other : ℕ) → meets starts texts width entered item other ≡ true → in_bucket (bucket_of starts texts width) entered (bucket_of starts texts width item) other ≡ true
   unfolding bucket_of
   meets_bucket other e = let two = from_meets other e in
-      in_bucket_lem (bucket_of starts texts width) entered (bucket_of starts texts width item) other two.0 (ap (λ (h : ℕ). h % 4096) (alike_hash starts texts width item other two.1))
+      bucket_has (bucket_of starts texts width) entered (bucket_of starts texts width item) other two.0 (ap (λ (h : ℕ). h % 4096) (alike_hash starts texts width item other two.1))
 
   -- the walk has come to this place
   pub record Stands (before at : ℕ) : Type 0 where

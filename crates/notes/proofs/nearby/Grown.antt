@@ -165,7 +165,8 @@ pub record Grows (boxes : List ℤ) (begins borders : List ℕ) (count begin new
   pub new_small : new ≤ 60
   pub behind_small : behind ≤ 60
   pub behind_alike : behind ≤ before + 20
-  pub sum : length (table_of (entries_at boxes begins borders count ++ (entry_with boxes borders count begin ∷ []))) + before ≡ length (table_of (entries_at boxes begins borders count)) + (new + behind)
+  pub sum : length (table_of (entries_at boxes begins borders count ++ (entry_with boxes borders count begin ∷ []))) + before ≡ length (table_of (entries_at boxes begins borders count)) +
+      (new + behind)
 
 module _ (boxes : List ℤ) (begins borders : List ℕ) (count begin : ℕ) where
   pub grows : (low high : ℕ) → Nears boxes count low high → (from : Places) → from ≡ places_of begins borders low → (bounds : Bounds) → bounds ≡ bounds_at boxes count

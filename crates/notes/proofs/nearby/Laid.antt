@@ -1,7 +1,9 @@
 -- The entries of yards that lie in a builder's lists, and with one yard more. Assumes nothing.
-use Rattle.numbers.proofs.Prelude.{ℕ, suc, ◌+◌, ◌*◌, ℤ, pos, length, take, drop, get_or, take-append-drop, get_or-append-add, get_or_at, List, [], ◌∷◌, ◌++◌, map, append_assoc, zip_with, ◌≡◌, refl, sym, ap}
+use Rattle.numbers.proofs.Prelude.{ℕ, suc, ◌+◌, ◌*◌, ℤ, pos, length, take, drop, get_or, take-append-drop, get_or-append-add, get_or_at, List, [], ◌∷◌, ◌++◌, map, append_assoc, zip_with, ◌≡◌}
+use Rattle.numbers.proofs.Prelude.{refl, sym, ap}
 use Rattle.numbers.proofs.Prelude.{◌∙◌, arith}
-use Rattle.builder.specs.{Entries.{Entry, bounds_at, box_of, entry_at, table_of}, File.{entry_of}, Grouping.Keys.{numbers_from}, Metadata.{records_of, start_of}, Yards.{Yard}, declared.boxes.Bounds.{Bounds}}
+use Rattle.builder.specs.{Entries.{Entry, bounds_at, box_of, entry_at, table_of}, File.{entry_of}, Grouping.Keys.{numbers_from}, Metadata.{records_of, start_of}, Yards.{Yard}}
+use Rattle.builder.specs.declared.boxes.Bounds.{Bounds}
 use Rattle.build.{proofs.{Valued.{map_next}, entries.Tabled.{corners_size}}, specs.Entries.Corners.{corners_of}}
 use Rattle.notes.specs.inner.{Nearby.Nearby.{entry_for, entries_at, entry_with}, Noted.OneMore.{OneMore}}
 use Rattle.notes.proofs.noted.OneMore.{entry_new, entries_more}
@@ -61,7 +63,8 @@ module _ (yards : List Yard) (boxes : List ℤ) (begins borders rest : List ℕ)
     corner : (k : ℕ) → get_or boxes (4 * length yards + k) (pos 0) ≡ get_or (corners_of (y ∷ []) ++ bs) k (pos 0)
     corner k =
         ap (λ (l : List ℤ). get_or l (4 * length yards + k) (pos 0)) boxes_on
-        ∙ (ap (λ (n : ℕ). get_or (corners_of yards ++ (corners_of (y ∷ []) ++ bs)) (n + k) (pos 0)) (sym (corners_size yards)) ∙ get_or-append-add (corners_of yards) (corners_of (y ∷ []) ++ bs) k (pos 0))
+        ∙ (ap (λ (n : ℕ). get_or (corners_of yards ++ (corners_of (y ∷ []) ++ bs)) (n + k) (pos 0)) (sym (corners_size yards))
+        ∙ get_or-append-add (corners_of yards) (corners_of (y ∷ []) ++ bs) k (pos 0))
 
     box_is : bounds_at boxes (length yards) ≡ box_of y.lats y.lons
     unfolding corners_of

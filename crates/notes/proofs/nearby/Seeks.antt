@@ -18,10 +18,10 @@ key_or key least none = least
 key_or key least (some yard) = key yard
 
 module _ (key : ℕ → ℕ) where
-  not_below_lem : (found : Option ℕ) (here : ℕ) → not_below key found here ≡ leb (key_or key 0 found) here
+  not_below_is : (found : Option ℕ) (here : ℕ) → not_below key found here ≡ leb (key_or key 0 found) here
   unfolding not_below key_or
-  not_below_lem none here = sym (le-leb 0 here (omega arith))
-  not_below_lem (some yard) here = refl
+  not_below_is none here = sym (le-leb 0 here (omega arith))
+  not_below_is (some yard) here = refl
 
   is_below : (found : Option ℕ) (here most : ℕ) → here < most → below key found here ≡ ltb here (key_or key most found)
   unfolding below key_or
@@ -33,13 +33,13 @@ module _ (key : ℕ → ℕ) where
     unfolding low_step
     low_takes h m =
         ap (λ (t : Bool). if t then (if not_below key found (key yard) then some yard else found) else found) (le-leb (key yard) k h)
-        ∙ ap (λ (t : Bool). if t then some yard else found) (not_below_lem found (key yard) ∙ le-leb (key_or key 0 found) (key yard) m)
+        ∙ ap (λ (t : Bool). if t then some yard else found) (not_below_is found (key yard) ∙ le-leb (key_or key 0 found) (key yard) m)
 
     low_lesser : key yard ≤ k → key yard < key_or key 0 found → low_step key k found yard ≡ found
     unfolding low_step
     low_lesser h m =
         ap (λ (t : Bool). if t then (if not_below key found (key yard) then some yard else found) else found) (le-leb (key yard) k h)
-        ∙ ap (λ (t : Bool). if t then some yard else found) (not_below_lem found (key yard) ∙ lt-leb (key_or key 0 found) (key yard) m)
+        ∙ ap (λ (t : Bool). if t then some yard else found) (not_below_is found (key yard) ∙ lt-leb (key_or key 0 found) (key yard) m)
 
     low_passes : k < key yard → low_step key k found yard ≡ found
     unfolding low_step

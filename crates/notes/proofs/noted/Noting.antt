@@ -2,7 +2,7 @@
 use Rattle.numbers.proofs.Prelude.{ℕ, zero, suc, ◌+◌, ◌*◌, ◌≤◌, ◌<◌, length, Bool, true, false, List, ◌≡◌, sym, ap, subst, ◌∙◌, suc-mul, mul-le-mul, mul-le-mul_right, add-one, arith}
 use Rattle.numbers.specs.Lists.{zeros}
 use Rattle.builder.{proofs.grouping.{Meant.{starts_inside}, Walks.{fewer_inside}}, specs.{Grouping.Items.{starts_from}, Yards.{sum_of}}}
-use Rattle.notes.proofs.{chains.Entering.{chained_out, chained_none}, noted.Sharing.{is_first_lem, not_first, field_of}}
+use Rattle.notes.proofs.{chains.Entering.{chained_out, chained_none}, noted.Sharing.{comes_first, not_first, field_of}}
 use Rattle.notes.specs.{Chains.{Chains.{last_with, Chained, meets, ItemsInside}, Entered.{bucket_of, is_first, is_field, Indexed}}, inner.Noted.Noting.{EntersAll, NotesOne, NotesAll}}
 
 -- ---- numbers
@@ -70,7 +70,7 @@ module _ (names yard : ℕ) (lengths texts : List ℕ) (whole : sum_of lengths �
 
     new_yard : r ≤ 0 → (chains' groups' : List ℕ) → Enters (starts_from 0 lengths) texts names groups yard groups' → EntersAll names yard (starts_from 0 lengths) texts chains chains' names →
         Indexed names lengths texts (yard + 1) chains' groups'
-    new_yard h chains' groups' one all = let first = is_first_lem names lengths texts yard r last_is (omega arith) in record {
+    new_yard h chains' groups' one all = let first = comes_first names lengths texts yard r last_is (omega arith) in record {
       fields = subst (λ (n : ℕ). Chained (bucket_of (starts_from 0 lengths) texts 1) (is_field names lengths texts) n chains') (yard_next yard names)
           (all (is_field names lengths texts) yard_inside c.fields (λ field k. field_of names lengths texts yard field k ∙ first));
       records = one (is_first names lengths texts) yard_inside c.records first;

@@ -78,10 +78,10 @@ module _ (yards : List Yard) (y : Yard) where
         }
 
 -- ---- what follows for the lists
-values_in_lem : (all rest : List Yard) → ((x : Yard) → is_in same_texts x.values (map (λ y. y.values) rest) ≡ true → is_in same_texts x.values (map (λ y. y.values) all) ≡ true)
+values_found : (all rest : List Yard) → ((x : Yard) → is_in same_texts x.values (map (λ y. y.values) rest) ≡ true → is_in same_texts x.values (map (λ y. y.values) all) ≡ true)
     → (x : Yard) (xs : List Yard) → rest ≡ x ∷ xs → is_in same_texts x.values (map (λ y. y.values) all) ≡ true
 unfolding is_in
-values_in_lem all rest h x xs e =
+values_found all rest h x xs e =
     h x (ap (λ (l : List Yard). is_in same_texts x.values (map (λ y. y.values) l)) e ∙ ap (λ (b : Bool). b || is_in same_texts x.values (map (λ y. y.values) xs)) (texts_itself x.values))
 
 later_in : (all : List Yard) (x : Yard) (xs : List Yard) → ((z : Yard) → is_in same_texts z.values (map (λ y. y.values) (x ∷ xs)) ≡ true → is_in same_texts z.values
@@ -100,7 +100,7 @@ module _ (yards : List Yard) (y : Yard) (by begin : ℕ) (m : OneMore yards y by
       → map (begin_in (yards ++ (y ∷ []))) (xs ++ (y ∷ [])) ≡ map (begin_in yards) xs ++ (begin ∷ [])
   begins_from [] h = ap (λ (n : ℕ). n ∷ []) m.begin_is
   begins_from (x ∷ xs) h =
-      ap (λ (n : ℕ). n ∷ map (begin_in grown) (xs ++ (y ∷ []))) (m.begins_on x (values_in_lem yards (x ∷ xs) h x xs refl))
+      ap (λ (n : ℕ). n ∷ map (begin_in grown) (xs ++ (y ∷ []))) (m.begins_on x (values_found yards (x ∷ xs) h x xs refl))
       ∙ ap (λ (l : List ℕ). begin_in yards x ∷ l) (begins_from xs (later_in yards x xs h))
 
   -- where the records begin
@@ -120,7 +120,7 @@ module _ (yards : List Yard) (y : Yard) (by begin : ℕ) (m : OneMore yards y by
   entries_from place (x ∷ xs) [] e h = absurd (omega (arith, e))
   entries_from place (x ∷ xs) (p ∷ ps) e h =
       ap (λ (n : ℕ). record { bounds = box_of x.lats x.lons; record' = n; border = p } ∷ zip_with (entry_of grown) (xs ++ (y ∷ [])) (ps ++ (place ∷ [])))
-      (m.begins_on x (values_in_lem yards (x ∷ xs) h x xs refl)) ∙ ap (λ (l : List Entry). entry_of yards x p ∷ l) (entries_from place xs ps (omega (arith, e)) (later_in yards x xs h))
+      (m.begins_on x (values_found yards (x ∷ xs) h x xs refl)) ∙ ap (λ (l : List Entry). entry_of yards x p ∷ l) (entries_from place xs ps (omega (arith, e)) (later_in yards x xs h))
 
   -- the entries, as the yards came
   pub entries_more : (place : ℕ) (ps : List ℕ) → length ps ≡ length yards →

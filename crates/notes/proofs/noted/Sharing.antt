@@ -52,8 +52,8 @@ module _ (names : ℕ) (lengths texts : List ℕ) where
         (from_meets (starts_from 0 lengths) texts names (is_first names lengths texts) yard other (last_good (good yard) yard other (sym found ∙ e))).1,
       )
 
-      pub is_first_lem : r ≡ 0 → is_first names lengths texts yard ≡ true
-      is_first_lem e = first_of yard (found_none e)
+      pub comes_first : r ≡ 0 → is_first names lengths texts yard ≡ true
+      comes_first e = first_of yard (found_none e)
 
       pub not_first : 0 < r → is_first names lengths texts yard ≡ false
       unfolding is_first

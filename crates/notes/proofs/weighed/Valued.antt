@@ -43,7 +43,8 @@ module _ (names count : ℕ) (lengths starts texts chains : List ℕ) (n : Noted
     value_empty z = empty_weight fields word seen text (text_size ∙ z)
 
     module _ (found : ℕ) (last : found ≡ last_with met (count * names)) where
-      pub value_new : found ≡ 0 → is_in same_text text seen ≡ false → (bytes : ℕ) → bytes ≡ length (varint_of (size_at starts value)) + size_at starts value → WeighsOne fields word seen text (Takes bytes)
+      pub value_new : found ≡ 0 → is_in same_text text seen ≡ false → (bytes : ℕ) → bytes ≡ length (varint_of (size_at starts value)) + size_at starts value
+          → WeighsOne fields word seen text (Takes bytes)
       unfolding WeighsOne
       value_new none own bytes e = let w = new_weight fields word seen text (met_none names lengths starts texts n.begin count value found last none) own in
           (w.0, e ∙ (ap (λ (m : ℕ). length (varint_of m) + m) (sym text_size) ∙ w.1))

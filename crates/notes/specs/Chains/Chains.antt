@@ -1,5 +1,6 @@
 -- Items in chains: for each of 4,096 buckets the last item that was entered, and for each entered item the one before it in its bucket.
-use Rattle.numbers.specs.{Answer.{if◌then◌else◌}, Prelude.{ℕ, zero, suc, ◌+◌, ◌*◌, ◌≤◌, ◌<◌, eqb, length, get_or, Bool, true, false, ◌&&◌, List, ◌≡◌}}
+use Rattle.std.specs.Prelude.{if◌then◌else◌, ◌+◌, ◌*◌, ◌≤◌, ◌<◌, ◌&&◌, ◌≡◌}
+use Rattle.numbers.specs.Prelude.{ℕ, zero, suc, eqb, length, get_or, Bool, true, false, List}
 use Rattle.builder.specs.Grouping.{Items.{Inside}, Keys.{alike}}
 
 -- of the first so many numbers the last that is good, and one more; 0 if none is

@@ -1,5 +1,6 @@
 -- What is entered in the chains of a builder: the records of its yards, and the values of these records.
-use Rattle.numbers.specs.Prelude.{ℕ, ◌*◌, ◌/◌, ◌%◌, ◌≤◌, eqb, Bool, List, ◌≡◌}
+use Rattle.std.specs.Prelude.{◌*◌, ◌/◌, ◌%◌, ◌≤◌, ◌≡◌}
+use Rattle.numbers.specs.Prelude.{ℕ, eqb, Bool, List}
 use Rattle.builder.specs.Grouping.{Items.{starts_from}, Keys.{alike, hash_of}}
 use Rattle.notes.specs.Chains.Chains.{last_with, in_bucket, Chained, meets, ItemsInside}
 

@@ -9,7 +9,7 @@ use builder::boxes::Bounds;
 use builder::entry::{Places, put_entry};
 
 // A yard and one more, 0 for none.
-#[derive(Drop)]
+#[derive(Clone, Copy)]
 pub(crate) struct Near {
     low: usize,
     high: usize,

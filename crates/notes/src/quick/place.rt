@@ -8,7 +8,7 @@ use crate::chains::find::find;
 use crate::weighed::weigh::{Weight, weigh};
 use layout::records::size_of_varint;
 
-#[derive(Drop)]
+#[derive(Clone, Copy)]
 pub(crate) enum Placing {
     // What it adds to the records, and where it begins.
     At { by: usize, begin: u32 },

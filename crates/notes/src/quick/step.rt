@@ -9,7 +9,7 @@ use crate::nearby::near::{greatest_with, table_more};
 use crate::quick::place::{Placing, place_record};
 
 // Of the yards that are held: the bytes of the records, of the metadata and of the table, and the greatest lower latitude.
-#[derive(Drop)]
+#[derive(Clone, Copy)]
 pub struct Numbers {
     pub records: usize,
     pub metadata: usize,
@@ -18,7 +18,7 @@ pub struct Numbers {
 }
 
 // The same with one yard more, and where its record begins.
-#[derive(Drop)]
+#[derive(Clone, Copy)]
 pub struct Stepped {
     pub records: usize,
     pub metadata: usize,
@@ -27,7 +27,7 @@ pub struct Stepped {
     pub begin: u32,
 }
 
-#[derive(Drop)]
+#[derive(Clone, Copy)]
 pub enum Sureness {
     Sure(Stepped),
     // It may change another record, or the length of a word.

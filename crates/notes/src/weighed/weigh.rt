@@ -10,7 +10,7 @@ use crate::chains::find::{find, find_before};
 use crate::chains::texts::same_items;
 use layout::records::size_of_varint;
 
-#[derive(Drop)]
+#[derive(Clone, Copy)]
 pub enum Weight {
     // The bytes that it takes.
     Takes(usize),

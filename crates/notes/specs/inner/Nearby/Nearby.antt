@@ -1,5 +1,6 @@
 -- The entries of yards as they came, and the neighbours that one more has in the table.
-use Rattle.numbers.specs.Prelude.{ℕ, zero, suc, ◌+◌, ◌*◌, ◌≤◌, ◌<◌, ℤ, pos, length, get_or, List, map, Option, some, none, ◌≡◌}
+use Rattle.std.specs.Prelude.{◌+◌, ◌*◌, ◌≤◌, ◌<◌, ◌≡◌}
+use Rattle.numbers.specs.Prelude.{ℕ, zero, suc, ℤ, pos, length, get_or, List, map, Option, some, none}
 use Rattle.builder.specs.{Entries.{Entry, bounds_at, entry_at, entry_bytes, from_south}, Grouping.Keys.{numbers_from}, declared.entry.Places.{Places}}
 use Rattle.draft.proofs.held.Inserted.{low_in, high_in}
 use Rattle.layout.specs.Order.{sorted_by}

@@ -1,5 +1,6 @@
 -- What the functions that note a builder's yards say. Notes may be forged: they speak of notes that were right.
-use Rattle.numbers.specs.Prelude.{ℕ, ◌+◌, ◌*◌, ◌≤◌, ◌<◌, length, Bool, true, List, ◌≡◌}
+use Rattle.std.specs.Prelude.{◌+◌, ◌*◌, ◌≤◌, ◌<◌, ◌≡◌}
+use Rattle.numbers.specs.Prelude.{ℕ, length, Bool, true, List}
 use Rattle.builder.specs.{Grouping.Items.{starts_from}, Yards.{sum_of}}
 use Rattle.notes.specs.Chains.{Chains.{Chained, ItemsInside}, Entered.{bucket_of, Indexed}}
 

@@ -1,5 +1,6 @@
 -- What one more yard does, whose record takes so many bytes more and begins there.
-use Rattle.numbers.specs.Prelude.{ℕ, ◌+◌, length, true, List, [], ◌∷◌, ◌++◌, map, ◌≡◌}
+use Rattle.std.specs.Prelude.{◌+◌, ◌∷◌, ◌++◌, ◌≡◌}
+use Rattle.numbers.specs.Prelude.{ℕ, length, true, List, [], map}
 use Rattle.builder.specs.{Metadata.{layout_of, metadata_of, records_of}, Sharing.{same_texts, is_in}, Yards.{Yard}}
 use Rattle.notes.specs.Noted.Records.{fields_in, begin_in}
 

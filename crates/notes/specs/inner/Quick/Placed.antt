@@ -1,5 +1,6 @@
 -- Where the record of a yard more begins, and what it adds, by the notes of the yards before it.
-use Rattle.numbers.specs.Prelude.{ℕ, ◌*◌, ◌≤◌, length, take, List, map, flat_map, ◌≡◌}
+use Rattle.std.specs.Prelude.{◌*◌, ◌≤◌, ◌≡◌}
+use Rattle.numbers.specs.Prelude.{ℕ, length, take, List, map, flat_map}
 use Rattle.builder.specs.{Grouping.Items.{item_at}, Metadata.{inlined, layout_of, remotes}, Yards.{Yard}}
 use Rattle.notes.specs.{Chains.{Chains.{Chained}, Entered.{bucket_of, is_first}}, Noted.Records.{fields_in, begin_in}, declared.quick.place.Placing.{Placing}, inner.Noted.OneMore.{OneMore}}
 use Rattle.notes.specs.inner.Weighed.Weighing.{Noted}

@@ -1,5 +1,6 @@
 -- What a yard more makes of the totals of those that are held, where its step is sure: no other record changes.
-use Rattle.numbers.specs.Prelude.{ℕ, ◌+◌, ◌*◌, ◌≤◌, ◌<◌, ℤ, length, take, List, [], ◌∷◌, ◌++◌, map, ◌≡◌}
+use Rattle.std.specs.Prelude.{◌+◌, ◌*◌, ◌≤◌, ◌<◌, ◌∷◌, ◌++◌, ◌≡◌}
+use Rattle.numbers.specs.Prelude.{ℕ, ℤ, length, take, List, [], map}
 use Rattle.builder.specs.{Borders.{Drawn}, Grouping.Items.{starts_from}, Metadata.{layout_of}, Yards.{Yard}}
 use Rattle.notes.specs.{Chains.Entered.{Indexed}, Noted.Records.{fields_in, begin_in}, declared.quick.step.{Numbers.{Numbers}, Stepped.{Stepped}, Sureness.{Sureness}}}
 use Rattle.draft.specs.Held.{State.{Stands}, Totals.{totals_for}}

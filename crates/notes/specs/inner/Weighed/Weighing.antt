@@ -1,5 +1,6 @@
 -- What the functions that weigh a new record say.
-use Rattle.numbers.specs.Prelude.{ℕ, ◌+◌, ◌-◌, ◌*◌, ◌^◌, ◌≤◌, ◌<◌, length, List, [], ◌∷◌, ◌≡◌}
+use Rattle.std.specs.Prelude.{◌+◌, ◌-◌, ◌*◌, ◌^◌, ◌≤◌, ◌<◌, ◌∷◌, ◌≡◌}
+use Rattle.numbers.specs.Prelude.{ℕ, length, List, []}
 use Rattle.builder.specs.{Grouping.Items.{starts_from, text_at, item_at}, Yards.{Text, sum_of}}
 use Rattle.notes.specs.{Chains.{Chains.{Chained}, Entered.{bucket_of, is_field}}, declared.weighed.weigh.Weight.{Weight, TheVariants.{Takes, Unsure}}}
 use Rattle.notes.specs.inner.Weighed.Weights.{Weight as Known, weight_of}

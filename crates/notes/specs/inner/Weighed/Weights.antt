@@ -1,5 +1,6 @@
 -- A value of a new record that changes no other record: it is empty, stands behind the records already, or was met neither among the held values nor before it in its own record.
-use Rattle.numbers.specs.{Answer.{if◌then◌else◌}, Prelude.{ℕ, length, true, false, List, [], ◌∷◌, ◌++◌, ◌≡◌}}
+use Rattle.std.specs.Prelude.{if◌then◌else◌, ◌∷◌, ◌++◌, ◌≡◌}
+use Rattle.numbers.specs.Prelude.{ℕ, length, true, false, List, []}
 use Rattle.builder.specs.{Metadata.{inlined, is_remote}, Sharing.{same_text, is_in}, Yards.{Text}}
 
 module _ (fields values : List Text) where
