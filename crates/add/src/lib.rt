@@ -1,4 +1,6 @@
 // One yard more: document 02, Q-5.
+#![tactic(auto)]
+
 pub mod adding;
 pub mod afresh;
 pub mod growing;

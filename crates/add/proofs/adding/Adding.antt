@@ -1,5 +1,5 @@
 -- An add, from what its steps say. Assumes nothing.
-use Rattle.numbers.proofs.Prelude.{ℕ, ◌+◌, ◌≤◌, min, not-false, not-true, eqb, ltb, ℤ, length, take, Bool, true, false, ◌&&◌, not, List, [], ◌++◌, ◌≡◌, refl, sym, ap, subst, ◌∙◌, arith}
+use Rattle.numbers.proofs.Prelude.{ℕ, ◌+◌, ◌≤◌, min, eqb, ltb, ℤ, length, take, Bool, true, false, ◌&&◌, List, [], ◌++◌, ◌≡◌, refl, sym, ap, subst, ◌∙◌, arith}
 use Rattle.numbers.specs.{Reply.{Reply, given, refused, plain, demand, ◌>>◌}, declared.refusal.Refusal.{Refusal}}
 use Rattle.builder.specs.{Borders.{with_border}, File.{are_texts, up_to}, Yards.{sum_of}, declared.borders.Border.{Border}}
 use Rattle.add.specs.{Adding.Adds.{Adds, space_for, notes_enough}, Growing.{Joins.{Renoted}, Notes.{Notes}}, Offered.Offers.{offered_as, offer_good, border_behind, data_with, Offers}}
@@ -99,15 +99,15 @@ module _ (held : Held) (noted : ℕ) (lats lons : List ℤ) (pieces sizes values
 
   -- its numbers do not fit its lists
   pub stands_not_adds : rooms.boxes ≡ length before.boxes → rooms.borders ≡ length before.borders → rooms.lengths ≡ length before.lengths → rooms.texts ≡ length before.texts
-      → (t : Bool) → t ≡ standing held rooms → not t ≡ true → (r : Added) → r ≡ same (plain 28) → Adds held noted o rooms lent out before before notes notes r
-  stands_not_adds boxes borders lengths texts t e n r is = let low : standing held rooms ≡ false = sym e ∙ not-true t n in record {
+      → (t : Bool) → t ≡ standing held rooms → t ≡ false → (r : Added) → r ≡ same (plain 28) → Adds held noted o rooms lent out before before notes notes r
+  stands_not_adds boxes borders lengths texts t e n r is = let low : standing held rooms ≡ false = sym e ∙ n in record {
     answers = λ b h right. absurd (never_both (standing held rooms) (holds_standing b held before h rooms boxes borders lengths texts bytes_are) low);
     stands_not = λ f. (is, (refl, refl));
   }
 
-  module _ (t : Bool) (e : t ≡ standing held rooms) (n : not t ≡ false) where
+  module _ (t : Bool) (e : t ≡ standing held rooms) (n : t ≡ true) where
     pub stood : standing held rooms ≡ true
-    stood = sym e ∙ not-false t n
+    stood = sym e ∙ n
 
     not_low : {A : Type 0} → standing held rooms ≡ false → A
     not_low f = absurd (never_both (standing held rooms) stood f)
@@ -141,21 +141,21 @@ module _ (held : Held) (noted : ℕ) (lats lons : List ℤ) (pieces sizes values
       unfolding offered
       drawn_here = drew.1.0
 
-      module _ (sum : ℕ) (sum_is_lem : sum ≡ sum_of sizes) (u : Bool)
+      module _ (sum : ℕ) (sum_told : sum ≡ sum_of sizes) (u : Bool)
           (long-is : u ≡ (long_enough rooms held.names (held.yards + 1) held.front (held.strings + sum) && notes_enough lent held.names (held.yards + 1))) where
         asked : u ≡ space.lists
-        asked = long-is ∙ ap (λ (n : ℕ). long_enough rooms held.names (held.yards + 1) held.front (held.strings + n) && notes_enough lent held.names (held.yards + 1)) sum_is_lem
+        asked = long-is ∙ ap (λ (n : ℕ). long_enough rooms held.names (held.yards + 1) held.front (held.strings + n) && notes_enough lent held.names (held.yards + 1)) sum_told
 
-        pub full_adds : not u ≡ true → (s : Added) → s ≡ same (plain 28) → Adds held noted o rooms lent out before before notes notes s
-        full_adds low_is = let low : space.lists ≡ false = sym asked ∙ not-true u low_is in
+        pub full_adds : u ≡ false → (s : Added) → s ≡ same (plain 28) → Adds held noted o rooms lent out before before notes notes s
+        full_adds low_is = let low : space.lists ≡ false = sym asked ∙ low_is in
             refused_as (plain 28) (λ b h. full_here b held before h o out space room_here (take held.bytes before.bytes ++ take size after) good_here drawn_here low)
 
-        pub joined_adds : not u ≡ false → (again : Lists) (notes' : Notes) (s : Added) → Joins held noted lats lons sizes (take sum values) (take size after) before again notes notes' s →
+        pub joined_adds : u ≡ true → (again : Lists) (notes' : Notes) (s : Added) → Joins held noted lats lons sizes (take sum values) (take size after) before again notes notes' s →
             Adds held noted o rooms lent out before again notes notes' s
         unfolding Joins
-        joined_adds long_too again notes' s joins = let long : space.lists ≡ true = sym asked ∙ not-false u long_too in record {
+        joined_adds long_too again notes' s joins = let long : space.lists ≡ true = sym asked ∙ long_too in record {
           answers = λ b h right.
-              let both = joins b pieces values space (ap (λ (n : ℕ). take n values) sum_is_lem) long
+              let both = joins b pieces values space (ap (λ (n : ℕ). take n values) sum_told) long
               (record {
                 holds = h;
                 good = good_here;

@@ -1,6 +1,6 @@
 -- What the steps of an add ask for follows from the tests before them. Assumes nothing.
-use Rattle.numbers.proofs.Prelude.{ℕ, ◌+◌, ◌-◌, ◌*◌, ◌^◌, ◌≤◌, ◌<◌, min, le-leb, leb-true, not-false, lt-leb, leb, ℤ, length, take, drop, length-append, length-take-le, drop_at, Bool, true, false}
-use Rattle.numbers.{proofs.{Prelude.{◌&&◌, not, List, ◌++◌, ◌≡◌, refl, sym, ap, subst, ◌∙◌, mul_comm, mul-suc, add-one, arith}, Tests.{both}}, specs.{Lists.{zeros}, Reply.{given}}}
+use Rattle.numbers.proofs.Prelude.{ℕ, ◌+◌, ◌-◌, ◌*◌, ◌^◌, ◌≤◌, ◌<◌, min, le-leb, leb-true, lt-leb, leb, ℤ, length, take, drop, length-append, length-take-le, drop_at, Bool, true, false}
+use Rattle.numbers.{proofs.{Prelude.{◌&&◌, List, ◌++◌, ◌≡◌, refl, sym, ap, subst, ◌∙◌, mul_comm, mul-suc, add-one, arith}, Tests.{both}}, specs.{Lists.{zeros}, Reply.{given}}}
 use Rattle.build.{proofs.Slices.{texts_few}, specs.Room.{enough}}
 use Rattle.builder.{proofs.{Counting.{lengths_room}, drawing.Sections.{appended_fits}}, specs.{File.{are_texts, is_text, up_to}, Yards.{cut_by, sum_of}, declared.borders.Border.{Border}}}
 use Rattle.builder.specs.inner.Drawing.Section.{LentFor}
@@ -26,11 +26,11 @@ no_place r names yards front strings sum other h k =
     (b && leb (4 * yards) r.boxes))) low ∙ third (leb yards r.borders) (leb (names + 1 + names * yards) r.lengths) (leb (4 * yards) r.boxes) in
     sym (ap (λ (b : Bool). (b && enough (work_in r) yards (names * yards) (strings + sum - front)) && other) none)
 
-pub no_space : (t s other : Bool) → t ≡ s → not t ≡ true → false ≡ (s && other)
+pub no_space : (t s other : Bool) → t ≡ s → t ≡ false → false ≡ (s && other)
 no_space true s other e n = let z : ◌≡◌ {A = ℕ} 0 1 = cc in absurd (omega arith)
 no_space false s other e n = ap (λ (b : Bool). b && other) e
 
-pub with_space : (t s other : Bool) → t ≡ s → not t ≡ false → other ≡ (s && other)
+pub with_space : (t s other : Bool) → t ≡ s → t ≡ true → other ≡ (s && other)
 with_space true s other e n = ap (λ (b : Bool). b && other) e
 with_space false s other e n = let z : ◌≡◌ {A = ℕ} 0 1 = cc in absurd (omega arith)
 
@@ -115,10 +115,10 @@ module _ (held : Held) (lats lons : List ℤ) (pieces sizes values : List ℕ) (
       (border_of held.version lats lons (pieces_of pieces) (take held.bytes bytes)) (take held.bytes bytes ++ take size after) drawn in
       omega (arith, fits, length-append (take held.bytes bytes) (take size after), length-take-le held.bytes bytes (omega (arith, s.bytes_room, bytes_are)), length-take-le size after size_in)
 
-  module _ (lent : NoteRooms) (sum : ℕ) (sum_is_lem : sum ≡ sum_of sizes) (t : Bool)
-      (e : t ≡ (long_enough rooms held.names (held.yards + 1) held.front (held.strings + sum) && notes_enough lent held.names (held.yards + 1))) (n : not t ≡ false) where
+  module _ (lent : NoteRooms) (sum : ℕ) (sum_told : sum ≡ sum_of sizes) (t : Bool)
+      (e : t ≡ (long_enough rooms held.names (held.yards + 1) held.front (held.strings + sum) && notes_enough lent held.names (held.yards + 1))) (n : t ≡ true) where
     all_long : (long_enough rooms held.names (held.yards + 1) held.front (held.strings + sum) ≡ true) × (notes_enough lent held.names (held.yards + 1) ≡ true)
-    all_long = both (long_enough rooms held.names (held.yards + 1) held.front (held.strings + sum)) _ (sym e ∙ not-false t n)
+    all_long = both (long_enough rooms held.names (held.yards + 1) held.front (held.strings + sum)) _ (sym e ∙ n)
 
     parts : (own_enough rooms held.names (held.yards + 1) (held.strings + sum) ≡ true)
         × (enough (work_in rooms) (held.yards + 1) (held.names * (held.yards + 1)) (held.strings + sum - held.front) ≡ true)
@@ -132,7 +132,7 @@ module _ (held : Held) (lats lons : List ℤ) (pieces sizes values : List ℕ) (
     strings_in = lists.texts_room
 
     values_size : length (take sum values) ≡ sum
-    values_size = length-take-le sum values (omega (arith, sum_is_lem, sum_in))
+    values_size = length-take-le sum values (omega (arith, sum_told, sum_in))
 
     border_size : length (take size after) ≡ size
     border_size = length-take-le size after size_in
@@ -147,7 +147,7 @@ module _ (held : Held) (lats lons : List ℤ) (pieces sizes values : List ℕ) (
           few_names = s.few_names;
           few_yards = f.few;
           few_sizes = omega (arith, f.valued);
-          few_values = omega (arith, values_size, sum_is_lem, sum_few);
+          few_values = omega (arith, values_size, sum_told, sum_few);
           few_bytes = omega (arith, border_size, data_fits);
           boxes_room = omega (arith, boxes, lists.boxes_room);
           borders_room = omega (arith, borders, lists.borders_room);

@@ -26,9 +26,9 @@ module _ (held : Held) (strings size : ℕ) (boxes : List ℤ) (borders lengths 
     as_it_was (C.Into h) t = absurd (omega (arith, t))
     as_it_was (C.Refused why) t = (refl, refl)
 
-  values_in_lem : (yards : List Yard) (drawn : Drawn) → length drawn.bytes ≡ held.bytes + size → Stands yards drawn held.names (held.yards + 1) boxes borders lengths texts
+  values_stand : (yards : List Yard) (drawn : Drawn) → length drawn.bytes ≡ held.bytes + size → Stands yards drawn held.names (held.yards + 1) boxes borders lengths texts
       → Values yards held.names (held.yards + 1) lengths texts places
-  values_in_lem yards drawn bytes stands =
+  values_stand yards drawn bytes stands =
       record {
         many = stands.many;
         lengths_are = stands.lengths_are;
@@ -43,5 +43,5 @@ module _ (held : Held) (strings size : ℕ) (boxes : List ℤ) (borders lengths 
   unfolding Renoted
   grew_into tag noted before after lists yards drawn bytes stands = record { changed = (told yards drawn bytes stands).changed; notes = anew m.changed tag } where
     anew : (changed : Changed) → tag_of (declared K.enum) changed ≡ 0 → Renoted held.names yards noted before (m.records + 1) after changed
-    anew (C.Into h) t = record { number = omega (arith, (told yards drawn bytes stands).records); lists = lists yards (values_in_lem yards drawn bytes stands) }
+    anew (C.Into h) t = record { number = omega (arith, (told yards drawn bytes stands).records); lists = lists yards (values_stand yards drawn bytes stands) }
     anew (C.Refused why) t = absurd (omega (arith, t))

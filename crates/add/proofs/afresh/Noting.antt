@@ -1,6 +1,6 @@
 -- What is noted afresh of some yards. Assumes nothing.
-use Rattle.numbers.proofs.{Lists.{zeros_drop}, Prelude.{ℕ, ◌+◌, ◌-◌, ◌*◌, ◌^◌, ◌≤◌, ◌<◌, not-false, not-true, eqb-true, eqb-false, eqb, length, take, drop, length-append, length-replicate}}
-use Rattle.numbers.{proofs.Prelude.{length-take-le, take_at, Bool, true, false, not, List, ◌++◌, map, ◌≡◌, sym, ap, subst, ◌∙◌, mul_comm, arith}, specs.Lists.{zeros}}
+use Rattle.numbers.proofs.{Lists.{zeros_drop}, Prelude.{ℕ, ◌+◌, ◌-◌, ◌*◌, ◌^◌, ◌≤◌, ◌<◌, eqb-true, eqb-false, eqb, length, take, drop, length-append, length-replicate}}
+use Rattle.numbers.{proofs.Prelude.{length-take-le, take_at, Bool, true, false, List, ◌++◌, map, ◌≡◌, sym, ap, subst, ◌∙◌, mul_comm, arith}, specs.Lists.{zeros}}
 use Rattle.builder.{proofs.Counting.{lengths_room}, specs.{Grouping.Items.{starts_from}, Yards.{Yard, sum_of}}}
 use Rattle.notes.specs.{Chains.Entered.{Indexed}, inner.Noted.Noting.{NotesAll}}
 use Rattle.add.specs.{Growing.Notes.{Notes, notes_as, NotedLists, values_in}, inner.Afresh.Afresh.{Notable, Values, gathered}}
@@ -19,8 +19,8 @@ module _ (names count : ℕ) (lengths : List ℕ) (places marks chains groups be
   yards_room starts e = (n.few_names, n.few_yards, omega (arith, e, all_marks), n.room.chained, n.room.grouped)
 
 -- ---- the tests of `note_afresh`
-pub sums_small : (lengths texts : List ℕ) → length texts ≤ 536870912 → (b : Bool) → b ≡ eqb (sum_of lengths) (length texts) → not b ≡ false → sum_of lengths < 2 ^ 32
-sums_small lengths texts small b e n = omega (arith, small, eqb-true (sum_of lengths) (length texts) (sym e ∙ not-false b n))
+pub sums_small : (lengths texts : List ℕ) → length texts ≤ 536870912 → (b : Bool) → b ≡ eqb (sum_of lengths) (length texts) → b ≡ true → sum_of lengths < 2 ^ 32
+sums_small lengths texts small b e n = omega (arith, small, eqb-true (sum_of lengths) (length texts) (sym e ∙ n))
 
 module _ (yards : List Yard) (names count : ℕ) (lengths texts places : List ℕ) (v : Values yards names count lengths texts places) where
   whole : length texts ≡ sum_of lengths
@@ -29,8 +29,8 @@ module _ (yards : List Yard) (names count : ℕ) (lengths texts places : List �
   pub never_long : names ≤ 255 → count ≤ 4096 → length lengths ≡ names * count → 536870912 < length texts → (notes : Notes) → NotedLists names yards notes
   never_long named few all h notes = absurd (omega (arith, h, whole, v.short, all, lengths_room names count named few))
 
-  pub never_other : (b : Bool) → b ≡ eqb (sum_of lengths) (length texts) → not b ≡ true → (notes : Notes) → NotedLists names yards notes
-  never_other b e n notes = absurd (eqb-false (sum_of lengths) (length texts) (sym e ∙ not-true b n) (sym whole))
+  pub never_other : (b : Bool) → b ≡ eqb (sum_of lengths) (length texts) → b ≡ false → (notes : Notes) → NotedLists names yards notes
+  never_other b e n notes = absurd (eqb-false (sum_of lengths) (length texts) (sym e ∙ n) (sym whole))
 
 -- ---- the marks: where the values begin, over the front of zeros
 module _ (lengths zeroed lent : List ℕ) (marks : ℕ) (z : zeroed ≡ zeros marks) (m : lent ≡ starts_from 0 lengths) (room : length lengths + 1 ≤ marks)

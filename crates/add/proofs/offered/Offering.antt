@@ -1,5 +1,5 @@
 -- The checks of an offered yard, and its border behind the data. Assumes nothing.
-use Rattle.numbers.proofs.Prelude.{ℕ, ◌/◌, ◌≤◌, ◌<◌, min, eq-eqb, ne_eqb, lt-ltb, le-ltb, leb-true, not-false, not-true, eqb, ltb, leb, ℤ, length, take, length-append, Bool, true, false, ◌&&◌, not}
+use Rattle.numbers.proofs.Prelude.{ℕ, ◌/◌, ◌≤◌, ◌<◌, min, eq-eqb, ne_eqb, lt-ltb, le-ltb, leb-true, eqb, ltb, leb, ℤ, length, take, length-append, Bool, true, false, ◌&&◌}
 use Rattle.numbers.{proofs.{Prelude.{List, [], ◌≡◌, refl, sym, ap, subst, ◌∙◌, arith}, Tests.{both}}, specs.{Reply.{Reply, given, refused, plain, ◌>>◌}, declared.refusal.Refusal.{Refusal}}}
 use Rattle.writer.specs.{Pieces.{pieces_of}, Writer.{sized, checks, border_of}, declared.write.Piece.{Piece}}
 use Rattle.builder.{proofs.drawing.{Lending.{border_size, demanded, never_given}, Parted.{pieces_many}}, specs.{Borders.{appended, passed, Draws, Lends}, File.{are_texts, up_to}}}
@@ -33,13 +33,13 @@ module _ (yards names : ℕ) (o : Offered) (r : Border) (e : passed r ≡ checks
         counts : (ltb yards 4096 && eqb names (length o.lengths)) ≡ true
         counts = ap (λ (b : Bool). b && eqb names (length o.lengths)) (lt-ltb yards 4096 few) ∙ eq-eqb names (length o.lengths) (sym same)
 
-        pub texts_bad : not b ≡ true → (s : Border) → s ≡ B.Refused (plain 26) → passed s ≡ offer_good yards names o
+        pub texts_bad : b ≡ false → (s : Border) → s ≡ B.Refused (plain 26) → passed s ≡ offer_good yards names o
         unfolding offer_good
-        texts_bad n s e = let bad : are_texts o.lengths o.texts ≡ false = sym is ∙ not-true b n in ap passed e ∙ rw (good, counts, bad) refl
+        texts_bad n s e = let bad : are_texts o.lengths o.texts ≡ false = sym is ∙ n in ap passed e ∙ rw (good, counts, bad) refl
 
-        pub all_good : not b ≡ false → given tt ≡ offer_good yards names o
+        pub all_good : b ≡ true → given tt ≡ offer_good yards names o
         unfolding offer_good
-        all_good n = let fine : are_texts o.lengths o.texts ≡ true = sym is ∙ not-false b n in rw (good, counts, fine) refl
+        all_good n = let fine : are_texts o.lengths o.texts ≡ true = sym is ∙ n in rw (good, counts, fine) refl
 
 -- ---- the border
 pub offer_lends : (version : ℕ) (lats lons : List ℤ) (pieces : List Piece) (earlier : List ℕ) (room bytes wide most limit lent : ℕ) → most ≡ up_to (min bytes wide) → limit ≡ up_to (min room most)

@@ -1,5 +1,6 @@
 -- What `add` promises.
-use Rattle.numbers.specs.{Lists.{zeros}, Prelude.{ℕ, ◌+◌, ◌*◌, ◌≤◌, ◌<◌, min, leb, length, drop, Bool, false, ◌&&◌, List, ◌++◌, ◌≡◌}, Reply.{plain}}
+use Rattle.std.specs.Prelude.{◌+◌, ◌*◌, ◌≤◌, ◌<◌, ◌&&◌, ◌++◌, ◌≡◌}
+use Rattle.numbers.specs.{Lists.{zeros}, Prelude.{ℕ, min, leb, length, drop, Bool, false, List}, Reply.{plain}}
 use Rattle.builder.specs.Yards.{sum_of}
 use Rattle.add.specs.{Growing.{Joins.{Renoted}, Notes.{Notes, NotedBy}}, declared.{adding.room.NoteRooms.{NoteRooms}, growing.grow.Added.{Added}}}
 use Rattle.draft.specs.{Held.{Builder.{Builder, Offered, add, joined}, Space.{Space, long_enough, standing}, State.{Lists, Holds, Answers}}, declared.held.{room.Rooms.{Rooms}, state.Held.{Held}}}

@@ -1,5 +1,6 @@
 -- A builder with a yard more.
-use Rattle.numbers.specs.Prelude.{ℕ, List, ◌≡◌}
+use Rattle.std.specs.Prelude.{◌≡◌}
+use Rattle.numbers.specs.Prelude.{ℕ, List}
 use Rattle.builder.specs.Yards.{Yard}
 use Rattle.draft.specs.declared.held.state.Changed.{Changed}
 use Rattle.add.specs.Growing.Notes.{Notes, Noted}

@@ -1,5 +1,6 @@
 -- What is noted beside a builder, so that an add need not sum afresh: a number, which is 0 where nothing is noted, and four lists.
-use Rattle.numbers.specs.{Lists.{zeros}, Prelude.{ℕ, ◌+◌, ◌*◌, ◌≤◌, ◌<◌, length, List, ◌++◌, map, ◌≡◌}}
+use Rattle.std.specs.Prelude.{◌+◌, ◌*◌, ◌≤◌, ◌<◌, ◌++◌, ◌≡◌}
+use Rattle.numbers.specs.{Lists.{zeros}, Prelude.{ℕ, length, List, map}}
 use Rattle.builder.specs.{Grouping.Items.{starts_from}, Metadata.{fields_of, layout_of}, Yards.{Text, Yard}}
 use Rattle.notes.specs.{Chains.Entered.{Indexed}, Noted.Records.{fields_in, begin_in}}
 use Rattle.draft.specs.Held.State.{Front}

@@ -1,5 +1,5 @@
 -- What the functions that join a yard to a builder say.
-use Rattle.numbers.specs.Prelude.{◌≡◌}
+use Rattle.std.specs.Prelude.{◌≡◌}
 use Rattle.draft.specs.Held.State.{Idle, Works}
 
 -- the lists to work in are as they were, or zero: lent zero they are zero

@@ -1,5 +1,6 @@
 -- A yard that is offered, and what the functions that look at it say.
-use Rattle.numbers.specs.{Prelude.{ℕ, ◌≤◌, min, eqb, ltb, ℤ, length, take, false, ◌&&◌, List, [], ◌++◌, ◌≡◌}, Reply.{Reply, given, refused, plain, demand, ◌>>◌}}
+use Rattle.std.specs.Prelude.{◌≤◌, ◌&&◌, ◌++◌, ◌≡◌}
+use Rattle.numbers.specs.{Prelude.{ℕ, min, eqb, ltb, ℤ, length, take, false, List, []}, Reply.{Reply, given, refused, plain, demand, ◌>>◌}}
 use Rattle.writer.specs.{Pieces.{pieces_of}, Writer.{checks, border_of}}
 use Rattle.builder.specs.{Borders.{appended}, File.{are_texts, up_to}, declared.borders.Border.{Border}}
 use Rattle.draft.specs.{Held.Builder.{Offered}, declared.held.state.Held.{Held}}

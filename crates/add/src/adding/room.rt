@@ -8,7 +8,7 @@ use draft::held::room::{Rooms, has_space};
 use draft::held::state::Held;
 
 // The lengths of the lists of notes.
-#[derive(Drop)]
+#[derive(Clone, Copy)]
 pub struct NoteRooms {
     pub marks: usize,
     pub chains: usize,

@@ -8,7 +8,7 @@ use draft::held::state::{Changed, Held};
 use draft::summed::sums::{Summed, sum_up};
 
 // What the builder becomes, and the bytes of its records.
-#[derive(Drop)]
+#[derive(Clone, Copy)]
 pub(crate) struct Measured {
     pub changed: Changed,
     pub records: u32,

@@ -9,7 +9,7 @@ use draft::summed::sums::{Sums, fits};
 use numbers::refusal::plain;
 
 // What a call makes of a builder, and what is noted then: 0 for nothing, else one more than the bytes of the records.
-#[derive(Drop)]
+#[derive(Clone, Copy)]
 pub struct Added {
     pub changed: Changed,
     pub noted: usize,

@@ -16,7 +16,7 @@ use notes::quick::step::{Numbers, Sureness, step};
 use numbers::refusal::Refusal;
 
 // What came of it.
-#[derive(Drop)]
+#[derive(Clone, Copy)]
 pub enum Surely {
     Into { held: Held, noted: usize },
     Refused(Refusal),
@@ -25,14 +25,14 @@ pub enum Surely {
 }
 
 // The same before the notes are made, and where the yard's record begins.
-#[derive(Drop)]
+#[derive(Clone, Copy)]
 struct Next {
     held: Held,
     noted: usize,
     begin: u32,
 }
 
-#[derive(Drop)]
+#[derive(Clone, Copy)]
 enum Growth {
     Into(Next),
     Refused(Refusal),

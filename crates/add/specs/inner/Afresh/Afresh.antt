@@ -1,5 +1,6 @@
 -- What the functions say that sum up a builder's lists with a yard more, and note it afresh.
-use Rattle.numbers.specs.Prelude.{ℕ, ◌+◌, ◌*◌, ◌^◌, ◌≤◌, ◌<◌, ℤ, length, get_or, List, map, ◌≡◌}
+use Rattle.std.specs.Prelude.{◌+◌, ◌*◌, ◌^◌, ◌≤◌, ◌<◌, ◌≡◌}
+use Rattle.numbers.specs.Prelude.{ℕ, ℤ, length, get_or, List, map}
 use Rattle.build.specs.{Metadata.Kept.{joined}, declared.room.Work.{Work}}
 use Rattle.builder.specs.{Borders.{Drawn}, Grouping.Keys.{numbers_from}, Metadata.{layout_of}, Yards.{Yard, sum_of}}
 use Rattle.add.specs.{Growing.Notes.{NotesRoom, values_in}, declared.afresh.measure.Measured.{Measured}, inner.Growing.Joins.{measured_as}}

@@ -1,5 +1,6 @@
 -- What the functions that add a yard say of each other.
-use Rattle.numbers.specs.{Answer.{if◌then◌else◌}, Prelude.{ℕ, ◌+◌, ◌^◌, ◌≤◌, ◌<◌, leb, ℤ, length, List, [], ◌∷◌, ◌++◌, ◌≡◌}, Reply.{plain}}
+use Rattle.std.specs.Prelude.{if◌then◌else◌, ◌+◌, ◌^◌, ◌≤◌, ◌<◌, ◌∷◌, ◌++◌, ◌≡◌}
+use Rattle.numbers.specs.{Prelude.{ℕ, leb, ℤ, length, List, []}, Reply.{plain}}
 use Rattle.builder.specs.{Borders.{Drawn}, File.{up_to}, Yards.{Yard}}
 use Rattle.draft.specs.{Held.{State.{Stands, held_with}, Totals.{Totals, totals_for, file_size}}, declared.{held.state.{Changed.{Changed}, Held.{Held}}, summed.sums.Sums.{Sums}}}
 use Rattle.add.specs.{Growing.{Joins.{Renoted}, Notes.{Notes}}, declared.growing.grow.Added.{Added}}

@@ -1,5 +1,6 @@
 -- What the functions that join a yard to a builder say of each other.
-use Rattle.numbers.specs.{Prelude.{ℕ, ◌+◌, ◌-◌, ◌*◌, ◌^◌, ◌≤◌, ◌<◌, ℤ, length, take, drop, true, List, [], ◌∷◌, ◌++◌, map, ◌≡◌}, Reply.{given}}
+use Rattle.std.specs.Prelude.{◌+◌, ◌-◌, ◌*◌, ◌^◌, ◌≤◌, ◌<◌, ◌∷◌, ◌++◌, ◌≡◌}
+use Rattle.numbers.specs.{Prelude.{ℕ, ℤ, length, take, drop, true, List, [], map}, Reply.{given}}
 use Rattle.build.specs.{Room.{enough}, declared.room.Work.{Work}}
 use Rattle.builder.specs.{Borders.{Drawn, with_border}, File.{up_to}, Yards.{Yard, sum_of}}
 use Rattle.add.specs.{Growing.{Joins.{Renoted}, Notes.{Notes, NotedBy, NotesRoom}}, Offered.Offers.{offered_as, offer_good}, declared.growing.grow.Added.{Added}}

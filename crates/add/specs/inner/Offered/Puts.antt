@@ -1,5 +1,6 @@
 -- What the functions that change the lists of a builder say.
-use Rattle.numbers.specs.Prelude.{ℕ, ◌+◌, ◌-◌, ◌*◌, ◌^◌, ◌≤◌, ◌<◌, ℤ, pos, length, take, replicate, sets, List, [], ◌∷◌, ◌++◌, ◌≡◌}
+use Rattle.std.specs.Prelude.{◌+◌, ◌-◌, ◌*◌, ◌^◌, ◌≤◌, ◌<◌, ◌∷◌, ◌++◌, ◌≡◌}
+use Rattle.numbers.specs.Prelude.{ℕ, ℤ, pos, length, take, replicate, sets, List, []}
 use Rattle.builder.specs.Entries.{box_of}
 use Rattle.draft.specs.{Held.State.{Lists}, declared.held.state.Held.{Held}}
 

@@ -1,5 +1,6 @@
 -- What the functions say that join a yard by a sure step.
-use Rattle.numbers.specs.{Lists.{zeros}, Prelude.{ℕ, ◌+◌, ◌-◌, ◌*◌, ◌^◌, ◌≤◌, ◌<◌, ℤ, length, take, List, [], ◌∷◌, ◌++◌, map, ◌≡◌}}
+use Rattle.std.specs.Prelude.{◌+◌, ◌-◌, ◌*◌, ◌^◌, ◌≤◌, ◌<◌, ◌∷◌, ◌++◌, ◌≡◌}
+use Rattle.numbers.specs.{Lists.{zeros}, Prelude.{ℕ, ℤ, length, take, List, [], map}}
 use Rattle.builder.specs.{Borders.{Drawn}, Yards.{Yard, sum_of}}
 use Rattle.add.specs.{Growing.Notes.{Notes, Noted, NotedBy, NotesRoom}, declared.surely.sure.{Growth.{Growth}, Surely.{Surely}}, inner.Growing.Joins.{Growing, measured_as}}
 use Rattle.draft.specs.{Held.Totals.{Totals, totals_for}, declared.held.state.Held.{Held}}
