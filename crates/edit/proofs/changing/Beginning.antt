@@ -91,14 +91,14 @@ module _ (kind version precision names room : ℕ) (sizes strings : List ℕ) wh
         pub lengths_fit : length (take (names + 1) sizes) ≤ length lengths₁
         lengths_fit = omega (arith, size_of, checked.lengths_room, lengths_same)
 
-        front_of_lem : length (take held.front strings) ≡ held.front
-        front_of_lem = length-take-le held.front strings strings_fit
+        front_whole : length (take held.front strings) ≡ held.front
+        front_whole = length-take-le held.front strings strings_fit
 
         pub front_small : 0 + length (take held.front strings) < 2 ^ 62
-        front_small = omega (arith, front_of_lem, checked.front_is, checked.small)
+        front_small = omega (arith, front_whole, checked.front_is, checked.small)
 
         texts_fit : length (take held.front strings) ≤ length texts₁
-        texts_fit = omega (arith, front_of_lem, checked.front_is, checked.texts_room, texts_same)
+        texts_fit = omega (arith, front_whole, checked.front_is, checked.texts_room, texts_same)
 
         module _ (lengths₂ texts₂ : List ℕ) (next : ℕ) (words : lengths₂ ≡ over (take (names + 1) sizes) lengths₁) (put : Stored texts₁ 0 (take held.front strings) texts₂ next) where
           abbrev after : Lists

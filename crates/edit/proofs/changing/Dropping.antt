@@ -1,13 +1,14 @@
 -- A builder whose last yard is dropped: the sums of what is left, and the lists cut. Assumes nothing.
-use Rattle.numbers.proofs.Prelude.{ℕ, ◌+◌, ◌-◌, ◌*◌, ◌≤◌, ◌<◌, lt-ltb, tag_of, declared, eqb, ℤ, pos, length, take, drop, get_or, length-append, length-drop, length-map, length-take-le, Bool, true}
-use Rattle.numbers.{proofs.Prelude.{List, [], ◌++◌, map, ◌≡◌, refl, sym, ap, subst, ◌∙◌, arith}, specs.{Lists.{zeros}, Reply.{Reply, given, plain, demand, ◌>>◌}, declared.refusal.Refusal.{Refusal}}}
+use Rattle.numbers.proofs.Prelude.{ℕ, ◌+◌, ◌-◌, ◌*◌, ◌≤◌, ◌<◌, lt-ltb, tag_of, declared, eqb, pos, length, take, drop, get_or, length-append, length-drop, length-map, length-take-le, Bool, true}
+use Rattle.numbers.{proofs.Prelude.{List, ◌++◌, map, ◌≡◌, refl, sym, ap, subst, ◌∙◌, arith}, specs.{Reply.{Reply, given, plain, demand, ◌>>◌}, declared.refusal.Refusal.{Refusal}}}
 use mathlib.Core.Bool.{false≢true}
 use Rattle.build.{proofs.metadata.Shared.{flat_more, map_more}, specs.{Entries.Corners.{corners_of}, Metadata.Kept.{joined}, Room.{enough}}}
 use Rattle.builder.{proofs.Counting.{lengths_room}, specs.{Borders.{Drawn}, File.{is_text}, Yards.{Plan, Text, Yard, sum_of}}}
 use Rattle.draft.proofs.held.{Everyone.{every_take}, Fronts.{front_of_more, front_part}, Kept.{dropped_data}, Lying.{Splits, boxes_end, borders_end, bytes_end, holds_other, lengths_end}}
 use Rattle.draft.proofs.held.{Lying.{lies_dropped, lies_splits}, Redrawn.{drawn_to}, Standing.{fields_short, front_many, held_front, held_names, readable_parts}, Stood.{Stood, stood, work_enough}}
-use Rattle.draft.{proofs.held.Texts.{dropped_values, rest_values, values_in}, specs.Held.{Builder.{Builder, drop_last, holding, summed}, Space.{long_enough, work_in}, State.{held_with, Answers, Holds}}}
-use Rattle.draft.specs.{Held.{State.{Lies, Lists, SameRooms, Stands, front_of, lists_as, texts_of, values_of}, Totals.{Totals, data_of, totals_for, totals_of}}, declared.held.room.Rooms.{Rooms}}
+use Rattle.draft.proofs.held.Texts.{dropped_values, rest_values, values_in}
+use Rattle.draft.specs.Held.{Builder.{Builder, drop_last, holding, summed}, Space.{long_enough, work_in}, State.{held_with, Answers, Holds}}
+use Rattle.draft.specs.{Held.{State.{Lies, Lists, SameRooms, Stands, front_of, texts_of, values_of}, Totals.{Totals, data_of, totals_for, totals_of}}, declared.held.room.Rooms.{Rooms}}
 use Rattle.draft.specs.{declared.{held.state.{Changed.{Changed}, Held.{Held}}, summed.sums.{Summed.{Summed}, Sums.{Sums}}}, inner.Summed.Sums.{Summing, SumsUp, sums_of}}
 use Rattle.writer.specs.Writer.{every}
 use Rattle.edit.proofs.changing.{Cuts.{cut_front, cut_rooms}, Lasts.{fewer_sound, kept_many, last_place, left_is, left_less, left_many, left_strings}}

@@ -1,10 +1,11 @@
 -- A builder that is cleared. Assumes nothing.
-use Rattle.numbers.proofs.Prelude.{suc, ◌+◌, ◌-◌, not-false, not-true, pos, length, length-map, Bool, true, false, not, [], ◌∷◌, map, ◌≡◌, refl, sym, ap, subst, ◌∙◌, arith}
+use Rattle.numbers.proofs.Prelude.{suc, ◌+◌, ◌-◌, pos, length, length-map, Bool, true, false, [], ◌∷◌, map, ◌≡◌, refl, sym, ap, subst, ◌∙◌, arith}
 use Rattle.numbers.specs.{Lists.{zeros}, Reply.{plain}}
 use mathlib.Core.Bool.{false≢true}
 use Rattle.builder.specs.Yards.{Plan}
 use Rattle.draft.proofs.held.{Fronts.{front_made, front_zero}, Kept.{cleared_sound}, Standing.{front_many, held_front, held_names, holds_standing, lengths_split, texts_split}, Stood.{stood}}
-use Rattle.draft.specs.Held.{Builder.{Builder, clear, holding, summed}, Space.{standing}, State.{Answers, Front, Holds, Lies, Lists, SameRooms, front_of, held_as, texts_of, values_of}, Totals.{data_of}}
+use Rattle.draft.specs.Held.{Builder.{Builder, clear, holding, summed}, Space.{standing}, State.{Answers, Front, Holds, Lies, Lists, SameRooms, front_of, held_as, texts_of, values_of}}
+use Rattle.draft.specs.Held.Totals.{data_of}
 use Rattle.draft.specs.declared.held.{room.Rooms.{Rooms}, state.{Changed.{Changed}, Held.{Held}}}
 use Rattle.build.specs.Metadata.Kept.{joined}
 use Rattle.edit.proofs.changing.{Cuts.{cut_all, cut_front, cut_rooms}, Lasts.{data_some}, Nothing.{none_held, none_lies}}
@@ -44,13 +45,13 @@ module _ (builder : Held) (before : Lists) where
   rooms = own_rooms before
 
   module _ (s : Bool) (is : s ≡ standing builder (own_rooms before)) where
-    pub clear_refused : not s ≡ true → (r : Changed) → r ≡ C.Refused (plain 28) → Clears builder rooms before before r
-    clear_refused n r e = let fallen : standing builder rooms ≡ false = sym is ∙ not-true s n in
+    pub clear_refused : s ≡ false → (r : Changed) → r ≡ C.Refused (plain 28) → Clears builder rooms before before r
+    clear_refused n r e = let fallen : standing builder rooms ≡ false = sym is ∙ n in
         record { answers = λ b h. absurd (false≢true (sym fallen ∙ holds_standing b builder before h rooms refl refl refl refl refl)); broken = λ f. (e, refl) }
 
-    module _ (n : not s ≡ false) where
+    module _ (n : s ≡ true) where
       stands : standing builder rooms ≡ true
-      stands = sym is ∙ not-false s n
+      stands = sym is ∙ n
 
       pub clear_inside : Inside (front_ends builder) before
       clear_inside = let all = stood builder rooms stands in record {

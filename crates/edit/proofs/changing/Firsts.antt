@@ -1,10 +1,11 @@
 -- The names and the notice as they are lent: what they make of a plan, and when beginning is refused. Assumes nothing.
-use Rattle.numbers.proofs.Prelude.{ℕ, suc, ◌+◌, ◌*◌, ◌^◌, ◌≤◌, ◌<◌, min, le-leb, leb-true, not-false, lt-leb, not-true, ltb, leb, length, take, get_or, length-take, length-take-le, take-suc, Bool}
-use Rattle.numbers.proofs.Prelude.{true, false, ◌&&◌, not, List, [], ◌∷◌, ◌++◌, ◌≡◌, refl, sym, ap, subst, ◌∙◌, arith}
+use Rattle.numbers.proofs.Prelude.{ℕ, suc, ◌+◌, ◌*◌, ◌^◌, ◌≤◌, ◌<◌, min, le-leb, leb-true, lt-leb, ltb, leb, length, take, get_or, length-take, length-take-le, take-suc, Bool}
+use Rattle.numbers.proofs.Prelude.{true, false, ◌&&◌, List, [], ◌∷◌, ◌++◌, ◌≡◌, refl, sym, ap, subst, ◌∙◌, arith}
 use Rattle.numbers.{proofs.Tests.{both}, specs.{Reply.{Reply, given, refused, plain, demand, ◌>>◌}, declared.refusal.Refusal.{Refusal}}}
 use Rattle.writer.specs.Writer.{every}
 use Rattle.build.{proofs.{Slices.{texts_few}, metadata.Itemed.{cut_lengths}, recording.Fewer.{joined_sum}}, specs.Metadata.Kept.{joined}}
-use Rattle.builder.{proofs.Counting.{cut_many, cut_take}, specs.{File.{are_texts, head_from, head_of, is_text, known, readable}, Yards.{Plan, Text, counted_lengths, cut_by, plan_of, sum_of, values_from}}}
+use Rattle.builder.proofs.Counting.{cut_many, cut_take}
+use Rattle.builder.specs.{File.{are_texts, head_from, head_of, is_text, known, readable}, Yards.{Plan, Text, counted_lengths, cut_by, plan_of, sum_of, values_from}}
 use Rattle.header.specs.Header.{is_kind}
 use Rattle.draft.specs.{Held.{Builder.{Builder, begin, holding, summed}, Sound.{Sound}, State.{front_of, held_as}}, declared.held.state.Changed.{Changed}}
 use Rattle.edit.proofs.changing.Nothing.{held_none, none_held, none_sound}
@@ -98,12 +99,12 @@ module _ (kind version precision names : ℕ) (sizes strings : List ℕ) where
       good_counts = counts_are ∙ (ap (λ (b : Bool). b && leb (names + 1) (length sizes)) (le-leb names 255 few) ∙ le-leb (names + 1) (length sizes) many)
 
       module _ (t : Bool) (tested : t ≡ are_texts (take (names + 1) sizes) strings) where
-        pub texts_bad : not t ≡ true → (r : Changed) → r ≡ C.Refused (plain 26) → Checks kind version precision names room sizes strings lengths texts bytes r
-        texts_bad n r e = refuses (plain 26) r e (steps true false (known plan) good_counts (readable_is many ∙ (sym tested ∙ not-true t n)) refl)
+        pub texts_bad : t ≡ false → (r : Changed) → r ≡ C.Refused (plain 26) → Checks kind version precision names room sizes strings lengths texts bytes r
+        texts_bad n r e = refuses (plain 26) r e (steps true false (known plan) good_counts (readable_is many ∙ (sym tested ∙ n)) refl)
 
-        module _ (fine : not t ≡ false) where
+        module _ (fine : t ≡ true) where
           good_texts : are_texts (take (names + 1) sizes) strings ≡ true
-          good_texts = sym tested ∙ not-false t fine
+          good_texts = sym tested ∙ fine
 
           told : (sum_of (take (names + 1) sizes) ≤ length strings) × (every is_text (cut_by (take (names + 1) sizes) strings) ≡ true)
           unfolding are_texts
@@ -125,12 +126,12 @@ module _ (kind version precision names : ℕ) (sizes strings : List ℕ) where
             unfolding known plan_of
             known_is = sym form
 
-            pub form_bad : not k ≡ true → (r : Changed) → r ≡ C.Refused (plain 27) → Checks kind version precision names room sizes strings lengths texts bytes r
-            form_bad n r e = refuses (plain 27) r e (steps true true false good_counts (readable_is many ∙ good_texts) (known_is ∙ not-true k n))
+            pub form_bad : k ≡ false → (r : Changed) → r ≡ C.Refused (plain 27) → Checks kind version precision names room sizes strings lengths texts bytes r
+            form_bad n r e = refuses (plain 27) r e (steps true true false good_counts (readable_is many ∙ good_texts) (known_is ∙ n))
 
-            module _ (good : not k ≡ false) where
+            module _ (good : k ≡ true) where
               past_form : begun ≡ (demand lists (plain 28) >> last)
-              past_form = steps true true true good_counts (readable_is many ∙ good_texts) (known_is ∙ not-false k good)
+              past_form = steps true true true good_counts (readable_is many ∙ good_texts) (known_is ∙ good)
 
               no_room : lists ≡ false → (r : Changed) → r ≡ C.Refused (plain 28) → Checks kind version precision names room sizes strings lengths texts bytes r
               no_room h r e = refuses (plain 28) r e (past_form ∙ ap (λ (b : Bool). demand b (plain 28) >> last) h)
@@ -155,7 +156,7 @@ module _ (kind version precision names : ℕ) (sizes strings : List ℕ) where
 
                 sound : Sound (holding plan []) room
                 sound = let counts = both (leb (length plan.names) 255) plan.numbered good_counts in
-                    none_sound plan room counts.0 counts.1 (readable_is many ∙ good_texts) (known_is ∙ not-false k good)
+                    none_sound plan room counts.0 counts.1 (readable_is many ∙ good_texts) (known_is ∙ good)
 
                 module _ (c : 1 ≤ bytes) (head front : ℕ) (eh : head ≡ length (head_from kind version precision names (cut_by (take (names + 1) sizes) strings)))
                     (ef : front ≡ sum_of (take (names + 1) sizes)) where

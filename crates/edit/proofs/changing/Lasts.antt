@@ -57,14 +57,14 @@ module _ (b : Builder) (builder : Held) (before : Lists) (h : Holds b builder be
       front_slice 0 (map length (texts_of fewer)) (map length (rest_values plan left)) (subst (λ (l : List ℕ). Front 0 l before.lengths) (dropped_lengths plan left)
       h.lies.lengths_are) from to (ef ∙ sym kept_many) (omega (arith, et, ef, all_many, ap length (dropped_lengths plan left)))
 
-  last_size_lem : last_size builder before.lengths ≡ length (joined (rest_values plan left))
+  last_size_is : last_size builder before.lengths ≡ length (joined (rest_values plan left))
   unfolding last_size
-  last_size_lem = let from : ℕ = builder.names + 1 + builder.names * (builder.yards - 1) in
+  last_size_is = let from : ℕ = builder.names + 1 + builder.names * (builder.yards - 1) in
       let size : builder.names ≡ from + builder.names - from = omega arith in
       ap (λ (n : ℕ). sum_of (take n (drop from before.lengths))) size ∙ (ap sum_of (last_lengths from (from + builder.names) refl refl) ∙ sym (joined_sum (rest_values plan left)))
 
   all_size : builder.strings ≡ length (joined (texts_of fewer)) + last_size builder before.lengths
-  all_size = omega (arith, held_strings b builder before h, ap length (dropped_strings plan left), length-append (joined (texts_of fewer)) (joined (rest_values plan left)), last_size_lem)
+  all_size = omega (arith, held_strings b builder before h, ap length (dropped_strings plan left), length-append (joined (texts_of fewer)) (joined (rest_values plan left)), last_size_is)
 
   pub left_strings : builder.strings - last_size builder before.lengths ≡ length (joined (texts_of fewer))
   left_strings = omega (arith, all_size)

@@ -1,5 +1,5 @@
 -- When a yard can be dropped, test by test. Assumes nothing.
-use Rattle.numbers.proofs.Prelude.{ℕ, ◌+◌, ◌-◌, ◌*◌, ◌≤◌, ◌<◌, lt-ltb, le-ltb, not-false, not-true, ℤ, length, take, drop, get_or, Bool, true, false, not, List, ◌≡◌, refl, sym, ap, subst, ◌∙◌, arith}
+use Rattle.numbers.proofs.Prelude.{ℕ, ◌+◌, ◌-◌, ◌*◌, ◌≤◌, ◌<◌, lt-ltb, le-ltb, ℤ, length, take, drop, get_or, Bool, true, false, List, ◌≡◌, refl, sym, ap, subst, ◌∙◌, arith}
 use Rattle.numbers.specs.{Reply.{Reply, given, refused, plain, demand, ◌>>◌}, declared.refusal.Refusal.{Refusal}}
 use mathlib.Core.Bool.{false≢true}
 use Rattle.builder.{proofs.Counting.{lengths_room}, specs.Yards.{sum_of}}
@@ -25,14 +25,14 @@ module _ (builder : Held) (rooms : Rooms) (borders lengths : List ℕ) where
       ap (λ (x : Bool). demand x (plain 29) >> (demand (left_space builder rooms lengths).lists (plain 28) >> last)) (le-ltb 0 (length b.plan.yards) (omega (arith, e)))
 
   module _ (s : Bool) (is : s ≡ standing builder rooms) where
-    pub not_standing : not s ≡ true → (r : Changed) → r ≡ C.Refused (plain 29) → Shortens builder rooms borders lengths r
+    pub not_standing : s ≡ false → (r : Changed) → r ≡ C.Refused (plain 29) → Shortens builder rooms borders lengths r
     not_standing n r e =
         refuses (plain 29) r e (λ f. refl)
-        (λ b before eb el l h. absurd (false≢true (sym (sym is ∙ not-true s n) ∙ holds_standing b builder before h rooms l.boxes l.borders l.lengths l.texts l.bytes)))
+        (λ b before eb el l h. absurd (false≢true (sym (sym is ∙ n) ∙ holds_standing b builder before h rooms l.boxes l.borders l.lengths l.texts l.bytes)))
 
-    module _ (n : not s ≡ false) where
+    module _ (n : s ≡ true) where
       stands : standing builder rooms ≡ true
-      stands = sym is ∙ not-false s n
+      stands = sym is ∙ n
 
       all : Stood builder rooms
       all = stood builder rooms stands
@@ -110,12 +110,12 @@ module _ (builder : Held) (rooms : Rooms) (borders lengths : List ℕ) where
                 ap (λ (x : Bool). demand x (plain 29) >> (demand (long_enough rooms builder.names (builder.yards - 1) builder.front (builder.strings - last_size builder lengths))
                 (plain 28) >> last)) (lt-ltb 0 (length b.plan.yards) more) ∙ ap (λ (x : Bool). demand x (plain 28) >> last) (room_is ∙ none)
 
-            pub room_bad : not w ≡ true → (r : Changed) → r ≡ C.Refused (plain 28) → Shortens builder rooms borders lengths r
+            pub room_bad : w ≡ false → (r : Changed) → r ≡ C.Refused (plain 28) → Shortens builder rooms borders lengths r
             room_bad m r e =
-                refuses (plain 28) r e (standing_still (plain 28)) (λ b before eb el l h. no_room b (omega (arith, there, held_yards b builder before h)) (not-true w m))
+                refuses (plain 28) r e (standing_still (plain 28)) (λ b before eb el l h. no_room b (omega (arith, there, held_yards b builder before h)) m)
 
             -- the greatest latitude comes as it is stored
-            pub shortened : not w ≡ false → (greatest : ℤ) → greatest ≡ builder.greatest
+            pub shortened : w ≡ true → (greatest : ℤ) → greatest ≡ builder.greatest
                 → Shortens builder rooms borders lengths
                 (C.Into (with_sums (short_of builder (builder.strings - last) (get_or borders (builder.yards - 1) 0)) builder.table builder.metadata greatest))
             unfolding Shortens with_sums short_of
@@ -125,7 +125,7 @@ module _ (builder : Held) (rooms : Rooms) (borders lengths : List ℕ) where
                   some = there;
                   last_in = omega (arith, last_less, last_same);
                   bytes_in = inside;
-                  room = room_is ∙ not-false w m;
+                  room = room_is ∙ m;
                   is = ap (with_sums (short_of builder (builder.strings - last) (get_or borders (builder.yards - 1) 0)) builder.table builder.metadata) e ∙
                       ap (λ (k : ℕ). short_of builder (builder.strings - k) (get_or borders (builder.yards - 1) 0)) last_same;
                 }

@@ -1,6 +1,6 @@
 -- From the checks and the text that is put to what replacing promises. Assumes nothing.
 use Rattle.numbers.proofs.Prelude.{ℕ, ◌+◌, ◌-◌, ◌*◌, ◌≤◌, ◌<◌, leb-true, ltb-true, ltb, leb, length, take, drop, Bool, true, false, ◌&&◌, List, ◌≡◌, refl, sym, ap, subst, ◌∙◌, arith}
-use Rattle.numbers.{proofs.{Replies.{demanded}, Tests.{both}}, specs.{Lists.{zeros}, Reply.{Reply, given, refused, plain, demand, ◌>>=◌, ◌>>◌}, declared.refusal.Refusal.{Refusal}}}
+use Rattle.numbers.{proofs.{Replies.{demanded}, Tests.{both}}, specs.{Reply.{Reply, given, refused, plain, demand, ◌>>=◌, ◌>>◌}, declared.refusal.Refusal.{Refusal}}}
 use Rattle.build.specs.{Room.{enough}, declared.room.Work.{Work}}
 use Rattle.builder.specs.{File.{is_text}, Yards.{Text}}
 use Rattle.draft.{proofs.held.{Standing.{held_names, held_yards, holds_standing, text_short}, Stood.{Own, own_parts, stood}}, specs.Held.Builder.{Builder, fitting, replace, summed}}
@@ -71,7 +71,7 @@ kept_room before after bytes next size s long few = omega (arith, stored_length 
 pub record Passed (held : Held) (rooms : Rooms) (out yard field : ℕ) (text : Text) (lengths : List ℕ) (spot : Spot) : Type 0 where
   pub stands : standing held rooms ≡ true
   pub there : (ltb yard held.yards && ltb field held.names) ≡ true
-  pub is_text_lem : is_text text ≡ true
+  pub text_good : is_text text ≡ true
   pub is : spot ≡ spot_in (text_at held.names yard field) lengths
   pub within' : within held (spot_in (text_at held.names yard field) lengths) ≡ true
   pub room : (leb held.strings out && long_enough rooms held.names held.yards held.front (size_with held (spot_in (text_at held.names yard field) lengths) (length text))) ≡ true
@@ -88,7 +88,7 @@ module _ (held : Held) (rooms : Rooms) (out yard field : ℕ) (text : Text) (len
       let b = demanded {rest = demand (is_text text) (plain 26) >> in-it} (ltb yard held.yards && ltb field held.names) (plain 30) a.1 in
       let c = demanded {rest = in-it} (is_text text) (plain 26) b.1 in let d = demanded {rest = last} (within held here) (plain 28) c.1 in
       let f = demanded {rest = given here} room (plain 28) d.1 in let onto = f.1 in let same : spot ≡ here = cc in
-      record { stands = a.0; there = b.0; is_text_lem = c.0; is = same; within' = d.0; room = f.0 }
+      record { stands = a.0; there = b.0; text_good = c.0; is = same; within' = d.0; room = f.0 }
 
   long_parts : (strings : ℕ) → long_enough rooms held.names held.yards held.front strings ≡ true
       → Own rooms held.names held.yards strings × (enough (work_in rooms) held.yards (held.names * held.yards) (strings - held.front) ≡ true)
@@ -110,7 +110,7 @@ module _ (held : Held) (rooms : Rooms) (out yard field : ℕ) (text : Text) (len
         short = w.short;
         old_fits = s.own.texts_room;
         aside = leb-true held.strings out r.0;
-        few = text_short text p.is_text_lem;
+        few = text_short text p.text_good;
         resumming = record {
           few_names = s.few_names;
           few_yards = s.few_yards;
@@ -156,6 +156,6 @@ module _ (held : Held) (rooms : Rooms) (out yard field : ℕ) (text : Text) (len
                 subst (λ (x : Reply Builder). Answers x lists after r)
                 (ap (λ (x : Checked). told x >>= λ s. fitting after_checks (summed (replaced b.plan yard field text) b.room)) (sym at) ∙ agreed b h)
                 (renews b yard field h (omega (arith, held_yards b held lists h, ltb-true yard held.yards t.0))
-                (omega (arith, held_names b held lists h, ltb-true field held.names t.1)) p.is_text_lem (p.is ∙ ap (spot_in (text_at held.names yard field)) (sym same)));
+                (omega (arith, held_names b held lists h, ltb-true field held.names t.1)) p.text_good (p.is ∙ ap (spot_in (text_at held.names yard field)) (sym same)));
             fallen = λ f. let z : ◌≡◌ {A = ℕ} 0 1 = (let no_way : true ≡ false = sym p.stands ∙ f in cc) in absurd (omega arith);
           }

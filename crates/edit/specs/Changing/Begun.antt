@@ -1,5 +1,6 @@
 -- What beginning a builder gives: document 02, Q-5.
-use Rattle.numbers.specs.{Lists.{zeros}, Prelude.{ℕ, ◌+◌, ◌≤◌, leb, pos, length, take, replicate, ◌&&◌, List, [], ◌≡◌}, Reply.{given, refused}}
+use Rattle.std.specs.Prelude.{◌+◌, ◌≤◌, ◌&&◌, ◌≡◌}
+use Rattle.numbers.specs.{Lists.{zeros}, Prelude.{ℕ, leb, pos, length, take, replicate, List, []}, Reply.{given, refused}}
 use Rattle.build.specs.Checked.{lent_as}
 use Rattle.builder.specs.Yards.{Plan, plan_of, sum_of}
 use Rattle.draft.specs.{Held.{Builder.{Builder, begin, holding, summed}, Sound.{Sound}, Space.{Space}, State.{Holds, Lists, SameRooms, held_as, lists_as}}, declared.held.state.Changed.{Changed}}

@@ -1,5 +1,6 @@
 -- What dropping the last yard gives.
-use Rattle.numbers.specs.{Prelude.{ℕ, ◌+◌, ◌-◌, ◌*◌, take, drop, false, List, ◌≡◌}, Reply.{plain}}
+use Rattle.std.specs.Prelude.{◌+◌, ◌-◌, ◌*◌, ◌≡◌}
+use Rattle.numbers.specs.{Prelude.{ℕ, take, drop, false, List}, Reply.{plain}}
 use Rattle.builder.specs.Yards.{sum_of}
 use Rattle.draft.specs.{Held.{Builder.{Builder, drop_last}, Space.{Space, long_enough, standing}, State.{Answers, Holds, Lists}}, declared.held.{room.Rooms.{Rooms}, state.Changed.{Changed}}}
 use Rattle.draft.specs.declared.held.state.Held.{Held}

@@ -1,5 +1,6 @@
 -- A builder without a yard: what clearing gives.
-use Rattle.numbers.specs.{Prelude.{pos, false, [], ◌≡◌}, Reply.{given, plain}}
+use Rattle.std.specs.Prelude.{◌≡◌}
+use Rattle.numbers.specs.{Prelude.{pos, false, []}, Reply.{given, plain}}
 use Rattle.draft.specs.Held.{Builder.{Builder, clear}, Space.{standing}, State.{Answers, Holds, Lists, held_with, rooms_of, works_as}}
 use Rattle.draft.specs.declared.held.{room.Rooms.{Rooms}, state.{Changed.{Changed}, Held.{Held}}}
 use Rattle.draft.specs.declared.held.state.Changed.TheVariants as C

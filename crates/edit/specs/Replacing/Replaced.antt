@@ -1,5 +1,6 @@
 -- What replacing a value of a builder gives: document 02, Q-5.
-use Rattle.numbers.specs.{Prelude.{ℕ, leb, length, false, ◌&&◌, ◌≡◌}, Reply.{plain}}
+use Rattle.std.specs.Prelude.{◌&&◌, ◌≡◌}
+use Rattle.numbers.specs.{Prelude.{ℕ, leb, length, false}, Reply.{plain}}
 use Rattle.builder.specs.Yards.{Text, Plan}
 use Rattle.draft.specs.Held.{Builder.{Builder, changed_at, holding, replace, with_value}, Space.{Space, long_enough, standing}, State.{Answers, Holds, Lists, front_of, texts_of}}
 use Rattle.draft.specs.declared.held.{room.Rooms.{Rooms}, state.{Changed.{Changed}, Held.{Held}}}

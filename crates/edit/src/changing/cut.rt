@@ -8,7 +8,7 @@ use header::field::zero;
 use header::zero::zero_words;
 
 // How much of each list is kept.
-#[derive(Drop)]
+#[derive(Clone, Copy)]
 pub(crate) struct Ends {
     pub boxes: usize,
     pub borders: usize,

@@ -2,7 +2,7 @@
 ghost use Rattle.std.specs.Prelude.{◌≡◌};
 ghost use Rattle.edit.specs.inner.Changing.Sum.{SumsTo};
 
-#[derive(Drop)]
+#[derive(Clone, Copy)]
 pub(crate) enum Sum {
     Within(usize),
     Over,

@@ -9,14 +9,14 @@ use draft::held::state::Held;
 use numbers::refusal::{Refusal, plain};
 
 // A text: which length is its own, and the bytes where it begins and ends.
-#[derive(Drop)]
+#[derive(Clone, Copy)]
 pub struct Spot {
     pub index: usize,
     pub place: usize,
     pub from: usize,
 }
 
-#[derive(Drop)]
+#[derive(Clone, Copy)]
 pub enum Checked {
     At(Spot),
     Refused(Refusal),

@@ -1,5 +1,6 @@
 -- A builder's lists, cut: of each so much is kept, and behind it is zero.
-use Rattle.numbers.specs.Prelude.{ℕ, ◌-◌, ◌≤◌, pos, length, take, replicate, List, ◌++◌}
+use Rattle.std.specs.Prelude.{◌-◌, ◌≤◌, ◌++◌}
+use Rattle.numbers.specs.Prelude.{ℕ, pos, length, take, replicate, List}
 use Rattle.draft.specs.Held.State.{Lists, lists_as}
 use Rattle.edit.specs.declared.changing.cut.Ends.{Ends}
 

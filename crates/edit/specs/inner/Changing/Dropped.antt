@@ -1,5 +1,6 @@
 -- What the functions that drop a yard say of each other.
-use Rattle.numbers.specs.{Prelude.{ℕ, ◌+◌, ◌-◌, ◌*◌, ◌≤◌, ◌<◌, ℤ, length, get_or, true, false, List, ◌≡◌}, Reply.{plain, refused}}
+use Rattle.std.specs.Prelude.{◌+◌, ◌-◌, ◌*◌, ◌≤◌, ◌<◌, ◌≡◌}
+use Rattle.numbers.specs.{Prelude.{ℕ, ℤ, length, get_or, true, false, List}, Reply.{plain, refused}}
 use Rattle.draft.specs.{Held.{Builder.{Builder, drop_last}, Space.{long_enough, standing}, State.{Holds, Lists, held_with}}, declared.held.{room.Rooms.{Rooms}, state.{Changed.{Changed}, Held.{Held}}}}
 use Rattle.edit.specs.{Changing.Dropped.{last_size, left_space}, declared.changing.cut.Ends.{Ends}}
 use Rattle.draft.specs.declared.held.state.Changed.TheVariants as C

@@ -1,5 +1,6 @@
 -- What the inner function that sums lengths says.
-use Rattle.numbers.specs.Prelude.{ℕ, ◌≤◌, ◌<◌, List, ◌≡◌}
+use Rattle.std.specs.Prelude.{◌≤◌, ◌<◌, ◌≡◌}
+use Rattle.numbers.specs.Prelude.{ℕ, List}
 use Rattle.builder.specs.Yards.{sum_of}
 use Rattle.edit.specs.declared.changing.sum.Sum.{Sum}
 use Rattle.edit.specs.declared.changing.sum.Sum.TheVariants as S

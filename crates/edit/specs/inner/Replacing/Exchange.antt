@@ -1,5 +1,6 @@
 -- One text of many in the place of another.
-use Rattle.numbers.specs.Prelude.{ℕ, ◌+◌, ◌-◌, ◌^◌, ◌≤◌, length, List, ◌++◌, ◌≡◌}
+use Rattle.std.specs.Prelude.{◌+◌, ◌-◌, ◌^◌, ◌≤◌, ◌++◌, ◌≡◌}
+use Rattle.numbers.specs.Prelude.{ℕ, length, List}
 use Rattle.draft.specs.Held.State.{Front}
 
 -- the old text ends at `from`, all texts at `strings`; what lies between is put aside

@@ -1,5 +1,6 @@
 -- What the functions that replace a value say of each other.
-use Rattle.numbers.specs.{Answer.{if◌then◌else◌}, Prelude.{ℕ, ◌+◌, ◌-◌, ◌*◌, ◌^◌, ◌≤◌, ◌<◌, leb, ℤ, pos, length, take, drop, set, Bool, true, List, ◌≡◌}, Reply.{plain}}
+use Rattle.std.specs.Prelude.{if◌then◌else◌, ◌+◌, ◌-◌, ◌*◌, ◌^◌, ◌≤◌, ◌<◌, ◌≡◌}
+use Rattle.numbers.specs.{Prelude.{ℕ, leb, ℤ, pos, length, take, drop, set, Bool, true, List}, Reply.{plain}}
 use Rattle.build.specs.{Room.{enough}, declared.room.Work.{Work}}
 use Rattle.builder.specs.{Borders.{Drawn}, File.{is_text, up_to}, Yards.{Text, Yard}}
 use Rattle.draft.specs.{Held.{Builder.{Builder, fitting, summed}, Space.{Space}, State.{Answers, Holds, Lists, Stands}, Totals.{file_size, totals_for}}, declared.held.state.Changed.{Changed}}

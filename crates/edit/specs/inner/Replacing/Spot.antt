@@ -1,5 +1,6 @@
 -- Where a value lies in a builder's lists, and whether a text may stand there.
-use Rattle.numbers.specs.{Prelude.{ℕ, ◌+◌, ◌-◌, ◌*◌, ◌^◌, ltb, leb, length, take, get_or, Bool, ◌&&◌, List}, Reply.{Reply, given, refused, plain, demand, ◌>>=◌, ◌>>◌}}
+use Rattle.std.specs.Prelude.{◌+◌, ◌-◌, ◌*◌, ◌^◌, ◌&&◌}
+use Rattle.numbers.specs.{Prelude.{ℕ, ltb, leb, length, take, get_or, Bool, List}, Reply.{Reply, given, refused, plain, demand, ◌>>◌}}
 use Rattle.builder.specs.{File.{is_text}, Yards.{Text, sum_of}}
 use Rattle.draft.specs.{Held.Space.{long_enough, standing}, declared.held.{room.Rooms.{Rooms}, state.Held.{Held}}}
 use Rattle.edit.specs.declared.replacing.check.{Checked.{Checked}, Spot.{Spot}}
