@@ -1,10 +1,11 @@
 -- What a returned 0 means to firmware: the call was answered, whatever it was given. Each exported function's contract fixes what it returns,
 -- the number said in `opening_spoken`, `found_spoken`, `many_spoken` or `local_spoken`; here, that this number is 0 exactly where the definition gives an answer. Assumes nothing.
 use Rattle.numbers.proofs.Prelude.{ℕ, Float, ℤ, Bool, List, [], ◌∷◌, ◌++◌, ◌↔◌, ◌≡◌, refl, subst, arith}
-use Rattle.numbers.{proofs.{Refusals.{Listed}, Saying.{Answered, never_zero, zero_said}}, specs.{Reply.{given, refused}, Spoken.{no_values, said_of}, declared.refusal.Refusal.{Refusal}}}
+use Rattle.numbers.{proofs.{Refusals.{Listed}, Saying.{Answered, never_zero, zero_said}}, specs.{Reply.{refused}, Spoken.{no_values, said_of}, declared.refusal.Refusal.{Refusal}}}
 use Rattle.atlas.{proofs.NumberedAtlas.{atlas_refusals, simple_beside_refusals}, specs.{Beside.{simply_beside}, Looked.{looked_atlas}}}
 use Rattle.batch.{proofs.NumberedMany.{many_numbers, many_beside_numbers, many_refusals, many_beside_refusals}, specs.{Many.{Batch, many_beside, looked_up_many}, declared.many.Totals.{Totals}}}
-use Rattle.index.{proofs.{NumberedThrough.{through_numbers, through_refusals, indexed_refusals}, Refusing.{tying_numbers, tied_refusals}}, specs.{Through.{looked_through, looked_indexed}, Tied.{tied_of}}}
+use Rattle.index.proofs.{NumberedThrough.{through_numbers, through_refusals, indexed_refusals}, Refusing.{tying_numbers, tied_refusals}}
+use Rattle.index.specs.{Through.{looked_through, looked_indexed}, Tied.{tied_of}}
 use Rattle.localtime.{proofs.Numbered.{footer_numbers, local_time_refusals}, specs.Local.{local_time, scale_at}}
 use Rattle.tzif.specs.declared.local.LocalTime.{LocalTime}
 use Rattle.header.{proofs.Numbered.{opening_numbers, opening_refusals, strict_opening_refusals}, specs.Opening.{opened_of, opened_strictly}}

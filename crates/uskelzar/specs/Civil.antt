@@ -1,5 +1,6 @@
 -- How the date and time of day of an instant go over to C.
-use Rattle.numbers.specs.Prelude.{ℕ, ℤ, List, [], ◌∷◌, ◌≡◌}
+use Rattle.std.specs.Prelude.{◌∷◌, ◌≡◌}
+use Rattle.numbers.specs.Prelude.{ℕ, ℤ, List, []}
 use Rattle.calendar.specs.{Civil.{CivilOf}, declared.civil.Civil.{Civil, TheVariants.{Shown, Outside}}}
 
 -- 0, or 61 outside the years 1 to 9999

@@ -1,5 +1,6 @@
 -- How the reply to many fixes goes over to C.
-use Rattle.numbers.specs.{Lists.{padded}, Prelude.{[], ◌∷◌}, Spoken.{Spoken}, declared.said.Said.{Said}}
+use Rattle.std.specs.Prelude.{◌∷◌}
+use Rattle.numbers.specs.{Lists.{padded}, Prelude.{[]}, Spoken.{Spoken}, declared.said.Said.{Said}}
 use Rattle.batch.specs.{Many.{Batch, given, refused, Left}, declared.many.Totals.{Totals}}
 
 -- 0 with fixes, matches in all and bytes used; or the refusal's number with its cause, its detail and the index of its fix

@@ -1,5 +1,6 @@
 -- How a request, a zone's file in a bundle and a slip go over to C (document 03).
-use Rattle.numbers.specs.{Lists.{padded}, Prelude.{ℕ, binary32, List, [], ◌∷◌, ◌≡◌, w32, w64, of_z}, Reply.{Reply, given}, Spoken.{Spoken, said_of}}
+use Rattle.std.specs.Prelude.{◌∷◌, ◌≡◌}
+use Rattle.numbers.specs.{Lists.{padded}, Prelude.{ℕ, binary32, List, [], w32, w64, of_z}, Reply.{Reply, given}, Spoken.{Spoken, said_of}}
 use Rattle.std.specs.Float.Ieee.{to_bits}
 use Rattle.bundle.specs.declared.find.File.{File}
 use Rattle.request.specs.declared.read.Fix.{Fix}

@@ -1,5 +1,6 @@
 -- The values that each answer goes over to C with.
-use Rattle.numbers.specs.{Prelude.{ℕ, List, [], ◌∷◌, Option, some, none, w32, of_z}, Reply.{Reply, given, refused, refusal}, Spoken.{Spoken, said_of}}
+use Rattle.std.specs.Prelude.{◌∷◌}
+use Rattle.numbers.specs.{Prelude.{ℕ, List, [], Option, some, none, w32, of_z}, Reply.{Reply, given, refused, refusal}, Spoken.{Spoken, said_of}}
 use Rattle.localtime.specs.declared.scale.Scale.{Scale}
 use Rattle.tzif.specs.declared.local.{Local.{Local}, LocalTime.{LocalTime}}
 use Rattle.zones.specs.{Lent.{Replied}, declared.{lookup.Zones.{Zones}, simple.{Described.{Described}, Description.{Description}}}}

@@ -4,8 +4,7 @@ ghost use Rattle.uskelzar.specs.Civil.{CivilSpoken};
 use calendar::civil::{Civil, civil_time};
 
 // Values: year, month, day, hour, minute, second, weekday (0 is Sunday). 61 outside the years 1 to 9999.
-#[unsafe(no_mangle)]
-pub extern "C" fn uskelzar_civil_time(instant: i64, offset: i32, reply: &mut [u64; 7]) -> u8
+pub fn uskelzar_civil_time(instant: i64, offset: i32, reply: &mut [u64; 7]) -> u8
     ensures { CivilSpoken instant offset result reply.new }
 {
     let civil = civil_time(instant, offset);

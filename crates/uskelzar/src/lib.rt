@@ -1,12 +1,13 @@
 // The form in which firmware takes the library: functions of plain names over numbers and slices; include/uskelzar.h has them for C.
 // Each returns 0 where it answers, with the answer's values in `reply`, or a refusal's number, with its cause and detail there.
+#![tactic(auto)]
+
 pub mod civil;
 pub mod many;
 pub mod slips;
 pub mod tiles;
 
-ghost use mathlib.Core.{Path.{◌≡◌}, List.{[], ◌∷◌}};
-ghost use Rattle.std.specs.Prelude.{length};
+ghost use Rattle.std.specs.Prelude.{length, ◌≡◌, [], ◌∷◌};
 ghost use Rattle.atlas.specs.{Beside.{simply_beside}, Looked.{looked_atlas}};
 ghost use Rattle.localtime.specs.Local.{local_time, scale_at};
 ghost use Rattle.zones.specs.{Lookup.{looked_up, looked_strictly, told_looked}, Simple.{simply_looked, told_simple}};
@@ -104,16 +105,14 @@ fn say_local(timed: Timed) -> Said
 }
 
 // Opens a file. Values: type, version, precision, field count, bytes used.
-#[unsafe(no_mangle)]
-pub extern "C" fn uskelzar_open(file: &[u8], text: &mut [u8], reply: &mut [u64; 5]) -> u8
+pub fn uskelzar_open(file: &[u8], text: &mut [u8], reply: &mut [u64; 5]) -> u8
     ensures { spoken result reply.new (text.new ∷ []) ≡ opening_spoken (opened_of file.now (length text.old)) }
 {
     speak(say_opened(open(file, text)), reply)
 }
 
 // Looks a location up. Values: matches, end mark, safezone bits (0 if not asked), bytes used.
-#[unsafe(no_mangle)]
-pub extern "C" fn uskelzar_lookup(
+pub fn uskelzar_lookup(
     file: &[u8],
     lat: f32,
     lon: f32,
@@ -122,7 +121,7 @@ pub extern "C" fn uskelzar_lookup(
     text: &mut [u8],
     reply: &mut [u64; 5],
 ) -> u8
-    ensures { spoken result reply.new (hits.new ∷ (λ x. x.now) text.exit ∷ [])
+    ensures { spoken result reply.new (hits.new ∷ text.new ∷ [])
         ≡ found_spoken zones_values (looked_up file.now (record { lat = lat; lon = lon }) asked (length hits.old) (length text.old)) }
 {
     speak(
@@ -132,8 +131,7 @@ pub extern "C" fn uskelzar_lookup(
 }
 
 // Looks a location's description up. Values: matches, end mark, 1 and its length where there is one, else 0.
-#[unsafe(no_mangle)]
-pub extern "C" fn uskelzar_simple_lookup(
+pub fn uskelzar_simple_lookup(
     file: &[u8],
     lat: f32,
     lon: f32,
@@ -141,7 +139,7 @@ pub extern "C" fn uskelzar_simple_lookup(
     text: &mut [u8],
     reply: &mut [u64; 5],
 ) -> u8
-    ensures { spoken result reply.new (hits.new ∷ (λ x. x.now) text.exit ∷ [])
+    ensures { spoken result reply.new (hits.new ∷ text.new ∷ [])
         ≡ found_spoken described_values (simply_looked file.now (record { lat = lat; lon = lon }) (length hits.old) (length text.old)) }
 {
     speak(
@@ -151,8 +149,7 @@ pub extern "C" fn uskelzar_simple_lookup(
 }
 
 // Looks a location up through an atlas. Values as for `uskelzar_lookup`.
-#[unsafe(no_mangle)]
-pub extern "C" fn uskelzar_lookup_atlas(
+pub fn uskelzar_lookup_atlas(
     file: &[u8],
     atlas: &[u32],
     lat: f32,
@@ -162,7 +159,7 @@ pub extern "C" fn uskelzar_lookup_atlas(
     text: &mut [u8],
     reply: &mut [u64; 5],
 ) -> u8
-    ensures { spoken result reply.new (hits.new ∷ (λ x. x.now) text.exit ∷ [])
+    ensures { spoken result reply.new (hits.new ∷ text.new ∷ [])
         ≡ found_spoken zones_values (looked_atlas file.now atlas.now (record { lat = lat; lon = lon }) asked (length hits.old) (length text.old)) }
 {
     speak(
@@ -172,8 +169,7 @@ pub extern "C" fn uskelzar_lookup_atlas(
 }
 
 // Looks a location's description up through an atlas, or without one where there are no words. Values as above.
-#[unsafe(no_mangle)]
-pub extern "C" fn uskelzar_simple_atlas(
+pub fn uskelzar_simple_atlas(
     file: &[u8],
     atlas: &[u32],
     lat: f32,
@@ -182,7 +178,7 @@ pub extern "C" fn uskelzar_simple_atlas(
     text: &mut [u8],
     reply: &mut [u64; 5],
 ) -> u8
-    ensures { spoken result reply.new (hits.new ∷ (λ x. x.now) text.exit ∷ [])
+    ensures { spoken result reply.new (hits.new ∷ text.new ∷ [])
         ≡ found_spoken described_values (simply_beside file.now atlas.now (record { lat = lat; lon = lon }) (length hits.old) (length text.old)) }
 {
     speak(
@@ -192,16 +188,14 @@ pub extern "C" fn uskelzar_simple_atlas(
 }
 
 // Opens a file as `uskelzar_open` does, but refuses a number that the file's end cuts: 31.
-#[unsafe(no_mangle)]
-pub extern "C" fn uskelzar_open_strict(file: &[u8], text: &mut [u8], reply: &mut [u64; 5]) -> u8
+pub fn uskelzar_open_strict(file: &[u8], text: &mut [u8], reply: &mut [u64; 5]) -> u8
     ensures { spoken result reply.new (text.new ∷ []) ≡ opening_spoken (opened_strictly file.now (length text.old)) }
 {
     speak(say_opened(open_strict(file, text)), reply)
 }
 
 // Looks a location up as `uskelzar_lookup` does, but refuses a number that the file's end cuts: 31.
-#[unsafe(no_mangle)]
-pub extern "C" fn uskelzar_lookup_strict(
+pub fn uskelzar_lookup_strict(
     file: &[u8],
     lat: f32,
     lon: f32,
@@ -210,7 +204,7 @@ pub extern "C" fn uskelzar_lookup_strict(
     text: &mut [u8],
     reply: &mut [u64; 5],
 ) -> u8
-    ensures { spoken result reply.new (hits.new ∷ (λ x. x.now) text.exit ∷ [])
+    ensures { spoken result reply.new (hits.new ∷ text.new ∷ [])
         ≡ found_spoken zones_values (looked_strictly file.now (record { lat = lat; lon = lon }) asked (length hits.old) (length text.old)) }
 {
     speak(
@@ -221,13 +215,7 @@ pub extern "C" fn uskelzar_lookup_strict(
 
 // Local time at an instant, by a TZif file and its TZ string. Values: 1 for UNIX time's scale or 2 for the file's own, the offset's 32 bits, the daylight flag, the abbreviation's length
 // and the 32 bits of the correction; all 0 where it is unknown.
-#[unsafe(no_mangle)]
-pub extern "C" fn uskelzar_local_time(
-    file: &[u8],
-    instant: i64,
-    text: &mut [u8],
-    reply: &mut [u64; 5],
-) -> u8
+pub fn uskelzar_local_time(file: &[u8], instant: i64, text: &mut [u8], reply: &mut [u64; 5]) -> u8
     ensures { spoken result reply.new (text.new ∷ [])
         ≡ local_spoken (scale_at file.now instant) (local_time file.now instant (length text.old)) }
 {

@@ -1,6 +1,5 @@
 // Many fixes in one call, for C.
-ghost use mathlib.Core.{Path.{◌≡◌}, List.{[], ◌∷◌}};
-ghost use Rattle.std.specs.Prelude.{length};
+ghost use Rattle.std.specs.Prelude.{length, ◌≡◌, [], ◌∷◌};
 ghost use Rattle.batch.specs.Many.{told_many, many_beside, looked_up_many};
 ghost use Rattle.numbers.specs.Spoken.{spoken};
 ghost use Rattle.uskelzar.specs.Many.{many_said, many_spoken};
@@ -33,8 +32,7 @@ fn say_many(many: Many) -> Said
 }
 
 // Looks many locations up. Values: fixes, matches in all, bytes used; of a refusal also the index of its fix, behind its detail.
-#[unsafe(no_mangle)]
-pub extern "C" fn uskelzar_lookup_many(
+pub fn uskelzar_lookup_many(
     file: &[u8],
     lats: &[f32],
     lons: &[f32],
@@ -44,7 +42,7 @@ pub extern "C" fn uskelzar_lookup_many(
     answers: &mut [u32],
     reply: &mut [u64; 5],
 ) -> u8
-    ensures { spoken result reply.new (hits.new ∷ (λ x. x.now) text.exit ∷ (λ x. x.now) answers.exit ∷ [])
+    ensures { spoken result reply.new (hits.new ∷ text.new ∷ answers.new ∷ [])
         ≡ many_spoken (looked_up_many file.now lats.now lons.now asked (length hits.old) (length text.old) (length answers.old)) }
 {
     speak(
@@ -54,8 +52,7 @@ pub extern "C" fn uskelzar_lookup_many(
 }
 
 // Looks many locations up through an atlas, or without one where there are no words. Values as above.
-#[unsafe(no_mangle)]
-pub extern "C" fn uskelzar_many_atlas(
+pub fn uskelzar_many_atlas(
     file: &[u8],
     atlas: &[u32],
     lats: &[f32],
@@ -66,7 +63,7 @@ pub extern "C" fn uskelzar_many_atlas(
     answers: &mut [u32],
     reply: &mut [u64; 5],
 ) -> u8
-    ensures { spoken result reply.new (hits.new ∷ (λ x. x.now) text.exit ∷ (λ x. x.now) answers.exit ∷ [])
+    ensures { spoken result reply.new (hits.new ∷ text.new ∷ answers.new ∷ [])
         ≡ many_spoken (many_beside file.now atlas.now lats.now lons.now asked (length hits.old) (length text.old)
         (length answers.old)) }
 {

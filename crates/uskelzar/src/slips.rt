@@ -1,6 +1,5 @@
 // The slip, for C: what a request means, where a zone's file lies in a bundle, and the printed line (document 03).
-ghost use mathlib.Core.{Path.{◌≡◌}, List.{[], ◌∷◌}};
-ghost use Rattle.std.specs.Prelude.{length};
+ghost use Rattle.std.specs.Prelude.{length, ◌≡◌, [], ◌∷◌};
 ghost use mir.{Syntax.{w64}, Val.{of_z}};
 ghost use Rattle.bundle.specs.{Bundle.{find_of}};
 ghost use Rattle.bundle.specs.Told as B;
@@ -76,24 +75,21 @@ fn say_slipped(slipped: Slipped) -> Said
 }
 
 // What a request means. Values: the bits of latitude, longitude and instant.
-#[unsafe(no_mangle)]
-pub extern "C" fn uskelzar_request(request: &[u8], reply: &mut [u64; 5]) -> u8
+pub fn uskelzar_request(request: &[u8], reply: &mut [u64; 5]) -> u8
     ensures { spoken result reply.new [] ≡ reply_spoken fix_values (request_of request.now) }
 {
     speak(say_asked(read_request(request)), reply)
 }
 
 // A zone's file in a bundle, by its name. Values: where it begins, its length.
-#[unsafe(no_mangle)]
-pub extern "C" fn uskelzar_bundle_find(bundle: &[u8], name: &[u8], reply: &mut [u64; 5]) -> u8
+pub fn uskelzar_bundle_find(bundle: &[u8], name: &[u8], reply: &mut [u64; 5]) -> u8
     ensures { spoken result reply.new [] ≡ reply_spoken file_values (find_of bundle.now name.now) }
 {
     speak(say_found(find(bundle, &name[..0], name, 0)), reply)
 }
 
 // The slip that a request asks for. Values: length of the line, matches, the offset's 32 bits.
-#[unsafe(no_mangle)]
-pub extern "C" fn uskelzar_slip(
+pub fn uskelzar_slip(
     request: &[u8],
     map: &[u8],
     zones: &[u8],
@@ -102,7 +98,7 @@ pub extern "C" fn uskelzar_slip(
     out: &mut [u8],
     reply: &mut [u64; 5],
 ) -> u8
-    ensures { spoken result reply.new (hits.new ∷ (λ x. x.now) text.exit ∷ (λ x. x.now) out.exit ∷ [])
+    ensures { spoken result reply.new (hits.new ∷ text.new ∷ out.new ∷ [])
         ≡ slip_spoken (slipped request.now map.now [] zones.now (length hits.old) (length text.old) (length out.old)) }
 {
     let atlas = [0u32; 0];
@@ -113,8 +109,7 @@ pub extern "C" fn uskelzar_slip(
 }
 
 // The slip that a request asks for, through the map's atlas, or without one where there are no words. Values as above.
-#[unsafe(no_mangle)]
-pub extern "C" fn uskelzar_slip_atlas(
+pub fn uskelzar_slip_atlas(
     request: &[u8],
     map: &[u8],
     atlas: &[u32],
@@ -124,7 +119,7 @@ pub extern "C" fn uskelzar_slip_atlas(
     out: &mut [u8],
     reply: &mut [u64; 5],
 ) -> u8
-    ensures { spoken result reply.new (hits.new ∷ (λ x. x.now) text.exit ∷ (λ x. x.now) out.exit ∷ [])
+    ensures { spoken result reply.new (hits.new ∷ text.new ∷ out.new ∷ [])
         ≡ slip_spoken (slipped request.now map.now atlas.now zones.now (length hits.old) (length text.old)
         (length out.old)) }
 {
@@ -135,8 +130,7 @@ pub extern "C" fn uskelzar_slip_atlas(
 }
 
 // The slip at a place and an instant. Values as above.
-#[unsafe(no_mangle)]
-pub extern "C" fn uskelzar_slip_at(
+pub fn uskelzar_slip_at(
     lat: f32,
     lon: f32,
     instant: i64,
@@ -147,7 +141,7 @@ pub extern "C" fn uskelzar_slip_at(
     out: &mut [u8],
     reply: &mut [u64; 5],
 ) -> u8
-    ensures { spoken result reply.new (hits.new ∷ (λ x. x.now) text.exit ∷ (λ x. x.now) out.exit ∷ [])
+    ensures { spoken result reply.new (hits.new ∷ text.new ∷ out.new ∷ [])
         ≡ slip_spoken (slipped_at (record { lat = lat; lon = lon; instant = instant }) map.now [] zones.now (length hits.old) (length text.old)
         (length out.old)) }
 {
@@ -160,8 +154,7 @@ pub extern "C" fn uskelzar_slip_at(
 }
 
 // The slip at a place and an instant, through the map's atlas, or without one where there are no words. Values as above.
-#[unsafe(no_mangle)]
-pub extern "C" fn uskelzar_slip_at_atlas(
+pub fn uskelzar_slip_at_atlas(
     lat: f32,
     lon: f32,
     instant: i64,
@@ -173,7 +166,7 @@ pub extern "C" fn uskelzar_slip_at_atlas(
     out: &mut [u8],
     reply: &mut [u64; 5],
 ) -> u8
-    ensures { spoken result reply.new (hits.new ∷ (λ x. x.now) text.exit ∷ (λ x. x.now) out.exit ∷ [])
+    ensures { spoken result reply.new (hits.new ∷ text.new ∷ out.new ∷ [])
         ≡ slip_spoken (slipped_at (record { lat = lat; lon = lon; instant = instant }) map.now atlas.now zones.now (length hits.old)
         (length text.old) (length out.old)) }
 {
