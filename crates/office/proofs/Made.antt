@@ -11,7 +11,7 @@ use Rattle.writer.specs.Writer.{every}
 use Rattle.draft.specs.Held.{Builder.{Builder, Offered, add, begin, changed_at, clear, drop_last, fitting, holding, joined, replace, summed, with_value, yard_of}, Space.{Space, standing}}
 use Rattle.draft.specs.{Held.{Sound.{room_for}, State.{Answers, Lists, held_as}, Totals.{data_of, drawn_or, file_size, totals_for, totals_of}}, Summed.Ends.{Files, Finishes, space_of}}
 use Rattle.draft.specs.declared.held.{room.Rooms.{Rooms}, state.{Changed.{Changed}, Held.{Held}}}
-use Rattle.office.proofs.{NotedDrafts.{Lasts, LastsOn, add_lasts, kept_lasts, noted_back}, NumberedDrafts.{add-zero, begin_zero, drop_zero, replace_zero}}
+use Rattle.office.proofs.{NotedDrafts.{Lasts, LastsOn, add_lasts, kept_lasts, noted_back}, NumberedDrafts.{add_zero, begin_zero, drop_zero, replace_zero}}
 use Rattle.office.specs.Calls.{Called, Made, Shelf, TotalsIn, adds, begun, called, clears, drops, grown, replaces, yards_after}
 use Rattle.office.specs.Draft.{Ends, Kept, Speaks, Spoke, held_of, noted_in, told_changed, totals_values, words_of}
 use Rattle.draft.specs.declared.held.state.Changed.TheVariants as C
@@ -131,7 +131,7 @@ module _ (b : Builder) (found left : Shelf) (number : ℕ) (lasts : Lasts b foun
   outcome : (change : List Yard → List Yard) → Called found left number change → Outcome b found left number change
   unfolding summed clear
   outcome change (adds o rooms lent out words s) =
-      add_outcome b o rooms lent out found left number (add-zero found.state o rooms lent out found.lists left.lists found.notes left.notes s b lasts.holds lasts.noted)
+      add_outcome b o rooms lent out found left number (add_zero found.state o rooms lent out found.lists left.lists found.notes left.notes s b lasts.holds lasts.noted)
       (add_lasts b o rooms lent out found.state left.state found.lists left.lists found.notes left.notes s lasts)
   outcome change (drops rooms words s notes) = let space : Space = left_space (held_of found.state) rooms found.lists.lengths in
       changed_outcome b found left number change (drop_last b space) s.changed (s.promised.answers b lasts.holds) s.spoke.kept
@@ -218,11 +218,11 @@ reached plan room yards s (begun space before words shelf speaks) =
     begun_reached plan room space before shelf speaks.changed speaks.promised speaks.spoke.kept ((begin_zero plan room space before shelf.lists speaks).0 refl)
 reached plan room yards s (called yards' found left number change made call) = let r = reached plan room yards' found made in
     called_reached plan yards' found left number change r (worded r.b found left number r.lasts change call r.worded_is) (outcome r.b found left number r.lasts change call)
-reached plan room yards s (grown yards' shelf more more-notes made) = let r = reached plan room yards' shelf made in record {
+reached plan room yards s (grown yards' shelf more more_notes made) = let r = reached plan room yards' shelf made in record {
   b = r.b;
   lasts = record {
     holds = holds_wider more r.b (held_of shelf.state) shelf.lists r.lasts.holds;
-    noted = noted_by_wider more-notes (held_of shelf.state).names r.b.plan.yards (noted_in shelf.state) shelf.notes r.lasts.noted;
+    noted = noted_by_wider more_notes (held_of shelf.state).names r.b.plan.yards (noted_in shelf.state) shelf.notes r.lasts.noted;
   };
   worded_is = r.worded_is;
   form = r.form;

@@ -5,7 +5,8 @@ use Rattle.add.specs.{Adding.Adds.{Adds}, Growing.Notes.{Notes, NotedBy}, declar
 use Rattle.build.specs.{Whole.{told_built}, declared.file.Built.{Built}}
 use Rattle.builder.{proofs.drawing.Lending.{never_given}, specs.{File.{Replied, fitted}, Yards.{Text, Plan}}}
 use Rattle.edit.specs.{Changing.{Begun.{Begins}, Dropped.{Drops, left_space}, Emptied.{Clears}}, Replacing.Replaced.{Replaces}}
-use Rattle.draft.specs.{Held.{Builder.{Builder, Offered, add, begin, clear, drop_last, finish, replace}, Space.{Space}, State.{Answers, Holds, Lists, held_as}}, Summed.Ends.{Files, Finishes, space_of}}
+use Rattle.draft.specs.Held.{Builder.{Builder, Offered, add, begin, clear, drop_last, finish, replace}, Space.{Space}, State.{Answers, Holds, Lists, held_as}}
+use Rattle.draft.specs.Summed.Ends.{Files, Finishes, space_of}
 use Rattle.draft.specs.declared.held.{room.Rooms.{Rooms}, state.{Changed.{Changed}, Held.{Held}}}
 use Rattle.office.proofs.NumberedCalls.{add_numbers, add_refusals, begin_numbers, begin_refusals, drop_numbers, drop_refusals, finish_numbers, finish_refusals, replace_numbers, replace_refusals}
 use Rattle.office.proofs.SameCalls.{Told, ToldNoted}
@@ -89,8 +90,8 @@ module _ (held : List ℕ) (o : Offered) (rooms : Rooms) (lent : NoteRooms) (out
   pub add_said : (b : Builder) → Holds b (held_of held) before → Right b → saying number words ≡ said_of builder_values (add b o (Adding.space_for (held_of held) rooms lent o out))
   add_said b holds right = s.spoke.said ∙ answers_say (added b) before after s.added.changed (s.promised.answers b holds right).0
 
-  pub add-zero : (b : Builder) → Holds b (held_of held) before → Right b → (number ≡ 0) ↔ Answered (add b o (Adding.space_for (held_of held) rooms lent o out))
-  add-zero b holds right = zero_of builder_values add_numbers (λ z. z) (added b) (add_refusals b holds.sound o (Adding.space_for (held_of held) rooms lent o out)) (add_said b holds right)
+  pub add_zero : (b : Builder) → Holds b (held_of held) before → Right b → (number ≡ 0) ↔ Answered (add b o (Adding.space_for (held_of held) rooms lent o out))
+  add_zero b holds right = zero_of builder_values add_numbers (λ z. z) (added b) (add_refusals b holds.sound o (Adding.space_for (held_of held) rooms lent o out)) (add_said b holds right)
 
   pub add_numbers_lem : ToldNoted (held_of held) (noted_in held) rooms before notes → Listed (0 ∷ add_numbers) number
   add_numbers_lem (inl (b, (holds, right))) =

@@ -1,5 +1,6 @@
 -- How the reply of a build goes over to C.
-use Rattle.numbers.specs.{Prelude.{ℕ, [], ◌∷◌}, Spoken.{Spoken, said_of}}
+use Rattle.std.specs.Prelude.{◌∷◌}
+use Rattle.numbers.specs.{Prelude.{ℕ, []}, Spoken.{Spoken, said_of}}
 use Rattle.build.specs.{Room.{room_of}, declared.room.Work.{Work}}
 use Rattle.builder.specs.{File.{Replied, built_of, fitted}, Yards.{Lent, plan_of}}
 use Rattle.office.specs.Written.{length_value}

@@ -1,5 +1,6 @@
 -- What exported calls make of a builder, one after another: of each call nothing is used but what its exported function promises.
-use Rattle.numbers.specs.{Answer.{if◌then◌else◌}, Lists.{zeros}, Prelude.{ℕ, ◌-◌, eqb, length, take, get_or, List, [], ◌∷◌, ◌++◌, ◌≡◌, w32, of_z}}
+use Rattle.std.specs.Prelude.{if◌then◌else◌, ◌-◌, ◌∷◌, ◌++◌, ◌≡◌}
+use Rattle.numbers.specs.{Lists.{zeros}, Prelude.{ℕ, eqb, length, take, get_or, List, [], w32, of_z}}
 use Rattle.add.specs.{Adding.Adds.{Adds}, Growing.Notes.{MoreNotes, Notes, wider_notes}, declared.adding.room.NoteRooms.{NoteRooms}}
 use Rattle.builder.specs.Yards.{Plan, Text, Yard}
 use Rattle.edit.specs.{Changing.{Begun.{Begins}, Dropped.{Drops}, Emptied.{Clears}}, Replacing.Replaced.{Replaces}}
@@ -41,8 +42,8 @@ pub data Made (plan : Plan) (room : ℕ) : List Yard → Shelf → Type 0 where
   called : (yards : List Yard) (found left : Shelf) (number : ℕ) (change : List Yard → List Yard) → Made plan room yards found → Called found left number change
       → Made plan room (yards_after number (change yards) yards) left
   -- lists that have grown since
-  grown : (yards : List Yard) (shelf : Shelf) (more : More) (more-notes : MoreNotes) → Made plan room yards shelf
-      → Made plan room yards (record { state = shelf.state; lists = wider more shelf.lists; notes = wider_notes more-notes shelf.notes })
+  grown : (yards : List Yard) (shelf : Shelf) (more : More) (more_notes : MoreNotes) → Made plan room yards shelf
+      → Made plan room yards (record { state = shelf.state; lists = wider more shelf.lists; notes = wider_notes more_notes shelf.notes })
 
 -- words 8 to 12 of a state are these totals
 pub record TotalsIn (state : List ℕ) (totals : Totals) : Type 0 where

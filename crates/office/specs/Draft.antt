@@ -1,5 +1,6 @@
 -- How a builder's numbers, and what its calls reply, go over to C.
-use Rattle.numbers.specs.{Point.{read_i32}, Prelude.{ℕ, ◌%◌, ◌^◌, get_or, List, [], ◌∷◌, ◌≡◌, w32, of_z}, Reply.{Reply, given, refused}, Spoken.{said_of}}
+use Rattle.std.specs.Prelude.{◌%◌, ◌^◌, ◌∷◌, ◌≡◌}
+use Rattle.numbers.specs.{Point.{read_i32}, Prelude.{ℕ, get_or, List, [], w32, of_z}, Reply.{Reply, given, refused}, Spoken.{said_of}}
 use Rattle.build.specs.{Whole.{told_built}, declared.file.Built.{Built}}
 use Rattle.add.specs.declared.growing.grow.Added.{Added}
 use Rattle.draft.specs.declared.held.state.{Changed.{Changed}, Held.{Held}}

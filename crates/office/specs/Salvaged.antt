@@ -1,5 +1,6 @@
 -- How the reply of salvage goes over to C.
-use Rattle.numbers.specs.{Prelude.{ℕ, List, [], ◌∷◌}, Spoken.{said_of, Spoken}}
+use Rattle.std.specs.Prelude.{◌∷◌}
+use Rattle.numbers.specs.{Prelude.{ℕ, List, []}, Spoken.{said_of, Spoken}}
 use Rattle.salvage.specs.Salvage.{Counts, Replied}
 
 -- the new file's length, the list's lines, the entries kept

@@ -1,5 +1,6 @@
 -- How a border and an index go over to C.
-use Rattle.numbers.specs.{Prelude.{ℕ, List, [], ◌∷◌}, Spoken.{Spoken, said_of}}
+use Rattle.std.specs.Prelude.{◌∷◌}
+use Rattle.numbers.specs.{Prelude.{ℕ, List, []}, Spoken.{Spoken, said_of}}
 use Rattle.index.specs.Index.{Indexed}
 use Rattle.writer.specs.Writer as W
 

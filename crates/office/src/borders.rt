@@ -1,6 +1,5 @@
 // A border, for C.
-ghost use mathlib.Core.{Path.{◌≡◌}, List.{[], ◌∷◌}};
-ghost use Rattle.std.specs.Prelude.{length};
+ghost use Rattle.std.specs.Prelude.{length, ◌≡◌, [], ◌∷◌};
 ghost use Rattle.writer.specs.{Pieces.{pieces_of}, Writer.{border_of, fitted, told}};
 ghost use Rattle.numbers.specs.Spoken.{said_of, spoken};
 ghost use Rattle.office.specs.Written.{length_value, written_spoken};
@@ -22,8 +21,7 @@ fn say_written(written: Written) -> Said
 }
 
 // Writes a border, with pieces of five words each. Values: its length.
-#[unsafe(no_mangle)]
-pub extern "C" fn uskelzar_write_border(
+pub fn uskelzar_write_border(
     version: u8,
     lats: &[i32],
     lons: &[i32],

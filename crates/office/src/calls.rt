@@ -122,8 +122,7 @@ fn speak_changed(changed: Changed, noted: usize, state: &mut [u64; 14], reply: &
 }
 
 // Begins a builder. Values: its totals. On a refusal the state and its lists are zero.
-#[unsafe(no_mangle)]
-pub extern "C" fn uskelzar_begin(
+pub fn uskelzar_begin(
     state: &mut [u64; 14],
     kind: u8,
     version: u8,
@@ -157,8 +156,7 @@ pub extern "C" fn uskelzar_begin(
 }
 
 // Adds a yard. Values: the totals. Marks to begins are the builder's notes.
-#[unsafe(no_mangle)]
-pub extern "C" fn uskelzar_add(
+pub fn uskelzar_add(
     state: &mut [u64; 14],
     lats: &[i32],
     lons: &[i32],
@@ -205,8 +203,7 @@ pub extern "C" fn uskelzar_add(
 }
 
 // Takes the last yard away. Values: the totals.
-#[unsafe(no_mangle)]
-pub extern "C" fn uskelzar_drop_last(
+pub fn uskelzar_drop_last(
     state: &mut [u64; 14],
     boxes: &mut [i32],
     borders: &mut [u32],
@@ -237,8 +234,7 @@ pub extern "C" fn uskelzar_drop_last(
 }
 
 // Puts a text in the place of a yard's value. Values: the totals.
-#[unsafe(no_mangle)]
-pub extern "C" fn uskelzar_replace(
+pub fn uskelzar_replace(
     state: &mut [u64; 14],
     yard: u32,
     field: u32,
@@ -274,8 +270,7 @@ pub extern "C" fn uskelzar_replace(
 }
 
 // Takes all yards away. Values: the totals.
-#[unsafe(no_mangle)]
-pub extern "C" fn uskelzar_clear(
+pub fn uskelzar_clear(
     state: &mut [u64; 14],
     boxes: &mut [i32],
     borders: &mut [u32],
@@ -293,8 +288,7 @@ pub extern "C" fn uskelzar_clear(
 }
 
 // The file of the held yards. Values: its length. The builder stays as it is.
-#[unsafe(no_mangle)]
-pub extern "C" fn uskelzar_finish(
+pub fn uskelzar_finish(
     state: &[u64; 14],
     boxes: &[i32],
     borders: &[u32],

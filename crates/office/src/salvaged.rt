@@ -1,6 +1,5 @@
 // Salvage of a damaged file, for C.
-ghost use mathlib.Core.{Path.{◌≡◌}, List.{[], ◌∷◌}};
-ghost use Rattle.std.specs.Prelude.{length};
+ghost use Rattle.std.specs.Prelude.{length, ◌≡◌, [], ◌∷◌};
 ghost use Rattle.salvage.specs.inner.Rescue.Told.{told_rescued};
 ghost use Rattle.salvage.specs.Salvage.{salvaged};
 ghost use Rattle.numbers.specs.Spoken.{said_of, spoken};
@@ -28,14 +27,13 @@ fn say_rescued(rescued: Rescued) -> Said
 }
 
 // Salvages a file. Values: the new file's length, the list's lines, the entries kept.
-#[unsafe(no_mangle)]
-pub extern "C" fn uskelzar_salvage(
+pub fn uskelzar_salvage(
     file: &[u8],
     dropped: &mut [u32],
     out: &mut [u8],
     reply: &mut [u64; 5],
 ) -> u8
-    ensures { spoken result reply.new (dropped.new ∷ (λ x. x.now) out.exit ∷ [])
+    ensures { spoken result reply.new (dropped.new ∷ out.new ∷ [])
         ≡ salvage_spoken (salvaged file.now (length dropped.old) (length out.old)) }
 {
     speak(say_rescued(salvage(file, dropped, out)), reply)

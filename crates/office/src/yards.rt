@@ -1,6 +1,5 @@
 // A whole file from yards, for C.
-ghost use mathlib.Core.{Path.{◌≡◌}, List.{[], ◌∷◌}};
-ghost use Rattle.std.specs.Prelude.{length};
+ghost use Rattle.std.specs.Prelude.{length, ◌≡◌, [], ◌∷◌};
 ghost use Rattle.build.specs.{Checked.{lent_as}, Room.{work_of}, Whole.{told_built, Cleared}};
 ghost use Rattle.numbers.specs.Spoken.{spoken, said_of};
 ghost use Rattle.office.specs.Written.{length_value};
@@ -23,8 +22,7 @@ pub(crate) fn say_built(built: Built) -> Said
 }
 
 // Builds a file. Values: its length. The lists behind the texts are for working in, and zero afterwards.
-#[unsafe(no_mangle)]
-pub extern "C" fn uskelzar_build(
+pub fn uskelzar_build(
     kind: u8,
     version: u8,
     precision: u8,
