@@ -12,7 +12,8 @@ use Rattle.bundle.specs.{Bundle.{find_of}, First.{FoundAt}, declared.find.File.{
 use Rattle.bundle.specs.Told as B
 use Rattle.bundle.specs.declared.find.Found.TheVariants as F
 use Rattle.calendar.specs.{Calendar.{days_of_years}, Civil.{CivilOf}, Epoch.{forwards, backwards}, declared.civil.Civil.{Civil}}
-use Rattle.draft.specs.{Held.{Builder.{Builder, finish, holding}, Sound.{Sound, room_for}, Space.{Space}, Totals.{totals_of}}, Summed.Ends.{Files, Finishes, space_of}, declared.held.room.Rooms.{Rooms}}
+use Rattle.draft.specs.{Held.{Builder.{Builder, finish, holding}, Sound.{Sound, room_for}, Space.{Space}, Totals.{totals_of}}, Summed.Ends.{Files, Finishes, space_of}}
+use Rattle.draft.specs.declared.held.room.Rooms.{Rooms}
 use Rattle.header.specs.{Header.{head_by, head_of}, declared.header.Head.{Head}}
 use Rattle.index.specs.{Index.{indexed, indexed_of, told_built}, Own.{is_index_of}, Through.{looked_indexed}, Tied.{told_tied}, declared.{build.Built.{Built}, tied.Tied.{Tied}}}
 use Rattle.localtime.specs.{Found.{found_of}, Local.{rules_in, local_time}}
@@ -109,7 +110,8 @@ pub atlas_is_plain : (file words : List ℕ) → is_atlas_of file words ≡ give
 atlas_is_plain = atlas.atlas_is_plain
 
 -- So is a simple lookup,
-pub simple_atlas_is_plain : (file words : List ℕ) → is_atlas_of file words ≡ given tt → (location : Location) (n room : ℕ) → simply_beside file words location n room ≡ simply_looked file location n room
+pub simple_atlas_is_plain : (file words : List ℕ) → is_atlas_of file words ≡ given tt → (location : Location) (n room : ℕ)
+    → simply_beside file words location n room ≡ simply_looked file location n room
 simple_atlas_is_plain = beside.simple_atlas_is_plain
 
 -- so are many fixes,

@@ -1,5 +1,6 @@
 -- A lookup in a built file finds each yard where its border alone says, with its values. Assumes nothing.
-use Rattle.numbers.proofs.Prelude.{ℕ, ◌+◌, ◌-◌, ◌/◌, ◌%◌, ◌^◌, eqb-true, eqb, ltb, leb, length, Bool, true, false, List, [], ◌∷◌, ◌++◌, append_assoc, append-nil, flat_map, zip_with, ◌≡◌, refl, sym, ap}
+use Rattle.numbers.proofs.Prelude.{ℕ, ◌+◌, ◌-◌, ◌/◌, ◌%◌, ◌^◌, eqb-true, eqb, ltb, leb, length, Bool, true, false, List, [], ◌∷◌, ◌++◌, append_assoc, append-nil, flat_map, zip_with, ◌≡◌}
+use Rattle.numbers.proofs.Prelude.{refl, sym, ap}
 use Rattle.numbers.{proofs.{Prelude.{subst, ◌∙◌, arith}, Replies.{given_from, demanded}, Tests.{both}}, specs.{Answer.{if◌then◌else◌}, Reply.{Reply, given, plain, ◌>>=◌}}}
 use Rattle.border.specs.declared.place.Point.{Point}
 use Rattle.verdict.specs.{Verdict.{Judgement, reached}, declared.step.Verdict.{Verdict, TheVariants.{NotInZone}}}
@@ -12,7 +13,8 @@ use Rattle.layout.proofs.Everyone.{Every, every_both, every_sorted}
 use Rattle.promises.specs.Built.Finds.{judged_alone, Alone, Nearest, outside, held, fields_out, fields_into, values_at, strings_of, Valued, Finds}
 use Rattle.promises.specs.Built.Seats.{Entered, entered_of, Seat, bounds_in, seats_from, table_in, metadata_in, table_place, head_in, seats_of, rows_of}
 use Rattle.table.{proofs.{InOrder.{early_stop_loses_nothing}, Merged.{Each}, Turns.{after_judged, after_outside, after_held, seek_row, seek_end}}, specs.Ending.{hits_of}}
-use Rattle.table.specs.{Find.{fix_of, is_precision, Matched, matched_with}, Hits.{width}, Merge.{merged}, Search.{kind_of, row_hit, judged_turn, Found, after_turn, row_turn, farthest, judge_in, searched}}
+use Rattle.table.specs.{Find.{fix_of, is_precision, Matched, matched_with}, Hits.{width}, Merge.{merged}}
+use Rattle.table.specs.Search.{kind_of, row_hit, judged_turn, Found, after_turn, row_turn, farthest, judge_in, searched}
 use Rattle.table.specs.{Table.{holds}, Unstopped.{seek_all}, declared.{hits.Hit.{Hit}, location.Location.{Location}}}
 use Rattle.header.specs.{Field.{field}, declared.header.Head.{Head}}
 use Rattle.zones.specs.{Fields.{fields_place, fields_from, fields_of}, Lent.{Outcome}, Lookup.{safezone_bits, zones_with, zones_in}, declared.lookup.Zones.{Zones}}
@@ -20,6 +22,7 @@ use Rattle.promises.proofs.Built.NearBorders as Comes
 use Rattle.promises.specs.Built.Finds as F
 use Rattle.numbers.specs.Reply as R
 use Rattle.table.proofs.Merged as M
+use Rattle.verdict.specs.Verdict as V
 
 -- ---- the search
 -- a search of some yards that found, behind some hits
@@ -41,14 +44,14 @@ module _ (plan : Plan) (room : Room) (file : List ℕ) (b : Built plan room file
   judging = judge_in file head fix asked
 
   -- one yard
-  module _ (e : Entered) (s : Sits plan drawn e) (seat : Seat) (same-yard : seat.yard ≡ e.yard) (same_place : seat.at.polygon ≡ e.entry.border)
-      (same-box : seat.at.bounds ≡ bounds_in e.entry.bounds) (seats : List Seat) (least : ℕ) (hits : List Hit) (found : Found) (go : ℕ → List Hit → Reply Found)
+  module _ (e : Entered) (s : Sits plan drawn e) (seat : Seat) (same_yard : seat.yard ≡ e.yard) (same_place : seat.at.polygon ≡ e.entry.border)
+      (same_box : seat.at.bounds ≡ bounds_in e.entry.bounds) (seats : List Seat) (least : ℕ) (hits : List Hit) (found : Found) (go : ℕ → List Hit → Reply Found)
       (later : (closer : ℕ) (more : List Hit) → given found ≡ go closer more → Visits fix asked seats closer more found) where
     alone_is : (a : Bool) (l : ℕ) → judged_alone seat.yard fix a l ≡ judged_alone e.yard fix a l
-    alone_is a l = ap (λ y. judged_alone y fix a l) same-yard
+    alone_is a l = ap (λ y. judged_alone y fix a l) same_yard
 
     visit_outside : holds seat.at.bounds fix ≡ false → given found ≡ go least hits → Visits fix asked (seat ∷ seats) least hits found
-    visit_outside out is = let v = later least hits is in let clear = subst (λ bounds. holds bounds fix ≡ false) same-box out in record {
+    visit_outside out is = let v = later least hits is in let clear = subst (λ bounds. holds bounds fix ≡ false) same_box out in record {
       mark = v.mark;
       new = v.new;
       is = v.is;
@@ -56,10 +59,10 @@ module _ (plan : Plan) (room : Room) (file : List ℕ) (b : Built plan room file
       nearest = outside out v.nearest;
     }
 
-    module _ (in-box : holds seat.at.bounds fix ≡ true) (verdict : Verdict) (closer : ℕ) (comes-to : judged_alone seat.yard fix asked least ≡ reached verdict closer) where
+    module _ (in_box : holds seat.at.bounds fix ≡ true) (verdict : Verdict) (closer : ℕ) (comes_to : judged_alone seat.yard fix asked least ≡ reached verdict closer) where
       alone_so : {new : List Hit} → Alone fix seats new → Alone fix (seat ∷ seats) (hits_of seat.at verdict ++ new)
-      alone_so rest = let within = subst (λ bounds. holds bounds fix ≡ true) same-box in-box in
-          F.next verdict (λ d. alone_is false d ∙ any_distance plan room file b e s fix asked least closer verdict within (sym (alone_is asked least) ∙ comes-to) d) rest
+      alone_so rest = let within = subst (λ bounds. holds bounds fix ≡ true) same_box in_box in
+          F.next verdict (λ d. alone_is false d ∙ any_distance plan room file b e s fix asked least closer verdict within (sym (alone_is asked least) ∙ comes_to) d) rest
 
       visit_kind : (t : Bool) → eqb (kind_of verdict) 0 ≡ t → given found ≡ (if t then go closer hits else (if ltb (length hits) slots then go closer
           (hits ++ (row_hit seat.at (kind_of verdict) ∷ [])) else R.refused (plain 17))) → Visits fix asked (seat ∷ seats) least hits found
@@ -69,7 +72,7 @@ module _ (plan : Plan) (room : Room) (file : List ℕ) (b : Built plan room file
         is = v.is;
         alone = subst (λ h. Alone fix (seat ∷ seats) (h ++ v.new)) (ap (λ t. if t then [] else (row_hit seat.at (kind_of verdict) ∷ [])) k)
             (alone_so v.alone);
-        nearest = held in-box comes-to v.nearest;
+        nearest = held in_box comes_to v.nearest;
       }
       visit_kind false k is = by_room (ltb (length hits) slots) is where
         hit : Hit
@@ -82,12 +85,14 @@ module _ (plan : Plan) (room : Room) (file : List ℕ) (b : Built plan room file
           new = row_hit seat.at (kind_of verdict) ∷ v.new;
           is = v.is ∙ append_assoc hits (row_hit seat.at (kind_of verdict) ∷ []) v.new;
           alone = subst (λ h. Alone fix (seat ∷ seats) (h ++ v.new)) (ap (λ t. if t then [] else (row_hit seat.at (kind_of verdict) ∷ [])) k) (alone_so v.alone);
-          nearest = held in-box comes-to v.nearest;
+          nearest = held in_box comes_to v.nearest;
         }
 
     visit_judged : holds seat.at.bounds fix ≡ true → (j : Judgement) → judged_alone seat.yard fix asked least ≡ j → ComesTo j → given found ≡ after_turn (judged_turn seat.at j) hits slots go
         → Visits fix asked (seat ∷ seats) least hits found
-    visit_judged in-box (reached verdict closer) is Comes.verdict e = visit_kind in-box verdict closer is (eqb (kind_of verdict) 0) refl (e ∙ after_judged seat.at hits slots go verdict closer)
+    visit_judged in_box (V.failed n) is comes e = elim comes [ ]
+    visit_judged in_box (V.refused n) is comes e = elim comes [ ]
+    visit_judged in_box (reached verdict closer) is Comes.verdict e = visit_kind in_box verdict closer is (eqb (kind_of verdict) 0) refl (e ∙ after_judged seat.at hits slots go verdict closer)
 
     visit_one : given found ≡ after_turn (row_turn judging fix seat.at least) hits slots go → Visits fix asked (seat ∷ seats) least hits found
     visit_one is = by_box (holds seat.at.bounds fix) refl where
@@ -95,12 +100,12 @@ module _ (plan : Plan) (room : Room) (file : List ℕ) (b : Built plan room file
       as_alone = ap (λ p. judging p least) same_place ∙ (judged_alone_lem plan room file b e s fix asked least ∙ sym (alone_is asked least))
 
       comes : holds seat.at.bounds fix ≡ true → ComesTo (judged_alone seat.yard fix asked least)
-      comes in-box = subst ComesTo (sym (alone_is asked least)) (alone_comes plan room file b e s fix asked least (subst (λ bounds. holds bounds fix ≡ true) same-box in-box))
+      comes in_box = subst ComesTo (sym (alone_is asked least)) (alone_comes plan room file b e s fix asked least (subst (λ bounds. holds bounds fix ≡ true) same_box in_box))
 
       by_box : (t : Bool) → holds seat.at.bounds fix ≡ t → Visits fix asked (seat ∷ seats) least hits found
-      by_box true in-box =
-          visit_judged in-box (judged_alone seat.yard fix asked least) refl (comes in-box)
-          (is ∙ (after_held seat.at hits slots go judging fix least in-box ∙ ap (λ j. after_turn (judged_turn seat.at j) hits slots go) as_alone))
+      by_box true in_box =
+          visit_judged in_box (judged_alone seat.yard fix asked least) refl (comes in_box)
+          (is ∙ (after_held seat.at hits slots go judging fix least in_box ∙ ap (λ j. after_turn (judged_turn seat.at j) hits slots go) as_alone))
       by_box false out = visit_outside out (is ∙ after_outside seat.at hits slots go judging fix least out)
 
   visit : (es : List Entered) → Every (Sits plan drawn) es → (place id r border least : ℕ) (hits : List Hit) (found : Found)

@@ -37,11 +37,13 @@ pub record Means (P : Entered → Type 0) (seats : List Seat) (number metadata :
 module _ (P : Entered → Type 0) (number metadata : ℕ) where
   at_least : (es : List Entered) (place id r b : ℕ) → Sat number metadata (seats_from place id r b es) → id ≤ number
   unfolding seats_from
+  at_least [] place id r b sat = elim sat [ ]
   at_least (e ∷ es) place id r b (here n m) = omega arith
   at_least (e ∷ es) place id r b (later s) = omega (arith, at_least es _ (id + 1) e.entry.record' e.entry.border s)
 
   pub sat_means : (es : List Entered) → Every P es → (place id r b : ℕ) → Sat number metadata (seats_from place id r b es) → Means P (seats_from place id r b es) number metadata
   unfolding Every seats_from values_at
+  sat_means [] h place id r b sat = elim sat [ ]
   sat_means (e ∷ es) h place id r b (here n m) = record { entered = e; so = h.0; record_is = m; values_are = rw (eq-eqb id number (sym n)) }
   sat_means (e ∷ es) h place id r b (later s) = let more = sat_means es h.1 _ (id + 1) e.entry.record' e.entry.border s in
       let past = at_least es _ (id + 1) e.entry.record' e.entry.border s in

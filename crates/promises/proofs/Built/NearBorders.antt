@@ -1,11 +1,14 @@
 -- A border of at most 65,535 points, with all coordinates below 2 ^ 30 in size, comes to a verdict about every such location, with the distance and without: nothing is refused. Assumes nothing.
-use Rattle.numbers.proofs.Prelude.{ℕ, ◌+◌, ◌-◌, ◌*◌, ◌%◌, ◌^◌, ◌≤◌, ◌<◌, min, le-leb, leb-true, ltb-true, eqb, ltb, lit≤, ℤ, pos, negsuc, ◌+ℤ◌, ◌-ℤ◌, neg_ℤ, nat_abs, length, mag, lt_z, le_z, Bool, true}
+use Rattle.numbers.proofs.Prelude.{ℕ, ◌+◌, ◌-◌, ◌*◌, ◌%◌, ◌^◌, ◌≤◌, ◌<◌, min, le-leb, leb-true, ltb-true, eqb, ltb, lit≤, ℤ, pos, negsuc, ◌+ℤ◌, ◌-ℤ◌, neg_ℤ, nat_abs, length, mag, lt_z, le_z}
+use Rattle.numbers.proofs.Prelude.{Bool, true}
 use Rattle.numbers.proofs.Prelude.{false, ◌&&◌, ◌||◌, List, [], ◌∷◌, zip_with, ◌≡◌, refl, sym, ◌∙◌, arith}
 use Rattle.numbers.{proofs.{Tests.{both, differ}, write.Gaps.{size_sum, size_neg, mag_size}}, specs.{Answer.{if◌then◌else◌}, Float.{cut64, ◌⊟◌}}}
 use lib.IntN.{◌*ℤ◌}
-use Rattle.verdict.{proofs.{Checks.{checked_fits}, Squares.{square_test}}, specs.{Distance.{squared, to_segment, to_vertex, distance_of, measured}, Edge.{same_z, same_point, between, in_box, quadrant_of}}}
+use Rattle.verdict.proofs.{Checks.{checked_fits}, Squares.{square_test}}
+use Rattle.verdict.specs.{Distance.{squared, to_segment, to_vertex, distance_of, measured}, Edge.{same_z, same_point, between, in_box, quadrant_of}}
 use Rattle.verdict.specs.{Edge.{spot_of, edge_of, straight, closest_on, cut_of}, Step.{Step, found, meets, ◌>>=◌}, Verdict.{Judgement, reached, Last, none, after, along, passing, closed_at, then_on}}
-use Rattle.verdict.specs.{Verdict.{judge}, Winding.{turned, quarter_by, half_turn, turn_at, crossing_of, across_by, clear_of, wound_by}, declared.edge.Edge.{Edge, TheVariants.{Sloped, EqualLongitude}}}
+use Rattle.verdict.specs.{Verdict.{judge}, Winding.{turned, quarter_by, half_turn, turn_at, crossing_of, across_by, clear_of, wound_by}}
+use Rattle.verdict.specs.declared.edge.Edge.{Edge, TheVariants.{Sloped, EqualLongitude}}
 use Rattle.verdict.specs.declared.{edge.{Edge.TheVariants.{EqualLatitude}, Spot.{Spot}}, step.{Tally.{Tally}, Verdict.{Verdict, TheVariants.{OnBorderSegment}}}}
 use Rattle.border.specs.{Trace.{point, closed}, Written.{points_then, round_trip}, declared.place.{FixedLon.{FixedLon}, Point.{Point}}}
 use Rattle.writer.specs.{Moves.{points_of}, Writer.{every, near}}
@@ -54,11 +57,11 @@ squared_found lat lon h k = rw (checked_fits 63 (lat *ℤ lat) (square_small lat
 size_difference : (a b : ℤ) → nat_abs a < 2 ^ 30 → nat_abs b < 2 ^ 30 → nat_abs (a -ℤ b) < 2 ^ 31
 size_difference a b h k = omega (arith, size_sum a (neg_ℤ b), size_neg b)
 
-module _ (fix : Point) (fix-near : Near fix) where
+module _ (fix : Point) (fix_near : Near fix) where
   vertex_found : (to : Point) → Near to → Measures (to_vertex to fix)
   unfolding to_vertex
-  vertex_found to h = let lat = size_difference to.lat.0 fix.lat.0 h.lat fix-near.lat in
-      let lon = size_difference to.lon.0 fix.lon.0 h.lon fix-near.lon in
+  vertex_found to h = let lat = size_difference to.lat.0 fix.lat.0 h.lat fix_near.lat in
+      let lon = size_difference to.lon.0 fix.lon.0 h.lon fix_near.lon in
       rw (
         checked_fits 31 (to.lat.0 -ℤ fix.lat.0) (omega (arith, mag_size (to.lat.0 -ℤ fix.lat.0))),
         checked_fits 31 (to.lon.0 -ℤ fix.lon.0)
@@ -73,8 +76,8 @@ module _ (fix : Point) (fix-near : Near fix) where
       let lat = upto_cut at.lat (either_way (2 ^ 30) to.lat.0 (cut_of at).lat.0 from.lat.0 held.0 k.lat h.lat) in
       let lon = upto_cut at.lon (either_way (2 ^ 30) to.lon.0 (cut_of at).lon.0 from.lon.0 held.1 k.lon h.lon) in
       squared_found (cut64 (at.lat ⊟ (spot_of fix).lat)) (cut64 (at.lon ⊟ (spot_of fix).lon))
-      (cut_upto 63 (2 ^ 31) (at.lat ⊟ (spot_of fix).lat) (difference_upto at.lat (spot_of fix).lat lat (whole_upto fix.lat.0 (omega (arith, fix-near.lat)))))
-      (cut_upto 63 (2 ^ 31) (at.lon ⊟ (spot_of fix).lon) (difference_upto at.lon (spot_of fix).lon lon (whole_upto fix.lon.0 (omega (arith, fix-near.lon)))))
+      (cut_upto 63 (2 ^ 31) (at.lat ⊟ (spot_of fix).lat) (difference_upto at.lat (spot_of fix).lat lat (whole_upto fix.lat.0 (omega (arith, fix_near.lat)))))
+      (cut_upto 63 (2 ^ 31) (at.lon ⊟ (spot_of fix).lon) (difference_upto at.lon (spot_of fix).lon lon (whole_upto fix.lon.0 (omega (arith, fix_near.lon)))))
 
   distance_found : (from to : Point) → Near from → Near to → Measures (distance_of fix from to)
   unfolding distance_of
@@ -101,7 +104,7 @@ goes_either : {most : ℕ} (t : Bool) {a b : Step Tally} → Goes most a → Goe
 goes_either true h k = h
 goes_either false h k = k
 
-module _ (fix : Point) (fix-near : Near fix) (most : ℕ) (room : most + 2 < 2 ^ 31) where
+module _ (fix : Point) (fix_near : Near fix) (most : ℕ) (room : most + 2 < 2 ^ 31) where
   turned_goes : (by : ℤ) (t : Tally) → nat_abs by ≤ 2 → nat_abs t.winding ≤ most → Goes (most + 2) (turned by t)
   unfolding turned
   turned_goes by t h k = let sum : nat_abs (t.winding +ℤ by) ≤ most + 2 = omega (arith, size_sum t.winding by) in
@@ -126,9 +129,9 @@ module _ (fix : Point) (fix-near : Near fix) (most : ℕ) (room : most + 2 < 2 ^
   unfolding turn_at
   turn_goes crossing q t h = let left = size_sum fix.lon.0 (negsuc 0) in let right = size_sum fix.lon.0 (pos 1) in
       rw (
-        checked_fits 31 (fix.lon.0 -ℤ pos 1) (omega (arith, mag_size (fix.lon.0 -ℤ pos 1), left, fix-near.lon)),
+        checked_fits 31 (fix.lon.0 -ℤ pos 1) (omega (arith, mag_size (fix.lon.0 -ℤ pos 1), left, fix_near.lon)),
         checked_fits 31 (fix.lon.0 +ℤ pos 1)
-            (omega (arith, mag_size (fix.lon.0 +ℤ pos 1), right, fix-near.lon)),
+            (omega (arith, mag_size (fix.lon.0 +ℤ pos 1), right, fix_near.lon)),
       )
       (by_left (lt_z crossing.0 (fix.lon.0 -ℤ pos 1)) (lt_z (fix.lon.0 +ℤ pos 1) crossing.0)) where
         by_left : (l r : Bool) → Goes (most + 2) ((if l then found (half_turn true q) else (if r then found (half_turn false q) else meets OnBorderSegment)) >>= λ turn. turned turn t)
@@ -156,7 +159,7 @@ module _ (fix : Point) (fix-near : Near fix) (most : ℕ) (room : most + 2 < 2 ^
   unfolding measured
   measured_goes asked from to h k met = met
   measured_goes false from to h k (on w) = on w
-  measured_goes true from to h k (on {t = t} w) = go (distance_found fix fix-near from to h k) where
+  measured_goes true from to h k (on {t = t} w) = go (distance_found fix fix_near from to h k) where
     go : {d : Step ℕ} → Measures d → Goes (most + 2) (d >>= λ new. found (record { winding = t.winding; least = min new t.least }))
     go is = on w
 
@@ -169,7 +172,7 @@ module _ (fix : Point) (fix-near : Near fix) (most : ℕ) (room : most + 2 < 2 ^
 pub data ComesTo : Judgement → Type 0 where
   verdict : {v : Verdict} {least : ℕ} → ComesTo (reached v least)
 
-module _ (fix : Point) (fix-near : Near fix) (asked : Bool) where
+module _ (fix : Point) (fix_near : Near fix) (asked : Bool) where
   comes_either : (t : Bool) {a b : Judgement} → ComesTo a → ComesTo b → ComesTo (if t then a else b)
   comes_either true h k = h
   comes_either false h k = k
@@ -187,9 +190,9 @@ module _ (fix : Point) (fix-near : Near fix) (asked : Bool) where
   through_comes : (ps : List Point) → AllNear ps → (first : Point) → Near first → (most : ℕ) → most + 2 * length ps + 2 < 2 ^ 31 → (last : Last) → NearLast last
       → (t : Tally) → nat_abs t.winding ≤ most → ComesTo (judge fix asked last t (points_then ps (point first closed)))
   unfolding points_then judge AllNear
-  through_comes [] all first h most room last l t w = then_comes t.least _ (passing_goes fix fix-near most (omega arith) asked last l first h t w) (λ t' w'. closed_comes t')
+  through_comes [] all first h most room last l t w = then_comes t.least _ (passing_goes fix fix_near most (omega arith) asked last l first h t w) (λ t' w'. closed_comes t')
   through_comes (p ∷ ps) all first h most room last l t w =
-      then_comes t.least _ (passing_goes fix fix-near most (omega arith) asked last l p all.0 t w) (λ t' w'. through_comes ps all.1 first h (most + 2) (omega arith) (after p) all.0 t' w')
+      then_comes t.least _ (passing_goes fix fix_near most (omega arith) asked last l p all.0 t w) (λ t' w'. through_comes ps all.1 first h (most + 2) (omega arith) (after p) all.0 t' w')
 
   pub near_comes : (points : List Point) → AllNear points → length points ≤ 65535 → (least : ℕ) → ComesTo (judge fix asked none (record { winding = pos 0; least = least }) (round_trip points))
   unfolding round_trip judge AllNear

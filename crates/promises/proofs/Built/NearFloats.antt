@@ -26,6 +26,7 @@ cut_fin false q a b c h = omega arith
 pub cut_upto : (bits b : ℕ) (x : Float) → Upto b x → nat_abs (to_signed bits x) ≤ b
 unfolding to_signed
 cut_upto bits b nan h = omega arith
+cut_upto bits b (inf s) h = elim h [ ]
 cut_upto bits b (fin s m e) h =
     cut_fin s (m * up e / down e) (2 ^ bits) (2 ^ bits - 1) b
     (subst (λ (n : ℕ). m * up e / down e ≤ n) (div-one b) (div_mono (m * up e) (down e) b 1 (down_pos e) (lit< tt) (rw (mul-one (m * up e)) h)))
@@ -115,7 +116,9 @@ sum_upto s a t b c some h k =
 add_upto : (x y : Float) → Upto (2 ^ 30) x → Upto (2 ^ 30) y → Upto (2 ^ 31) (add binary32 x y)
 unfolding add
 add_upto nan y h k = tt
+add_upto (inf s) y h k = elim h [ ]
 add_upto (fin s m e) nan h k = tt
+add_upto (fin s m e) (inf t) h k = elim k [ ]
 add_upto (fin s m e) (fin t n d) h k =
     sum_upto s (m * up e * down d) t (n * up d * down e) (down e * down d) (mul-pos (down_pos e) (down_pos d)) (rw (← mul_assoc (2 ^ 30) (down e) (down d))
     (mul-le-mul_right (down d) h)) (rw (mul_comm (down e) (down d), ← mul_assoc (2 ^ 30) (down d) (down e)) (mul-le-mul_right (down e) k))

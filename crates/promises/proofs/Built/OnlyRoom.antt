@@ -57,10 +57,10 @@ module _ (plan : Plan) (room : Room) (file : List ℕ) (b : Built plan room file
           by_box : (at : Row) → at.polygon ≡ e.entry.border → at.bounds ≡ bounds_in e.entry.bounds → (t : Bool) → holds (bounds_in e.entry.bounds) fix ≡ t
               → {go : ℕ → List Hit → Reply Found} → ((closer : ℕ) (more : List Hit) → NumberedReply NoRoom (go closer more))
               → NumberedReply NoRoom (after_turn (row_turn judging fix at least) hits slots go)
-          by_box at is box true in-box {go} later = let held = after_held at hits slots go judging fix least (ap (λ bounds. holds bounds fix) box ∙ in-box) in
+          by_box at is box true in_box {go} later = let held = after_held at hits slots go judging fix least (ap (λ bounds. holds bounds fix) box ∙ in_box) in
               let alone = ap (λ p. judging p least) is ∙ judged_alone_lem plan room file b e sit.0 fix asked least in
               subst (NumberedReply NoRoom) (sym (held ∙ ap (λ j. after_turn (judged_turn at j) hits slots go) alone)) (by_verdict at hits go later
-              (alone_comes plan room file b e sit.0 fix asked least in-box))
+              (alone_comes plan room file b e sit.0 fix asked least in_box))
           by_box at is box false out {go} later = subst (NumberedReply NoRoom) (sym (after_outside at hits slots go judging fix least (ap (λ bounds. holds bounds fix) box ∙ out))) (later least hits)
 
     search_numbered : NumberedReply NoRoom (searched file (head_in false plan drawn) fix asked slots)

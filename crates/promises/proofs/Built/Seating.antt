@@ -27,6 +27,8 @@ module _ (plan : Plan) (drawn : Drawn) where
       → AllLie plan.version drawn.bytes yards places → Every (Sits plan drawn) (zip_with (entered_at plan) yards places)
   unfolding zip_with Every every
   sit_from before [] [] is good none = tt
+  sit_from before [] (place ∷ places) is good lie = elim lie [ ]
+  sit_from before (yard ∷ yards) [] is good lie = elim lie [ ]
   sit_from before (yard ∷ yards) (place ∷ places) is good (one lies later) =
       let now = both (every is_text yard.values) (every (λ (y : Yard). every is_text y.values) yards) good in
       let named : is_in same_texts yard.values (map (λ (y : Yard). y.values) plan.yards) ≡ true = rw is (map_in same_texts records_decided (λ (y : Yard). y.values) before yard yards) in (
@@ -43,6 +45,8 @@ module _ (plan : Plan) (drawn : Drawn) where
   same_size : (yards : List Yard) (places : List ℕ) → AllLie plan.version drawn.bytes yards places → length (zip_with (entered_at plan) yards places) ≡ length yards
   unfolding zip_with
   same_size [] [] none = refl
+  same_size [] (place ∷ places) lie = elim lie [ ]
+  same_size (yard ∷ yards) [] lie = elim lie [ ]
   same_size (yard ∷ yards) (place ∷ places) (one lies later) = ap suc (same_size yards places later)
 
   entries_in : (yards : List Yard) (places : List ℕ) → map entry_in (zip_with (entered_at plan) yards places) ≡ zip_with (entry_of plan.yards) yards places

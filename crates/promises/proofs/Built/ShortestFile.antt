@@ -2,7 +2,8 @@
 use Rattle.numbers.proofs.Prelude.{ℕ, ◌+◌, ◌-◌, ◌%◌, ◌^◌, ◌≤◌, ◌<◌, leb-true, eqb-true, leb-false, leb, pos, ◌-ℤ◌, length, length-append, Bool, true, false, List, [], ◌∷◌, ◌++◌, map, flat_map}
 use Rattle.numbers.{proofs.Prelude.{zip_with, ◌≡◌, refl, sym, ap, ◌∙◌, le_refl, arith}, specs.{Answer.{if◌then◌else◌}, Spelling.{varint_of, signed_form}}}
 use Rattle.builder.{proofs.{Shortest.{records_size, layout_least, shortest_section}, Steps.{step_down, step_up}}, specs.{Borders.{Drawn}, Entries.{Entry, box_of, lowest_of, box_bytes, entry_bytes}}}
-use Rattle.builder.specs.{Entries.{table_from, from_south, table_of}, File.{head_of, assembled, file_of}, Metadata.{inlined, records_of, fields_of, is_remote, remotes, offset_of, written, fits, layout_of}}
+use Rattle.builder.specs.{Entries.{table_from, from_south, table_of}, File.{head_of, assembled, file_of}}
+use Rattle.builder.specs.Metadata.{inlined, records_of, fields_of, is_remote, remotes, offset_of, written, fits, layout_of}
 use Rattle.builder.specs.{Metadata.{start_of, metadata_of}, Sharing.{same_texts, size_before}, Yards.{Text, Yard, Plan}}
 use Rattle.promises.specs.Built.Laid.{start_for, metadata_for, entry_for, file_for}
 use Rattle.layout.{proofs.{Orders.{sorted_map}, Sizes.{size_rises}}, specs.{Order.{sorted_by}, inner.Layout.{Fits}}}
@@ -79,7 +80,8 @@ module _ (records : List (List Text)) (shorter longer : ℕ) (less : shorter ≤
   first_apart : (v : List Text) → Apart 0 0 (start_for shorter records v) (start_for longer records v)
   unfolding start_for
   first_apart v =
-      up (omega arith) (omega arith) (omega (arith, before_rises same_texts (λ r. length (flat_map (written fields shorter) r)) (λ r. length (flat_map (written fields longer) r)) words_rise v records))
+      up (omega arith) (omega arith)
+      (omega (arith, before_rises same_texts (λ r. length (flat_map (written fields shorter) r)) (λ r. length (flat_map (written fields longer) r)) words_rise v records))
 
   entry_rises : (r r' b : ℕ) (y : Yard × ℕ) → Apart r r' (start_for shorter records y.0.values) (start_for longer records y.0.values)
       → length (entry_bytes r b (entry_with records shorter y)) ≤ length (entry_bytes r' b (entry_with records longer y))

@@ -45,7 +45,7 @@ pub record Small (e : Entry) : Type 0 where
   pub record' : e.record' < 2 ^ 32
   pub border : e.border < 2 ^ 32
 
-module _ (strict : Bool) (file : List ℕ) (place r b : ℕ) (e : Entry) (r_small : r < 2 ^ 32) (b-small : b < 2 ^ 32) (small : Small e) (here : At file place (entry_bytes r b e)) where
+module _ (strict : Bool) (file : List ℕ) (place r b : ℕ) (e : Entry) (r_small : r < 2 ^ 32) (b_small : b < 2 ^ 32) (small : Small e) (here : At file place (entry_bytes r b e)) where
   abbrev read : ℕ → Answer Numeral
   read = reading_of strict file
 
@@ -108,7 +108,7 @@ module _ (strict : Bool) (file : List ℕ) (place r b : ℕ) (e : Entry) (r_smal
       ≡ found (record { place = place; id = id; metadata = e.record'; polygon = e.border; bounds = bounds_in e.bounds; next = place + length (entry_bytes r b e) })
   row_read id =
       entry_row read (record { place = place; id = id; metadata = r; polygon = b }) _ entry_read
-      ∙ rw (record_back r e.record' r_small small.record', border_back b e.border b-small small.border)
+      ∙ rw (record_back r e.record' r_small small.record', border_back b e.border b_small small.border)
 
 -- ---- every entry
 unfoldable pub AllSmall : List Entered → Type 0

@@ -1,16 +1,19 @@
 -- Cases that meet the theorems: the two worked files of crate `builder`, and a layout with two lengths that fit. Assumes nothing.
-use Rattle.numbers.proofs.Prelude.{ℕ, ◌≤◌, ◌<◌, lit<, lit≤, fin, of_int, to_signed, add, sub, mul, div, negsuc, length, replicate, Bool, true, false, List, [], ◌∷◌, flat_map, ◌≡◌, refl, sym, ap, subst}
+use Rattle.numbers.proofs.Prelude.{ℕ, ◌≤◌, ◌<◌, lit<, lit≤, fin, of_int, to_signed, add, sub, mul, div, negsuc, length, replicate, Bool, true, false, List, [], ◌∷◌, flat_map, ◌≡◌, refl, sym}
+use Rattle.numbers.proofs.Prelude.{ap, subst}
 use Rattle.numbers.{proofs.Prelude.{arith}, specs.{Answer.{checked}, Float.{fixed_point, one_shifted}, Point.{signed_of, even_bits, point_of}, Reply.{given, refused, plain}}}
 use Rattle.numbers.specs.{Spelling.{digits_of, varint_of}, Varint.{reading_of, whole_of, forward_at, value_of, size_of, too_long}}
 use Rattle.verdict.specs.{Distance.{measured}, Edge.{same_point, between, in_box, quadrant_of, slope_of, edge_of, straight, closest_on}, Verdict.{along, passing, closed_at, then_on, judge, judged_at}}
 use Rattle.verdict.specs.Winding.{turned, quarter_by, half_turn, turn_at, crossing_of, across_by, clear_of, wound_by}
 use Rattle.border.specs.{Place.{moved_by}, Reader.{advanced, marker, packed_turn, turn_of}, Trace.{round_again, next_within, next_point, trace_then, trace_within, trace_of}}
 use Rattle.builder.{proofs.{Shortest.{shortest_section}, WorkedFile.{room, two, two_yards, equal, equal_values}}, specs.{Borders.{Drawn}, File.{file_of}, Metadata.{inlined, records_of, fields_of}}}
-use Rattle.builder.specs.{Metadata.{is_remote, remotes, offset_of, written, fits, layout_of}, Sharing.{same_by, is_in, times_in, firsts_after, size_before, good_ones}, Yards.{Text, Plan, cut_by, plan_of}}
+use Rattle.builder.specs.{Metadata.{is_remote, remotes, offset_of, written, fits, layout_of}, Sharing.{same_by, is_in, times_in, firsts_after, size_before, good_ones}}
+use Rattle.builder.specs.Yards.{Text, Plan, cut_by, plan_of}
 use Rattle.promises.proofs.Built.{BuiltLookup.{lookup_finds, strict_lookup_finds, lookup_refused}, BuiltOpens.{built_opens, built_needs_room}, OnlyRoom.{NoRoom}}
 use Rattle.promises.proofs.Built.ShortestFile.{shortest_layout}
 use Rattle.promises.specs.Built.{Finds.{FindsInto}, Laid.{file_for}, Opens.{texts_out, opened_as}}
-use Rattle.header.specs.{Field.{field_at}, Header.{preamble_of, texts_from, sections_from, sections_at, contents_by, head_by}, Opening.{opened_by}, Text.{within, remote_at, string_at, bytes_of, text_at}}
+use Rattle.header.specs.{Field.{field_at}, Header.{preamble_of, texts_from, sections_from, sections_at, contents_by, head_by}, Opening.{opened_by}}
+use Rattle.header.specs.Text.{within, remote_at, string_at, bytes_of, text_at}
 use Rattle.header.specs.Utf8.{characters, started_by, begun_by, followed, goes_on, is_utf8}
 use Rattle.table.specs.{Find.{fix_of, matched_with}, Hits.{words}, Merge.{summary, seen, merged_after, merged}, Rows.{rows_then, row_by, rows_within, rows_from, rows_in}}
 use Rattle.table.specs.{Search.{judged_turn, row_turn, seek, searched}, Table.{steps_by, entry_by}, declared.location.Location.{Location}}
@@ -47,7 +50,8 @@ equal_file =
 abbrev in_the_yard : Location
 in_the_yard = record { lat = fin false 45 (negsuc 11); lon = fin false 45 (negsuc 10) }
 
-pub equal_found : looked_up equal_file in_the_yard false 4 8 ≡ replied (given (record { matches = 1; mark = 1; safezone = 0; used = 8 })) (0 ∷ 0 ∷ 1 ∷ 13 ∷ []) (0 ∷ 0 ∷ 1 ∷ 0x41 ∷ 1 ∷ 0 ∷ 1 ∷ 0x41 ∷ [])
+pub equal_found : looked_up equal_file in_the_yard false 4 8
+    ≡ replied (given (record { matches = 1; mark = 1; safezone = 0; used = 8 })) (0 ∷ 0 ∷ 1 ∷ 13 ∷ []) (0 ∷ 0 ∷ 1 ∷ 0x41 ∷ 1 ∷ 0 ∷ 1 ∷ 0x41 ∷ [])
 unfolding reading_of forward_at value_of size_of too_long signed_of even_bits point_of fixed_point one_shifted checked moved_by advanced marker packed_turn turn_of
     round_again next_within next_point trace_then trace_within trace_of along passing closed_at then_on judge judged_at field_at fields_from Z.fields_of fix_of matched_with
     preamble_of texts_from sections_from sections_at contents_by head_by words replied_of safezone_bits zones_with zones_in looked_up summary seen merged_after merged

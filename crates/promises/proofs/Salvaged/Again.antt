@@ -3,7 +3,8 @@ use Rattle.numbers.proofs.Prelude.{ℕ, suc, ◌+◌, ◌-◌, ◌^◌, ◌≤�
 use Rattle.numbers.specs.{Reply.{given}, Spelling.{varint_of, signed_form}, declared.point.RawPoint.{RawPoint}}
 use Rattle.border.{proofs.AtPlace.{at_take}, specs.Encoding.{version_of}}
 use Rattle.header.specs.{Header.{head_by}, Text.{text_at}, declared.{header.{Head.{Head}, Preamble.{Preamble}}, text.Text.{Text}}}
-use Rattle.salvage.specs.{File.{head_texts, border_bytes, box_bytes, id_step, entry_bytes, table_from, metadata_of, assembled, new_file}, Kept.{encoding_in, border_place, border_good, string_inside, field_good}}
+use Rattle.salvage.specs.File.{head_texts, border_bytes, box_bytes, id_step, entry_bytes, table_from, metadata_of, assembled, new_file}
+use Rattle.salvage.specs.Kept.{encoding_in, border_place, border_good, string_inside, field_good}
 use Rattle.salvage.specs.{Kept.{fields_good, record_place, entry_good, kept_of, lines_from}, Moves.Moves.{end_of, moves_at, moves_bytes}, Promises.{SalvageAgain}, Salvage.{salvaged_of}}
 use Rattle.table.specs.{Rows.{rows_in, as_rows}, declared.{rows.Row.{Row}, table.Bounds.{Bounds}}}
 use Rattle.promises.proofs.Salvaged.{Carried.{SameTexts, no_more, one_more, Carried, AllCarried, no_rows, next_row}, KeptAgain.{rows_are, rows_carried}}

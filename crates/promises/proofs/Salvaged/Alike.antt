@@ -107,31 +107,31 @@ module _ (f f' : List ℕ) (h h' : Head) where
     abbrev pub Fielded : Hit → Type 0
     Fielded hit = SameRecord hit.metadata
 
-    abbrev pub Each-given : Reply Found → Type 0
-    Each-given (given found) = Each Fielded found.hits
-    Each-given (R.refused why) = Unit
+    abbrev pub EachGiven : Reply Found → Type 0
+    EachGiven (given found) = Each Fielded found.hits
+    EachGiven (R.refused why) = Unit
 
     abbrev Stays : (ℕ → List Hit → Reply Found) → Type 0
-    Stays go = (least : ℕ) (hits : List Hit) → Each Fielded hits → Each-given (go least hits)
+    Stays go = (least : ℕ) (hits : List Hit) → Each Fielded hits → EachGiven (go least hits)
 
     turn_each : (go : ℕ → List Hit → Reply Found) → Stays go → (r : Row) → SameRecord r.metadata → (hits : List Hit) → Each Fielded hits → (least : ℕ)
-        → Each-given (after_turn (row_turn judge fix r least) hits room go)
+        → EachGiven (after_turn (row_turn judge fix r least) hits room go)
     unfolding row_turn judged_turn
     turn_each go on r same hits each least = by_box (holds r.bounds fix) where
-      by_room : (kind closer : ℕ) (t : Bool) → Each-given (if t then go closer (hits ++ row_hit r kind ∷ []) else R.refused (plain 17))
+      by_room : (kind closer : ℕ) (t : Bool) → EachGiven (if t then go closer (hits ++ row_hit r kind ∷ []) else R.refused (plain 17))
       by_room kind closer true = on closer (hits ++ row_hit r kind ∷ []) (both each (next same end))
       by_room kind closer false = tt
 
-      by_kind : (kind closer : ℕ) (t : Bool) → Each-given (after_turn (if t then On closer else Met (row_hit r kind) closer) hits room go)
+      by_kind : (kind closer : ℕ) (t : Bool) → EachGiven (after_turn (if t then On closer else Met (row_hit r kind) closer) hits room go)
       by_kind kind closer true = on closer hits each
       by_kind kind closer false = by_room kind closer (ltb (length hits) room)
 
-      by_judgement : (judgement : Judgement) → Each-given (after_turn (judged_turn r judgement) hits room go)
+      by_judgement : (judgement : Judgement) → EachGiven (after_turn (judged_turn r judgement) hits room go)
       by_judgement (reached verdict closer) = by_kind (kind_of verdict) closer (eqb (kind_of verdict) 0)
       by_judgement (J.failed closer) = each
       by_judgement (J.refused n) = tt
 
-      by_box : (held : Bool) → Each-given (after_turn (if held then judged_turn r (judge r.polygon least) else On least) hits room go)
+      by_box : (held : Bool) → EachGiven (after_turn (if held then judged_turn r (judge r.polygon least) else On least) hits room go)
       by_box true = by_judgement (judge r.polygon least)
       by_box false = on least hits each
 
@@ -140,6 +140,6 @@ module _ (f f' : List ℕ) (h h' : Head) where
     seek_each none_like least hits each = each
     seek_each (next_like {r = r} {rows = rows} l later) least hits each =
         by_above (is_above r.bounds fix) _ (turn_each (seek judge fix last room (as_rows rows)) (seek_each later) r l.strings hits each least) where
-          by_above : (above : Bool) (on : Reply Found) → Each-given on → Each-given (if above then ended hits (rest_mark last fix (row r (as_rows rows))) least else on)
+          by_above : (above : Bool) (on : Reply Found) → EachGiven on → EachGiven (if above then ended hits (rest_mark last fix (row r (as_rows rows))) least else on)
           by_above true on k = each
           by_above false on k = k

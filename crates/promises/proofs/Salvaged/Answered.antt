@@ -45,8 +45,8 @@ module _ (file : List ℕ) (head : Head) where
 
 -- "nothing is dropped"
 pub nothing_dropped : {file : List ℕ} {words room : ℕ} {counts : Counts} (a : Answered file words room counts) → counts.lines ≡ 0 → a.s.lines ≡ []
-nothing_dropped {file} {words} {room} {counts} a zero-lines = let m = made_from file words room a.s a.is in
-    let few : length a.s.lines / 2 ≡ 0 = sym (ap (λ (c : Counts). c.lines) a.counted) ∙ zero-lines in
+nothing_dropped {file} {words} {room} {counts} a zero_lines = let m = made_from file words room a.s a.is in
+    let few : length a.s.lines / 2 ≡ 0 = sym (ap (λ (c : Counts). c.lines) a.counted) ∙ zero_lines in
     go m few (none_or_some file m.head 0 (rows_in file m.head)) where
       go : (m : Made file words room a.s) → length a.s.lines / 2 ≡ 0 → (lines_from file m.head 0 (rows_in file m.head) ≡ []) ⊎
           (2 ≤ length (lines_from file m.head 0 (rows_in file m.head))) → a.s.lines ≡ []

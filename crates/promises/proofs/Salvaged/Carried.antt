@@ -1,6 +1,6 @@
 -- Each kept entry stands in the new file with its old box, metadata id and strings, and with a border of the same moves. Assumes nothing.
 use Rattle.numbers.proofs.Prelude.{ℕ, zero, suc, ◌+◌, ◌-◌, ◌%◌, ◌^◌, ◌≤◌, ◌<◌, length, take, drop, length-append, Bool, true, List, [], ◌∷◌, flat_map, ◌≡◌, refl, sym, ap, ◌∙◌, arith}
-use Rattle.numbers.{proofs.{Answers.{found-one}, Replies.{given_from, demanded}}, specs.{Answer.{found}, Reply.{Reply, given, refused, plain, ◌>>◌}}}
+use Rattle.numbers.{proofs.{Answers.{found_one}, Replies.{given_from, demanded}}, specs.{Answer.{found}, Reply.{Reply, given, refused, plain, ◌>>◌}}}
 use Rattle.border.{proofs.{AtPlace.{at_place}, OnWay.{At, at_first, at_next}}, specs.{Encoding.{version_of}, Trace.{trace_of, border_at}}}
 use Rattle.header.specs.{Text.{string_at, bytes_of, text_at}, Utf8.{is_utf8}, declared.{header.{Head.{Head}, Preamble.{Preamble}}, text.Text.{Text}}}
 use Rattle.salvage.{proofs.{data.Drawing.{kept_closes}, moves.Again.{SameBorder, moves_again}}, specs.File.{border_bytes}}
@@ -67,7 +67,7 @@ module _ (file : List ℕ) (head : Head) (new : List ℕ) (head' : Head) (s : Sh
             let was = text_found true file m place (record { number = 15; detail = 0 }) text (sym (ap (λ (t : Bool). text_at t file m place (record { number = 15; detail = 0 }))
             (sym s.is_strict) ∙ reads)) in
             let moved = moves place text was.is i in
-            let same_text : moved.old.text ≡ text = found-one (sym moved.old.is ∙ was.is) in
+            let same_text : moved.old.text ≡ text = found_one (sym moved.old.is ∙ was.is) in
             let at_place' : place' ≡ m' + (place - m) = at moved.low moved.high in
             let same_bytes : bytes_of new moved.now.text ≡ bytes_of file text = lain_bytes moved.now ∙ sym (lain_bytes moved.old) ∙ ap (bytes_of file) same_text in
             let now : TextFound head'.strict new m' (m' + (place - m)) moved.now.text = record { is = moved.now.is; good = ap is_utf8 same_bytes ∙ was.good } in

@@ -4,10 +4,11 @@ use Rattle.numbers.specs.{Answer.{if◌then◌else◌}, Reply.{Reply, given, ◌
 use mathlib.Core.Option.{Option, some}
 use Rattle.header.specs.{Header.{blame_of}, Text.{bytes_of, text_at}, declared.{header.{Head.{Head}, Preamble.{Preamble}}, text.Text.{Text}}}
 use Rattle.table.{proofs.Merged.{Each, next}, specs.{Find.{Matched, matched_with}, Hits.{width}, Rows.{rows_in, as_rows}, declared.{hits.Hit.{Hit}, location.Location.{Location}, rows.Row.{Row}}}}
-use Rattle.zones.{proofs.PlaceLeftOut.{bare_hit, bare}, specs.{Fields.{fields_place}, Lent.{Outcome}, Simple.{part_of, begun, newer, joined, picked_from, picked_of, checked, description_of, bytes_in}}}
+use Rattle.zones.proofs.PlaceLeftOut.{bare_hit, bare}
+use Rattle.zones.specs.{Fields.{fields_place}, Lent.{Outcome}, Simple.{part_of, begun, newer, joined, picked_from, picked_of, checked, description_of, bytes_in}}
 use Rattle.zones.specs.{Simple.{length_in, fitting, worded_of, described_with}, declared.simple.{Described.{Described}, Picked.{Picked}, Value.{Value}}}
 use Rattle.promises.proofs.Salvaged.{Alike.{compared, bare_matched, both_given, SameRecord, AllLike}, Carried.{SameTexts, no_more, one_more}}
-use Rattle.promises.proofs.Salvaged.{LookedAlike.{Read, Matches-read, matched_like, matched_each}, TextsAgain.{SameNames, no_names, one_name}}
+use Rattle.promises.proofs.Salvaged.{LookedAlike.{Read, MatchesRead, matched_like, matched_each}, TextsAgain.{SameNames, no_names, one_name}}
 use Rattle.promises.specs.Salvaged.Same.{unmarked_simple}
 use Rattle.numbers.specs.Reply as R
 use Rattle.zones.specs.declared.simple.Value.TheVariants as X
@@ -64,9 +65,9 @@ module _ (f f' : List ℕ) (h h' : Head) (preamble : h'.preamble ≡ h.preamble)
   unfolding picked_from
   picks index {last = last} {last' = last'} no_names no_more l = record { old = last; now = last'; is = refl; is' = refl; like = l }
   picks {more = suc more} index {names = names} {names' = names'} {values = values} {values' = values'} {last = last} {last' = last'} (one_name c c' called
-      called' same_name names-later) (one_more v v' value value' same_value placed later) l =
+      called' same_name names_later) (one_more v v' value value' same_value placed later) l =
       let part : part_of h'.preamble.kind (bytes_of f' c') ≡ part_of h.preamble.kind (bytes_of f c) = λ i. part_of (preamble i).kind (same_name i) in
-      let rest = picks (index + 1) names-later later (newer_like (part_of h.preamble.kind (bytes_of f c)) v v' same_value l) in
+      let rest = picks (index + 1) names_later later (newer_like (part_of h.preamble.kind (bytes_of f c)) v v' same_value l) in
       record {
         old = rest.old;
         now = rest.now;
@@ -120,7 +121,7 @@ module _ (f f' : List ℕ) (h h' : Head) (preamble : h'.preamble ≡ h.preamble)
     worded_like room xs ys e each = ap (λ (r : Reply (Option (List ℕ))). r >>= λ description. fitting room (bytes_in description) >>= λ bytes. given description) (description_like xs ys e each)
 
     -- ---- the answer
-    module _ (rows rows' : List Row) (like : AllLike f f' h h' rows rows') (old_rows : rows_in f h ≡ as_rows rows) (new-rows : rows_in f' h' ≡ as_rows rows') (location : Location) where
+    module _ (rows rows' : List Row) (like : AllLike f f' h h' rows rows') (old_rows : rows_in f h ≡ as_rows rows) (new_rows : rows_in f' h' ≡ as_rows rows') (location : Location) where
       abbrev outcome : Matched → Option (List ℕ) → Outcome Described
       outcome found description =
           record { answer = record { matches = length found.matches; mark = found.mark; description = length_in description }; matches = found.matches; text = bytes_in description }
@@ -141,9 +142,9 @@ module _ (f f' : List ℕ) (h h' : Head) (preamble : h'.preamble ≡ h.preamble)
       described_like n room =
           both_given bare_matched unmarked_simple (matched_with f' h' location false (n / width)) (matched_with f h location false (n / width)) (λ a. checked f' h'
           a.matches >> (worded_of f' h' room a.matches >>= λ d. given (outcome a d))) (λ b. checked f h b.matches >> (worded_of f h room b.matches
-          >>= λ d. given (outcome b d))) (matched_like f f' h h' preamble rows rows' like old_rows new-rows location false (n / width))
+          >>= λ d. given (outcome b d))) (matched_like f f' h h' preamble rows rows' like old_rows new_rows location false (n / width))
           (λ a b is e. (λ i. compared unmarked_simple (checked_like a.matches b.matches (ap (λ (x : Matched). x.matches) e) (read b is) i >>
           (worded_like room a.matches b.matches (ap (λ (x : Matched). x.matches) e) (read b is) i >>= λ d. given (outcome a d)))) ∙ finish a b e
           (checked f h b.matches) (worded_of f h room b.matches)) where
             read : (b : Matched) → matched_with f h location false (n / width) ≡ given b → Each (Read f f' h h' preamble) b.matches
-            read b is = subst (Matches-read f f' h h' preamble) is (matched_each f f' h h' preamble rows rows' like old_rows new-rows location false (n / width))
+            read b is = subst (MatchesRead f f' h h' preamble) is (matched_each f f' h h' preamble rows rows' like old_rows new_rows location false (n / width))

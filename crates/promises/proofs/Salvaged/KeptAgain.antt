@@ -93,7 +93,7 @@ salvage_kept file words room head s opens e =
     let rows = rows_are file m.head m.texts s.kept s.file m.is m.small m.opens sound true in
     let carried = rows_carried file m.head m.texts s.kept s.file m.is m.small m.opens sound true in
     let made : KeptFile file m.head s.file s.kept = record {
-      new_head_lem = head';
+      new_head = head';
       opens = new_opens file m.head m.texts s.kept s.file m.is m.small m.opens m.inline true;
       entries = subst (KeptAs file s.file m.head head' s.kept) (sym rows) (kept_as shift.preamble carried);
     } in

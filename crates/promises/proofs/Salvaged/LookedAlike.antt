@@ -7,7 +7,7 @@ use Rattle.table.{proofs.Merged.{Each, end, next, both, either}, specs.{Find.{fi
 use Rattle.table.specs.{Rows.{Rows, rows_in, as_rows}, Search.{Found, searched_rows, farthest, searched}, declared.{hits.Hit.{Hit}, location.Location.{Location}, rows.Row.{Row}}}
 use Rattle.zones.{proofs.PlaceLeftOut.{bare_hit, bare, merged_bare}, specs.{Fields.{fields_from, fields_of, fields_place}, Lent.{Outcome}, Lookup.{safezone_bits, zones_with}}}
 use Rattle.zones.specs.declared.lookup.Zones.{Zones}
-use Rattle.promises.proofs.Salvaged.{Alike.{compared, bare_found, bare_matched, both_given, SameRecord, AllLike, Each-given, seek_like, seek_each}, FieldsAlike.{fields_from_lem}}
+use Rattle.promises.proofs.Salvaged.{Alike.{compared, bare_found, bare_matched, both_given, SameRecord, AllLike, EachGiven, seek_like, seek_each}, FieldsAlike.{fields_from_lem}}
 use Rattle.promises.specs.Salvaged.Same.{unmarked}
 use Rattle.numbers.specs.Reply as R
 
@@ -31,9 +31,9 @@ module _ (f f' : List ℕ) (h h' : Head) (preamble : h'.preamble ≡ h.preamble)
       both (either (Each Read) (seen hit.metadata before) (λ e. end) (λ e. either (Each Read) (eqb (group_kind (summary hit.metadata (hit ∷ hits))) 0)
       (λ z. end) (λ z. next own end))) (merged_each (before ++ hit ∷ []) later)
 
-  abbrev pub Matches-read : Reply Matched → Type 0
-  Matches-read (given found) = Each Read found.matches
-  Matches-read (R.refused why) = Unit
+  abbrev pub MatchesRead : Reply Matched → Type 0
+  MatchesRead (given found) = Each Read found.matches
+  MatchesRead (R.refused why) = Unit
 
   -- ---- fields, match by match
   record_fields : (id : ℕ) → SameRecord f f' h h' id → (room : ℕ) (text : List ℕ) → fields_from f' h' room h'.preamble.count 0 (fields_place h' id) text ≡
@@ -50,19 +50,19 @@ module _ (f f' : List ℕ) (h h' : Head) (preamble : h'.preamble ≡ h.preamble)
       ∙ ap (λ (r : Reply (List ℕ)). r >>= fields_of f' h' room xs) (record_fields y.metadata own room text)
       ∙ after (fields_from f h room h.preamble.count 0 (fields_place h y.metadata) text) (fields_like room xs ys rest later)
 
-  module _ (rows rows' : List Row) (like : AllLike f f' h h' rows rows') (old_rows : rows_in f h ≡ as_rows rows) (new-rows : rows_in f' h' ≡ as_rows rows') (location : Location) (asked : Bool) where
+  module _ (rows rows' : List Row) (like : AllLike f f' h h' rows rows') (old_rows : rows_in f h ≡ as_rows rows) (new_rows : rows_in f' h' ≡ as_rows rows') (location : Location) (asked : Bool) where
     -- ---- the matches
     module _ (fix : Point) (room : ℕ) where
       searched_like : compared bare_found (searched f' h' fix asked room) ≡ compared bare_found (searched f h fix asked room)
       unfolding searched
       searched_like =
-          ap (λ (rs : Rows). compared bare_found (searched_rows f' h' fix asked room rs)) new-rows ∙ seek_like f f' h h' fix asked h.sections.metadata
+          ap (λ (rs : Rows). compared bare_found (searched_rows f' h' fix asked room rs)) new_rows ∙ seek_like f f' h h' fix asked h.sections.metadata
           h'.sections.metadata room like farthest [] [] refl ∙ sym (ap (λ (rs : Rows). compared bare_found (searched_rows f h fix asked room rs)) old_rows)
 
-      searched_each : Each-given f f' h h' fix asked h.sections.metadata h'.sections.metadata room (searched f h fix asked room)
+      searched_each : EachGiven f f' h h' fix asked h.sections.metadata h'.sections.metadata room (searched f h fix asked room)
       unfolding searched
       searched_each =
-          subst (λ (rs : Rows). Each-given f f' h h' fix asked h.sections.metadata h'.sections.metadata room (searched_rows f h fix asked room rs)) (sym old_rows)
+          subst (λ (rs : Rows). EachGiven f f' h h' fix asked h.sections.metadata h'.sections.metadata room (searched_rows f h fix asked room rs)) (sym old_rows)
           (seek_each f f' h h' fix asked h.sections.metadata h'.sections.metadata room like farthest [] end)
 
       found_like : compared bare_matched (searched f' h' fix asked room >>= merging) ≡ compared bare_matched (searched f h fix asked room >>= merging)
@@ -70,10 +70,10 @@ module _ (f f' : List ℕ) (h h' : Head) (preamble : h'.preamble ≡ h.preamble)
           both_given bare_found bare_matched (searched f' h' fix asked room) (searched f h fix asked room) merging merging searched_like
           (λ a b is e. λ i. given (record { matches = merged_like a.hits b.hits (ap (λ (x : Found). x.hits) e) i; mark = 0; least = ap (λ (x : Found). x.least) e i }))
 
-      found_each : Matches-read (searched f h fix asked room >>= merging)
+      found_each : MatchesRead (searched f h fix asked room >>= merging)
       unfolding merged
       found_each = go (searched f h fix asked room) searched_each where
-        go : (r : Reply Found) → Each-given f f' h h' fix asked h.sections.metadata h'.sections.metadata room r → Matches-read (r >>= merging)
+        go : (r : Reply Found) → EachGiven f f' h h' fix asked h.sections.metadata h'.sections.metadata room r → MatchesRead (r >>= merging)
         go (given found) each = merged_each [] each
         go (R.refused why) each = tt
 
@@ -90,10 +90,10 @@ module _ (f f' : List ℕ) (h h' : Head) (preamble : h'.preamble ≡ h.preamble)
           go true = found_like (fix_of location h.preamble.precision) room
           go false = refl
 
-    pub matched_each : (room : ℕ) → Matches-read (matched_with f h location asked room)
+    pub matched_each : (room : ℕ) → MatchesRead (matched_with f h location asked room)
     unfolding matched_with
     matched_each room = go (is_precision h.preamble.precision) where
-      go : (t : Bool) → Matches-read (demand t (plain 16) >> (searched f h (fix_of location h.preamble.precision) asked room >>= merging))
+      go : (t : Bool) → MatchesRead (demand t (plain 16) >> (searched f h (fix_of location h.preamble.precision) asked room >>= merging))
       go true = found_each (fix_of location h.preamble.precision) room
       go false = tt
 
@@ -120,7 +120,7 @@ module _ (f f' : List ℕ) (h h' : Head) (preamble : h'.preamble ≡ h.preamble)
         (λ a b is e. ap (λ (r : Reply (List ℕ)). compared unmarked (r >>= λ text. given (outcome h' a text))) (fields_like room a.matches b.matches
         (ap (λ (x : Matched). x.matches) e) (read b is) []) ∙ finish a b e (fields_of f h room b.matches [])) where
           read : (b : Matched) → matched_with f h location asked (n / width) ≡ given b → Each Read b.matches
-          read b is = subst Matches-read is (matched_each (n / width))
+          read b is = subst MatchesRead is (matched_each (n / width))
 
           finish : (a b : Matched) → bare_matched a ≡ bare_matched b → (r : Reply (List ℕ)) → compared unmarked (r >>= λ text. given (outcome h' a text)) ≡
               compared unmarked (r >>= λ text. given (outcome h b text))

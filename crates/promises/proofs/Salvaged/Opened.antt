@@ -18,7 +18,7 @@ opened_from file head e = let o = read_from true file (sym e) in let a = sized t
   texts = o.texts;
   texts_are = sym o.texts_are;
   contents = sym o.contents;
-  in_order = omega (arith, a.metadata, a.data_place_lem);
+  in_order = omega (arith, a.metadata, a.data_stands);
   inside = omega (arith, a.exact);
 }
 

@@ -4,7 +4,7 @@ use Rattle.numbers.{proofs.Replies.{given_from}, specs.{Answer.{found}, Reply.{R
 use Rattle.border.{proofs.Strict.{StrictTrace, point, cut_off, alike, trace_strictly}, specs.{Encoding.{version_of, encoded_by}, Place.{point_at}, Trace.{Trace, trace_of, border_at}}}
 use Rattle.border.specs.declared.place.Point.{Point}
 use Rattle.verdict.specs.Verdict.{none, judge, judged_at}
-use Rattle.header.proofs.{StrictHead.{Or31, shown_same, head_strict, head_strictly_lem, table_within, text_strictly, unstrict}, Unless.{Unless, refuses, shown}}
+use Rattle.header.proofs.{StrictHead.{Or31, shown_same, head_strict, head_strictly_unless, table_within, text_strictly, unstrict}, Unless.{Unless, refuses, shown}}
 use Rattle.header.specs.{Header.{blame_of, Texts, texts_from, head_by}, Text.{text_at}, declared.{header.Head.{Head}, text.{Blame.{Blame}, Text.{Text}}}}
 use Rattle.salvage.specs.{Kept.{encoding_in, border_place, record_place, entry_good}, Moves.Moves.{end_of}}
 use Rattle.table.{proofs.StrictRows.{StrictRows, row, at_end, unread, stopped, rows_strictly}, specs.{Rows.{Rows, start_at, rows_from, rows_in, as_rows}, Search.{judge_in}, declared.rows.Row.{Row}}}
@@ -41,7 +41,7 @@ module _ (file : List ℕ) (head : Head) (opens : head_by true file ≡ given he
   plainly = record { preamble = head.preamble; sections = head.sections; strict = false }
 
   pub plain_head : head_by false file ≡ given (record { preamble = head.preamble; sections = head.sections; strict = false })
-  plain_head = go (head_strictly_lem file) where
+  plain_head = go (head_strictly_unless file) where
     by_reply : (r : Reply Head) → head_by false file ≡ r → given (unstrict file head) ≡ shown (unstrict file) r → r ≡ given (unstrict file head)
     by_reply (given h) is e = let same : unstrict file head ≡ unstrict file h = cc (e) in let no : h.strict ≡ false = head_strict false file is in
         (λ i. given (record { preamble = h.preamble; sections = h.sections; strict = no i })) ∙ ap given (sym same)
@@ -70,7 +70,8 @@ module _ (file : List ℕ) (head : Head) (opens : head_by true file ≡ given he
   unfolding judged_at
   plain_judged r closes fix asked least = let version = version_of head.preamble.version in let base = head.sections.«data» in
       let start = border_at (border_place file head r) in
-      let strictly : end_of (trace_of file (encoded_by true version base) start) ≡ found tt = ap (λ (t : Bool). end_of (trace_of file (encoded_by t version base) start)) (sym opened.strict) ∙ closes in
+      let strictly : end_of (trace_of file (encoded_by true version base) start) ≡ found tt =
+      ap (λ (t : Bool). end_of (trace_of file (encoded_by t version base) start)) (sym opened.strict) ∙ closes in
       let same : trace_of file (encoded_by false version base) start ≡ trace_of file (encoded_by head.strict version base) start = plain_trace
       (trace_strictly file version base start) strictly ∙ ap (λ (t : Bool). trace_of file (encoded_by t version base) start) (sym opened.strict) in
       ap (judge (record { lat = fix.lat; lon = fix.lon }) asked none _) same

@@ -32,7 +32,7 @@ salvage_kept_plainly file words room s e = let m = made_from file words room s e
     let rows = rows_are file m.head m.texts s.kept s.file m.is m.small m.opens sound false in
     let carried = rows_carried file m.head m.texts s.kept s.file m.is m.small m.opens sound false in record {
       old_head = plainly file m.head m.opens;
-      new_head_lem = head';
+      new_head = head';
       old_opens = plain_head file m.head m.opens;
       new_opens = new_opens file m.head m.texts s.kept s.file m.is m.small m.opens m.inline false;
       entries = subst (KeptAs file s.file (plainly file m.head m.opens) head' s.kept) (sym rows) (plain_entries file m.head m.opens s.file head' shift.preamble sound carried);

@@ -1,6 +1,6 @@
 -- `salvage_same`: where nothing was dropped, the new file gives the same matches, texts and safezone, or the same refusal, for every location, however the two files are opened: the end mark and the
 -- places of the entries aside. Assumes nothing.
-use Rattle.numbers.proofs.{Answers.{All, then-all, any}, Prelude.{ℕ, zero, suc, ◌+◌, ◌%◌, ◌^◌, ◌<◌, ltb, length, Bool, true, false, List, [], ◌∷◌, ◌≡◌, refl, sym, ap, subst, ◌∙◌, arith}}
+use Rattle.numbers.proofs.{Answers.{All, then_all, any}, Prelude.{ℕ, zero, suc, ◌+◌, ◌%◌, ◌^◌, ◌<◌, ltb, length, Bool, true, false, List, [], ◌∷◌, ◌≡◌, refl, sym, ap, subst, ◌∙◌, arith}}
 use Rattle.numbers.{proofs.Readings.{Grows, reading_grows}, specs.{Answer.{Answer, found, failed, if◌then◌else◌}, Reply.{Reply, given, ◌>>=◌}, Varint.{Numeral, reading_of}}}
 use Rattle.header.specs.{Header.{head_by}, declared.header.Head.{Head}}
 use Rattle.salvage.{proofs.{data.Drawing.{kept_closes}, moves.Again.{same_judgement}}, specs.Kept.{encoding_in, border_place, entry_good, kept_if, line_if, kept_of, lines_from}}
@@ -26,7 +26,7 @@ data Numbered : ℕ → List Row → Type 0 where
 module _ (read : ℕ → Answer Numeral) (grows : Grows read) (last : ℕ) where
   row_number : (at : Cursor) → All (λ (r : Row). r.id ≡ at.id) (row_by read at)
   unfolding row_by
-  row_number at = then-all (λ (entry : Entry). Unit {0}) (λ (r : Row). r.id ≡ at.id) (entry_by read at.place) _ (any (entry_by read at.place)) (λ entry u. refl)
+  row_number at = then_all (λ (entry : Entry). Unit {0}) (λ (r : Row). r.id ≡ at.id) (entry_by read at.place) _ (any (entry_by read at.place)) (λ entry u. refl)
 
   numbered : (rows : List Row) (at : Cursor) → rows_from read last at ≡ as_rows rows → at.id + length rows < 2 ^ 32 → Numbered at.id rows
   unfolding as_rows rows_then
@@ -89,7 +89,7 @@ module _ (file : List ℕ) (head : Head) (opens : head_by true file ≡ given he
 
 shorter : {f f' : List ℕ} {h h' : Head} {names index place place' : ℕ} (more : ℕ) → SameNames f f' h h' names (suc more) index place place' → SameNames f f' h h' names more index place place'
 shorter zero (one_name t t' reads reads' bytes later) = no_names
-shorter (suc more) (one_name t t' reads reads' bytes later) = one_name t t' reads reads' bytes (shorter more later)
+shorter {index = index} (suc more) (one_name t t' reads reads' bytes later) = one_name t t' reads reads' bytes (shorter {index = index + 1} more later)
 
 -- all but the notice
 names_alone : {f f' : List ℕ} {h h' : Head} {names index place place' : ℕ} (count : ℕ) → SameNames f f' h h' names (count + 1) index place place' → SameNames f f' h h' names count index place place'

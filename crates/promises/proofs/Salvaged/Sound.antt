@@ -1,6 +1,6 @@
 -- The rows that are kept: good, and with numbers that can be written. Assumes nothing.
 use Rattle.numbers.proofs.Prelude.{ℕ, ◌^◌, ◌<◌, mag, List, [], ◌∷◌, ◌≡◌, refl, arith}
-use Rattle.numbers.{proofs.Answers.{All, then-all, any}, specs.{Answer.{Answer, found, failed, ◌>>=◌}, Reply.{Reply, given, refused}, Varint.{Numeral, reading_of}}}
+use Rattle.numbers.{proofs.Answers.{All, then_all, any}, specs.{Answer.{Answer, found, failed, ◌>>=◌}, Reply.{Reply, given, refused}, Varint.{Numeral, reading_of}}}
 use Rattle.header.specs.declared.header.Head.{Head}
 use Rattle.salvage.{proofs.moves.Forms.{signed_mag}, specs.Kept.{entry_good, kept_if, kept_of}}
 use Rattle.table.{proofs.TableRows.{rows_so}, specs.{Rows.{Rows, row, row_by, start_at, rows_in}, Table.{steps_by, entry_by}, declared.{rows.{Cursor.{Cursor}, Row.{Row}}, table.Bounds.{Bounds}}}}
@@ -28,7 +28,7 @@ pub record Sound (file : List ℕ) (head : Head) (r : Row) : Type 0 where
 -- ---- a row that was read
 module _ (read : ℕ → Answer Numeral) where
   anyway : {B : Type 0} (Q : B → Type 0) (place : ℕ) (next : Numeral → Answer B) → ((number : Numeral) → All Q (next number)) → All Q (read place >>= next)
-  anyway Q place next h = then-all (λ (n : Numeral). Unit {0}) Q (read place) next (any (read place)) (λ number u. h number)
+  anyway Q place next h = then_all (λ (n : Numeral). Unit {0}) Q (read place) next (any (read place)) (λ number u. h number)
 
   entry_fits : (place : ℕ) → All (λ (entry : Entry). FitsBox entry.bounds) (entry_by read place)
   unfolding entry_by steps_by
@@ -43,7 +43,7 @@ module _ (read : ℕ → Answer Numeral) where
 
   row_fits : (at : Cursor) → All Fits (row_by read at)
   unfolding row_by
-  row_fits at = then-all (λ (entry : Entry). FitsBox entry.bounds) Fits (entry_by read at.place) _ (entry_fits at.place) (λ entry h. record { box = h; id = omega arith })
+  row_fits at = then_all (λ (entry : Entry). FitsBox entry.bounds) Fits (entry_by read at.place) _ (entry_fits at.place) (λ entry h. record { box = h; id = omega arith })
 
   found_fits : (at : Cursor) (r : Row) → found r ≡ row_by read at → Fits r
   found_fits at r e = go (row_by read at) (row_fits at) e where

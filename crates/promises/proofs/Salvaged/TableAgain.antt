@@ -41,7 +41,7 @@ module _ (from to : ℕ) (h : from < 2 ^ 32) (k : to < 2 ^ 32) where
   step_back = ap (λ (n : ℕ). (from + n) % 2 ^ 32) (stepped low (omega arith)).back ∙ omega arith
 
 -- ---- one entry
-module _ (strict : Bool) (new : List ℕ) (place id size polygon : ℕ) (r : Row) (id-small : id < 2 ^ 32) (place_small : polygon + size < 2 ^ 32) (fits : Fits r)
+module _ (strict : Bool) (new : List ℕ) (place id size polygon : ℕ) (r : Row) (id_small : id < 2 ^ 32) (place_small : polygon + size < 2 ^ 32) (fits : Fits r)
     (here : At new place (entry_bytes id size r)) where
   abbrev read : ℕ → Answer Numeral
   read = reading_of strict new
@@ -102,14 +102,14 @@ module _ (strict : Bool) (new : List ℕ) (place id size polygon : ℕ) (r : Row
       ) in
       six_read read (signed_read south fits.box.south place _ a0) (signed_read west fits.box.west p1 _ a1) (signed_read north fits.box.north p2 _ a2)
       (signed_read east fits.box.east p3 _ a3)
-      (number_at strict new p4 step (step_few id r.metadata id-small fits.id) (at_first new p4 (varint_of step) _ a4))
+      (number_at strict new p4 step (step_few id r.metadata id_small fits.id) (at_first new p4 (varint_of step) _ a4))
       (number_at strict new p5 size (omega arith) a5)
       ∙ rw (form_again south fits.box.south, form_again west fits.box.west, form_again north fits.box.north, form_again east fits.box.east, whole)
 
   row_read : (number : ℕ) → row_by read (record { place = place; id = number; metadata = id; polygon = polygon })
       ≡ found (record { place = place; id = number; metadata = r.metadata; polygon = polygon + size; bounds = r.bounds; next = place + length (entry_bytes id size r) })
   row_read number = let sum : (polygon + size) % 2 ^ 32 ≡ polygon + size = omega arith in
-      entry_row read (record { place = place; id = number; metadata = id; polygon = polygon }) _ entry_read ∙ rw (step_back id r.metadata id-small fits.id, sum)
+      entry_row read (record { place = place; id = number; metadata = id; polygon = polygon }) _ entry_read ∙ rw (step_back id r.metadata id_small fits.id, sum)
 
 -- an entry has some bytes, so there are no more rows than bytes
 entry_some : (id size : ℕ) (r : Row) → Fits r → 0 < length (entry_bytes id size r)

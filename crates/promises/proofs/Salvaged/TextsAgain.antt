@@ -180,11 +180,11 @@ module _ (file : List ℕ) (head : Head) (is_strict : head.strict ≡ true) (new
             → ((index place place' : ℕ) (texts : Texts) (bytes : List ℕ) → texts_from true file names more index place ≡ given texts → texts_inline file head more
             place ≡ given bytes → At new place' bytes → Both file head new head' names more index place place' texts.bytes bytes) → Both file head new head'
             names (suc more) index place place' texts.bytes bytes
-        go text was rest rest_is whole t same short later later-is bytes_are further =
+        go text was rest rest_is whole t same short later later_is bytes_are further =
             let out : texts ≡ record { bytes = entry (bytes_of file text) ++ rest.bytes; place = rest.place } = cc (whole) in
             let spelt : bytes ≡ varint_of t.size ++ (take t.size (drop t.start file) ++ later) = cc (bytes_are) in
             let spelt' : bytes ≡ varint_of text.size ++ (take text.size (drop text.start file) ++ later) = rw same spelt in
-            let later' : texts_inline file head more text.next ≡ given later = rw same later-is in
+            let later' : texts_inline file head more text.next ≡ given later = rw same later_is in
             let both = text_next names more index place place' text was (rw same short) rest.bytes later (at_as spelt' here) (further (index + 1) text.next _ rest later rest_is later') in
             subst (λ (o : List ℕ). Both file head new head' names (suc more) index place place' o bytes) (sym (ap (λ (x : Texts). x.bytes) out))
             (subst (λ (b : List ℕ). Both file head new head' names (suc more) index place place' (entry (bytes_of file text) ++ rest.bytes) b) (sym spelt') both)

@@ -1,12 +1,15 @@
 -- Two small files that are salvaged, one with an entry dropped and one without, so that each theorem speaks of something. Assumes nothing.
-use Rattle.numbers.{proofs.Prelude.{ℕ, lit≤, pos, take, Bool, true, List, [], ◌∷◌, flat_map, ◌≡◌, refl, ap, subst}, specs.{Answer.{checked}, Point.{signed_of, even_bits, point_of}, Reply.{Reply, given}}}
+use Rattle.numbers.proofs.Prelude.{ℕ, lit≤, pos, take, Bool, true, List, [], ◌∷◌, flat_map, ◌≡◌, refl, ap, subst}
+use Rattle.numbers.specs.{Answer.{checked}, Point.{signed_of, even_bits, point_of}, Reply.{Reply, given}}
 use Rattle.numbers.specs.{Spelling.{digits_of, varint_of, signed_form, interleaved}, Varint.{reading_of, whole_of, forward_at, value_of, size_of, too_long}}
 use Rattle.writer.specs.Moves.{move_to, packed_number}
 use Rattle.border.specs.{Place.{is_still, moved_by}, Reader.{advanced, marker, packed_turn, turn_of}, Trace.{round_again, next_within, next_point, trace_then, trace_within, trace_of}}
 use Rattle.header.specs.{Header.{preamble_of, texts_from, sections_from, sections_at, contents_by, head_by}, Opening.{opened_by}, Text.{within, remote_at, string_at, bytes_of, text_at}}
 use Rattle.header.specs.{Utf8.{characters, started_by, begun_by, followed, goes_on, is_utf8}, declared.header.Head.{Head}}
-use Rattle.salvage.specs.{File.{texts_inline, border_bytes, box_bytes, entry_bytes, table_from, assembled, new_file}, Kept.{border_good, span_inside, string_inside, field_good, fields_good, entry_good, kept_of}}
-use Rattle.salvage.specs.{Kept.{lines_from}, Moves.Moves.{end_of, steps_from, moves_by, moves_at, step_number, step_bytes, moves_bytes}, Promises.{ListOf, KeptFile, Again}, Salvage.{Salvaged, salvaged_of}}
+use Rattle.salvage.specs.File.{texts_inline, border_bytes, box_bytes, entry_bytes, table_from, assembled, new_file}
+use Rattle.salvage.specs.Kept.{border_good, span_inside, string_inside, field_good, fields_good, entry_good, kept_of}
+use Rattle.salvage.specs.{Kept.{lines_from}, Moves.Moves.{end_of, steps_from, moves_by, moves_at, step_number, step_bytes, moves_bytes}, Promises.{ListOf, KeptFile, Again}}
+use Rattle.salvage.specs.Salvage.{Salvaged, salvaged_of}
 use Rattle.salvage.specs.Salvage.{Counts, Replied, replied_of, salvaged}
 use Rattle.promises.proofs.Salvaged.{Again.{salvage_again}, Answered.{written, listed, lent_opens_alike, lent_kept, lent_list, lent_again, lent_same}, KeptAgain.{salvage_kept}}
 use Rattle.promises.proofs.Salvaged.{Opens.{salvaged_strict, salvaged_opens_alike}, PlainlyKept.{salvage_kept_plainly}, SameLookups.{salvage_same, salvage_same_simply}}

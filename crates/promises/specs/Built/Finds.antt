@@ -1,5 +1,6 @@
 -- What a lookup in a built file finds: each yard's own verdict, in the order of the table, merged.
-use Rattle.numbers.specs.{Answer.{if◌then◌else◌}, Prelude.{ℕ, ◌+◌, ◌-◌, min, eqb, leb, pos, length, Bool, true, false, List, [], ◌∷◌, ◌++◌, flat_map, ◌≡◌}, Reply.{Reply, given, plain, demand, ◌>>◌}}
+use Rattle.std.specs.Prelude.{if◌then◌else◌, ◌+◌, ◌-◌, ◌∷◌, ◌++◌, ◌≡◌}
+use Rattle.numbers.specs.{Prelude.{ℕ, min, eqb, leb, pos, length, Bool, true, false, List, [], flat_map}, Reply.{Reply, given, plain, demand, ◌>>◌}}
 use Rattle.writer.specs.{Moves.{points_of}, Writer.{every}}
 use Rattle.verdict.specs.{Verdict.{Judgement, reached, none, judge}, declared.step.Verdict.{Verdict}}
 use Rattle.border.specs.{Written.{round_trip}, declared.place.Point.{Point}}

@@ -1,5 +1,6 @@
 -- A file laid out for another length of its records.
-use Rattle.numbers.specs.Prelude.{ℕ, length, List, ◌++◌, flat_map, zip_with}
+use Rattle.std.specs.Prelude.{◌++◌}
+use Rattle.numbers.specs.Prelude.{ℕ, length, List, flat_map, zip_with}
 use Rattle.builder.specs.{Borders.{Drawn}, Entries.{Entry, box_of, table_of}, File.{head_of, assembled}, Metadata.{inlined, records_of, fields_of, written, remotes}, Sharing.{same_texts, size_before}}
 use Rattle.builder.specs.Yards.{Text, Yard, Plan}
 

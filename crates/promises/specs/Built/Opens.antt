@@ -1,5 +1,6 @@
 -- What opening a built file says.
-use Rattle.numbers.specs.{Lists.{padded}, Prelude.{ℕ, length, List, [], ◌∷◌, ◌++◌, flat_map}, Reply.{given}}
+use Rattle.std.specs.Prelude.{◌∷◌, ◌++◌}
+use Rattle.numbers.specs.{Lists.{padded}, Prelude.{ℕ, length, List, [], flat_map}, Reply.{given}}
 use Rattle.builder.specs.Yards.{Plan}
 use Rattle.header.specs.{Field.{entry}, Opening.{Replied}}
 

@@ -1,5 +1,6 @@
 -- The yards in the order of the table, each with the row that its entry is read as.
-use Rattle.numbers.specs.{Prelude.{ℕ, ◌+◌, length, Bool, List, [], ◌∷◌, zip_with}, Spelling.{varint_of}}
+use Rattle.std.specs.Prelude.{◌+◌, ◌∷◌}
+use Rattle.numbers.specs.{Prelude.{ℕ, length, Bool, List, [], zip_with}, Spelling.{varint_of}}
 use Rattle.builder.specs.{Borders.{Drawn}, Entries.{Entry, entry_bytes, from_south, table_of}, File.{head_of, entry_of}, Metadata.{records_of, metadata_of}, Yards.{Yard, Plan}}
 use Rattle.layout.specs.Order.{sorted_by}
 use Rattle.table.specs.{Rows.{Rows, row, table_end}, declared.{rows.Row.{Row}, table.Bounds.{Bounds}}}

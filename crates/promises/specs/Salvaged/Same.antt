@@ -1,5 +1,6 @@
 -- What is compared of lookups in two files: everything but the end mark, and the place of a match's entry (document 02, Q-7 and Q-13).
-use Rattle.numbers.specs.{Prelude.{ℕ, Bool, List, map, ◌≡◌}, Reply.{Reply, given, ◌>>=◌}}
+use Rattle.std.specs.Prelude.{◌≡◌}
+use Rattle.numbers.specs.{Prelude.{ℕ, Bool, List, map}, Reply.{Reply, given, ◌>>=◌}}
 use Rattle.header.specs.Header.{head_by}
 use Rattle.table.specs.{Hits.{hit_of}, declared.{hits.Hit.{Hit}, location.Location.{Location}}}
 use Rattle.zones.specs.{Lent.{Outcome}, Lookup.{zones_by}, Simple.{described_in}, declared.{lookup.Zones.{Zones}, simple.Described.{Described}}}

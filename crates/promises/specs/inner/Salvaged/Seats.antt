@@ -1,5 +1,6 @@
 -- A salvaged file as it is read: its header, and the rows of its table.
-use Rattle.numbers.specs.{Prelude.{ℕ, ◌+◌, length, take, Bool, List, [], ◌∷◌, ◌++◌, flat_map}, Spelling.{varint_of}}
+use Rattle.std.specs.Prelude.{◌+◌, ◌∷◌, ◌++◌}
+use Rattle.numbers.specs.{Prelude.{ℕ, length, take, Bool, List, [], flat_map}, Spelling.{varint_of}}
 use Rattle.header.specs.declared.header.Head.{Head}
 use Rattle.salvage.specs.File.{border_bytes, entry_bytes, table_from, metadata_of}
 use Rattle.table.specs.declared.rows.Row.{Row}
