@@ -1,6 +1,7 @@
 -- The lines that are printed: "lookup 1 1 3C070000", "match 0 0 1 16", "field 0 41", "refused 3".
-use Rattle.numbers.specs.Prelude.{ℕ, zero, suc, ◌+◌, ◌*◌, ◌/◌, ◌%◌, ◌≤◌, ltb, length, take, drop, get_or, List, [], ◌∷◌, ◌++◌, ◌≡◌}
-use Rattle.numbers.specs.{Answer.{if◌then◌else◌}, Reply.{Reply, given, refused}, declared.refusal.Refusal.{Refusal}}
+use Rattle.std.specs.Prelude.{◌+◌, ◌*◌, ◌/◌, ◌%◌, ◌≤◌, ◌∷◌, ◌++◌, ◌≡◌, if◌then◌else◌}
+use Rattle.numbers.specs.Prelude.{ℕ, zero, suc, ltb, length, take, drop, get_or, List, []}
+use Rattle.numbers.specs.{Reply.{Reply, given, refused}, declared.refusal.Refusal.{Refusal}}
 use Rattle.line.specs.Put.{decimal}
 use Rattle.table.specs.{Hits.{slots}, declared.hits.Hit.{Hit}}
 use Rattle.zones.specs.declared.lookup.Zones.{Zones}

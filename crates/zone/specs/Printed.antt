@@ -1,5 +1,6 @@
 -- What the program prints for each input.
-use Rattle.numbers.specs.Prelude.{ℕ, drop, get_or, List, ◌≡◌}
+use Rattle.std.specs.Prelude.{◌≡◌}
+use Rattle.numbers.specs.Prelude.{ℕ, drop, get_or, List}
 use Rattle.line.specs.Put.{Put}
 use Rattle.zone.specs.{Answer.{answer_of}, Lines.{lines_of}}
 

@@ -12,7 +12,7 @@ use table::hits::{Hit, hit_at, room};
 use zones::lookup::Zones;
 
 // The place behind the lines of some fields, and the place behind the fields in their text.
-#[derive(Drop)]
+#[derive(Clone, Copy)]
 struct Places {
     out: usize,
     text: usize,

@@ -1,4 +1,6 @@
 // Document 01's program: a location and a file on standard input, the matches and their fields on standard output.
+#![tactic(auto)]
+
 mod answer;
 mod lines;
 
@@ -7,9 +9,11 @@ ghost use Rattle.table.specs.Hits.{width};
 ghost use Rattle.zone.specs.Printed.{Printed};
 
 use answer::answer;
-use libc::{STDIN_FILENO, STDOUT_FILENO};
 use line::bytes::byte_at;
+use line::input::read_full;
+use line::output::say;
 use lines::{least, put_refusal, put_zones};
+use std::io::Stdout;
 use table::hits::WIDTH;
 use zones::lookup::Looked;
 
@@ -54,17 +58,17 @@ fn zone(input: &[u8], hits: &mut [u32], text: &mut [u8], out: &mut [u8]) -> usiz
 }
 
 // So many bytes, or as many as there are.
-fn print_front(out: &[u8], used: usize) {
+fn print_front(to: Stdout, out: &[u8], used: usize) {
     let size = least(used, out.len());
-    io::write_all(STDOUT_FILENO, &out[..size]);
+    say(to, &out[..size]);
 }
 
-fn main() {
+fn main(rt: HostRuntime) {
     let mut input = input_space();
     let mut hits = hit_space();
     let mut text = text_space();
     let mut out = line_space();
-    let size = io::read_full(STDIN_FILENO, &mut input);
+    let size = read_full(&mut rt.stdin(), &mut input);
     let used = zone(&input[..size], &mut hits, &mut text, &mut out);
-    print_front(&out, used);
+    print_front(rt.stdout(), &out, used);
 }
