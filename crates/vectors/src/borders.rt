@@ -35,8 +35,8 @@ fn encoding_of(line: &[u8]) -> Encoding {
 fn is_refused(line: &[u8], k: usize, number: u8) -> bool
     requires { k < 1001 }
 {
-    if check::same(word(line, k), b"refused") {
-        return is_decimal(word(line, k + 1), number as u64);
+    if word(line, k) == b"refused".as_slice() {
+        return is_decimal(word(line, k + 1), u64::from(number));
     }
     false
 }
@@ -45,7 +45,7 @@ fn is_refused(line: &[u8], k: usize, number: u8) -> bool
 fn is_listed(line: &[u8], k: usize, point: Point) -> bool
     requires { k < 1000 }
 {
-    if check::same(word(line, READ), b"refused") {
+    if word(line, READ) == b"refused".as_slice() {
         return true;
     }
     if is_integer(line, k, point.lat.0) {
@@ -59,8 +59,8 @@ fn end_if(line: &[u8], k: usize, how: &[u8]) -> usize
     requires { k < 1000 }
     ensures { result < 1000 }
 {
-    if check::same(word(line, READ + 1), how) {
-        if check::same(word(line, k), b">") {
+    if word(line, READ + 1) == how {
+        if word(line, k) == b">".as_slice() {
             return k;
         }
     }

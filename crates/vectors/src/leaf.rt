@@ -13,10 +13,10 @@ fn reads_as(line: &[u8], answer: Varint) -> bool {
             }
             false
         }
-        Varint::Failed => check::same(told, b"fails"),
+        Varint::Failed => told == b"fails".as_slice(),
         Varint::Refused(number) => {
-            if check::same(told, b"refused") {
-                return is_decimal(word(line, 5), number as u64);
+            if told == b"refused".as_slice() {
+                return is_decimal(word(line, 5), u64::from(number));
             }
             false
         }
@@ -35,7 +35,7 @@ fn completes(line: &[u8], file: &[u8], answer: Varint) -> bool {
     match answer {
         Varint::Number(number) => {
             let complete = is_complete(file, number);
-            is_decimal(word(line, 6), complete as u64)
+            is_decimal(word(line, 6), u64::from(complete))
         }
         Varint::Failed => true,
         Varint::Refused(_) => true,
@@ -62,7 +62,7 @@ pub fn backward(line: &[u8]) -> bool {
 }
 
 pub fn is_integer(line: &[u8], k: usize, value: i32) -> bool {
-    let wide = value as i64;
+    let wide = i64::from(value);
     is_signed(word(line, k), wide)
 }
 

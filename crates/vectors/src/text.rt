@@ -1,6 +1,6 @@
 // Words of a line, the numbers and bytes that they spell, and whether one is the spelling of a number. Words are parted by a space or a comma.
 ghost use Rattle.std.specs.Prelude.{◌<◌, ◌≤◌, length};
-ghost use Rattle.io.specs.Counts.{IsPrefixLen};
+ghost use Rattle.std.specs.Counts.{IsPrefixLen};
 
 fn is_gap(byte: u8) -> bool {
     byte == b' ' || byte == b','
@@ -18,29 +18,26 @@ fn word_start(line: &[u8], k: usize) -> usize
     ensures { result ≤ length line.now }
 {
     let mut left = k;
-    let mut i = 0;
-    while i < line.len() {
+    for i in 0..line.len() {
         if left == 0 {
             return i;
         }
         left = left_after(left, line[i]);
-        i += 1;
     }
-    i
+    line.len()
 }
 
 fn word_end(line: &[u8], start: usize) -> usize
     requires { start ≤ length line.now }
-    ensures { (start ≤ result) × (result ≤ length line.now) }
+    ensures behind { start ≤ result }
+    ensures within { result ≤ length line.now }
 {
-    let mut i = start;
-    while i < line.len() {
+    for i in start..line.len() {
         if is_gap(line[i]) {
             return i;
         }
-        i += 1;
     }
-    i
+    line.len()
 }
 
 // Word k of a line, the first one being 0; empty where there are fewer.
@@ -62,16 +59,14 @@ fn with_digit(value: u64, byte: u8) -> u64 {
     if 1844674407370955161 < value {
         return value;
     }
-    std::num::wrapping_add_u64(value * 10, (byte - b'0') as u64)
+    (value * 10).wrapping_add(u64::from(byte - b'0'))
 }
 
 // The digits of a word; a sign is passed over.
 pub fn decimal(word: &[u8]) -> u64 {
     let mut value: u64 = 0;
-    let mut i = 0;
-    while i < word.len() {
-        value = with_digit(value, word[i]);
-        i += 1;
+    for byte in word {
+        value = with_digit(value, *byte);
     }
     value
 }
@@ -114,7 +109,7 @@ fn integer(word: &[u8]) -> i64 {
 pub fn is_decimal(word: &[u8], value: u64) -> bool {
     let mut digits = [0u8; 20];
     let size = io::decimal(value, &mut digits);
-    check::same(word, &digits[..size])
+    word == &digits[..size]
 }
 
 // Where a word's digits begin.
@@ -157,7 +152,7 @@ pub fn is_bits(word: &[u8], bits: u32) -> bool {
         hex_digit(bits >> 4),
         hex_digit(bits),
     ];
-    check::same(word, &digits)
+    word == digits.as_slice()
 }
 
 // ---- hexadecimal
@@ -174,10 +169,8 @@ fn nibble(byte: u8) -> u8
 
 pub fn hex(word: &[u8]) -> u32 {
     let mut value: u32 = 0;
-    let mut i = 0;
-    while i < word.len() {
-        value = value % 0x1000_0000 * 16 + nibble(word[i]) as u32;
-        i += 1;
+    for byte in word {
+        value = value % 0x1000_0000 * 16 + u32::from(nibble(*byte));
     }
     value
 }
@@ -186,18 +179,9 @@ pub fn hex(word: &[u8]) -> u32 {
 pub fn bytes(word: &[u8], out: &mut [u8]) -> usize
     ensures { IsPrefixLen result out.new }
 {
-    let mut i = 0;
-    let mut at = 0;
-    while i < word.len() {
-        if word.len() - i < 2 {
-            return at;
-        }
-        if out.len() <= at {
-            return at;
-        }
-        out[at] = nibble(word[i]) * 16 + nibble(word[i + 1]);
-        at += 1;
-        i += 2;
+    let size = (word.len() / 2).min(out.len());
+    for i in 0..size {
+        out[i] = nibble(word[2 * i]) * 16 + nibble(word[2 * i + 1]);
     }
-    at
+    size
 }
