@@ -18,7 +18,8 @@ one_line instant L.Unknown text a b p q = p ∙ sym q
 one_line instant (L.Refused why) text a b p q = p ∙ sym q
 
 -- two buffers that the promise of the program permits begin with the same line, of the same length
-pub one_printed : {input : List ℕ} {room : ℕ} {out out' : List ℕ} {used used' : ℕ} → Printed input room out used → Printed input room out' used' → (take used out ≡ take used' out') × (used ≡ used')
+pub one_printed : {input : List ℕ} {room : ℕ} {out out' : List ℕ} {used used' : ℕ} → Printed input room out used → Printed input room out' used' → (take used out ≡
+    take used' out') × (used ≡ used')
 one_printed {input} {room} {out} {out'} {used} {used'} p q =
     let same = p.whole ∙ one_line (instant_of input) (answer_of input room).reply (answer_of input room).text p.line q.line p.is q.is ∙ sym q.whole in
     (same, sym (length-take-le used out p.fits) ∙ ap length same ∙ length-take-le used' out' q.fits)
@@ -93,19 +94,35 @@ module _ {before after : List ℕ} {next : ℕ} where
       → civil ≡ C.Outside → Put before 0 (refused_line (refusal 61 0)) after next → Answered instant (replied (L.Local local) text) before after next
   unfolding LineFor civil_line
   answered-outside {instant} local text i o {civil} s e p =
-      record { line = refused_line (refusal 61 0); is = record { civil = C.Outside; shows = subst (CivilOf instant local.offset) e (moved civil i o s); is = refl }; put = p }
+      record {
+        line = refused_line (refusal 61 0);
+        is = record { civil = C.Outside; shows = subst (CivilOf instant local.offset) e (moved civil i o s); is = refl };
+        put = p;
+      }
 
-  pub answered-unknown : (instant : ℤ) (text : List ℕ) {reply : LocalTime} → reply ≡ L.Unknown → Put before 0 unknown_line after next → Answered instant (replied reply text) before after next
+  pub answered-unknown : (instant : ℤ) (text : List ℕ) {reply : LocalTime} → reply ≡ L.Unknown → Put before 0 unknown_line after next → Answered instant (replied
+      reply text) before after next
   unfolding LineFor
-  answered-unknown instant text e p = subst (λ (r : LocalTime). Answered instant (replied r text) before after next) (sym e) (record { line = unknown_line; is = refl; put = p })
+  answered-unknown instant text e p = subst (λ (r : LocalTime). Answered instant (replied r text) before after next) (sym e) (record {
+    line = unknown_line;
+    is =
+        refl;
+    put = p;
+  })
 
   pub answered-refused : (instant : ℤ) (text : List ℕ) {reply : LocalTime} (why : Refusal) → reply ≡ L.Refused why → Put before 0 (refused_line why) after next
       → Answered instant (replied reply text) before after next
   unfolding LineFor
-  answered-refused instant text why e p = subst (λ (r : LocalTime). Answered instant (replied r text) before after next) (sym e) (record { line = refused_line why; is = refl; put = p })
+  answered-refused instant text why e p = subst (λ (r : LocalTime). Answered instant (replied r text) before after next) (sym e) (record {
+    line = refused_line why;
+    is = refl;
+    put = p;
+  })
 
-  pub answered-as : {at instant : ℤ} {answer answer' : Replied} → at ≡ instant → answer ≡ answer' → Answered at answer before after next → Answered instant answer' before after next
-  answered-as {at} {instant} {answer} {answer'} i e a = subst (λ (z : ℤ). Answered z answer' before after next) i (subst (λ (r : Replied). Answered at r before after next) e a)
+  pub answered-as : {at instant : ℤ} {answer answer' : Replied} → at ≡ instant → answer ≡ answer' → Answered at answer before after next → Answered instant answer'
+      before after next
+  answered-as {at} {instant} {answer} {answer'} i e a = subst (λ (z : ℤ). Answered z answer' before after next) i (subst (λ (r : Replied). Answered at r before
+      after next) e a)
 
 -- ---- the two ways of `on_scale`
 module _ (kind : ℕ) (time : LocalTime) where
@@ -132,7 +149,8 @@ module _ (input : List ℕ) (room : ℕ) where
   asked l h = rw (le-ltb 65536 (length input) l, le-ltb (length input) 8 h) refl
 
   module _ {before after : List ℕ} {next : ℕ} where
-    printed : Answered (instant_of input) (answer_of input room) before after next → length (answer_of input room).text ≤ 256 → 512 ≤ length before → Printed input room after next
+    printed : Answered (instant_of input) (answer_of input room) before after next → length (answer_of input room).text ≤ 256 → 512 ≤ length before → Printed input
+        room after next
     printed a small large = let short = line-short (instant_of input) (answer_of input room).reply (answer_of input room).text a.line a.is small in
         let front = put_front a.put (omega (arith, short, large)) in
         record { line = a.line; is = a.is; fits = omega (arith, front.0, short, large, put_length a.put); whole = front.1 }
@@ -140,13 +158,19 @@ module _ (input : List ℕ) (room : ℕ) where
     zeroed : {why : Refusal} → replied (L.Refused why) (zeros room) ≡ answer_of input room → room ≤ 256 → 512 ≤ length before → Put before 0 (refused_line why) after next
         → Printed input room after next
     zeroed {why} e small large p =
-        printed (answered-as refl e (answered-refused (instant_of input) (zeros room) why refl p)) (omega (arith, ap (λ (r : Replied). length r.text) e, length-replicate {A = ℕ} room 0, small))
+        printed (answered-as refl e (answered-refused (instant_of input) (zeros room) why refl p)) (omega (
+          arith,
+          ap (λ (r : Replied). length r.text) e,
+          length-replicate {A = ℕ} room 0,
+          small,
+        ))
         large
 
     pub printed-long : 65536 < length input → room ≤ 256 → 512 ≤ length before → Put before 0 (refused_line (refusal 1 0)) after next → Printed input room after next
     printed-long h = zeroed (too_long h)
 
-    pub printed-short : length input ≤ 65536 → length input < 8 → room ≤ 256 → 512 ≤ length before → Put before 0 (refused_line (refusal 2 (length input))) after next → Printed input room after next
+    pub printed-short : length input ≤ 65536 → length input < 8 → room ≤ 256 → 512 ≤ length before → Put before 0 (refused_line (refusal 2 (length input))) after
+        next → Printed input room after next
     printed-short l h = zeroed (too_short l h)
 
     pub printed-answer : length input ≤ 65536 → 8 ≤ length input → {at at' : ℤ} {file text : List ℕ} {time reply : LocalTime} {scale : Scale} → at ≡ instant_of input
@@ -154,7 +178,8 @@ module _ (input : List ℕ) (room : ℕ) where
         → length text ≤ 256 → 512 ≤ length before → Answered at' (replied reply text) before after next → Printed input room after next
     printed-answer l h {at} {at'} {file} {text} {time} {reply} {scale} i i' f e s r small large a =
         let shows : replied reply text ≡ shown_by file at room =
-        ap (λ (x : LocalTime). replied x text) (r ∙ ap (λ (x : Scale). on_scale x.kind time) s) ∙ ap (λ (x : Replied). replied (on_scale (scale_at file at).kind x.reply) x.text) e in
+        ap (λ (x : LocalTime). replied x text) (r ∙ ap (λ (x : Scale). on_scale x.kind time) s)
+        ∙ ap (λ (x : Replied). replied (on_scale (scale_at file at).kind x.reply) x.text) e in
         let same = shows ∙ (λ k. shown_by (f k) (i k) room) ∙ asked l h in
         printed (answered-as i' same a) (omega (arith, ap (λ (x : Replied). length x.text) same, small)) large
 

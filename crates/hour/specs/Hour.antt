@@ -1,5 +1,6 @@
 -- What the program prints for each input: an instant in eight bytes, low byte first, then a TZif file.
-use Rattle.numbers.specs.{Answer.{if◌then◌else◌}, Lists.{zeros}, Prelude.{ℕ, ◌+◌, ◌*◌, ◌^◌, ◌≤◌, eqb, ltb, ℤ, length, take, drop, List, ◌≡◌, w64, to_z}}
+use Rattle.std.specs.Prelude.{if◌then◌else◌, ◌+◌, ◌*◌, ◌^◌, ◌≤◌, ◌≡◌}
+use Rattle.numbers.specs.{Lists.{zeros}, Prelude.{ℕ, eqb, ltb, ℤ, length, take, drop, List, w64, to_z}}
 use Rattle.calendar.specs.{Civil.{CivilOf}, declared.civil.Civil.{Civil}}
 use Rattle.localtime.specs.Local.{local_time, scale_at}
 use Rattle.hour.specs.Line.{hour_line, unknown_line, refused_line}

@@ -1,5 +1,6 @@
 -- The lines that are printed: "hour 2026-07-01 13:59:59 3 7200 1 CEST", "unknown", "refused 60 685".
-use Rattle.numbers.specs.Prelude.{ℕ, suc, ℤ, pos, negsuc, List, [], ◌∷◌, ◌++◌, map}
+use Rattle.std.specs.Prelude.{◌∷◌, ◌++◌}
+use Rattle.numbers.specs.Prelude.{ℕ, suc, ℤ, pos, negsuc, List, [], map}
 use Rattle.calendar.specs.declared.civil.Reading.{Reading}
 use Rattle.line.specs.{Clock.{date_text, time_text, shown}, Put.{decimal}}
 use Rattle.tzif.specs.declared.{local.Local.{Local}, refusal.Refusal.{Refusal}}

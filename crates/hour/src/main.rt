@@ -1,4 +1,6 @@
 // Local time at an instant: the instant and a TZif file on standard input, a line on standard output.
+#![tactic(auto)]
+
 mod instant;
 mod lines;
 
@@ -6,7 +8,8 @@ ghost use Rattle.std.specs.Prelude.{◌≡◌, ◌≤◌, length};
 ghost use Rattle.hour.specs.Hour.{on_scale, Printed};
 
 use instant::instant_of;
-use libc::{STDIN_FILENO, STDOUT_FILENO};
+use line::input::read_full;
+use line::output::say;
 use lines::{put_answer, put_refusal};
 use localtime::local::{Timed, local_time};
 use tzif::local::LocalTime;
@@ -77,11 +80,11 @@ fn hour(input: &[u8], text: &mut [u8], out: &mut [u8]) -> usize
     put_answer(out, instant, answer, text)
 }
 
-fn main() {
+fn main(rt: HostRuntime) {
     let mut input = input_space();
     let mut text = text_space();
     let mut out = line_space();
-    let size = io::read_full(STDIN_FILENO, &mut input);
+    let size = read_full(&mut rt.stdin(), &mut input);
     let used = hour(&input[..size], &mut text, &mut out);
-    io::write_all(STDOUT_FILENO, &out[..used]);
+    say(rt.stdout(), &out[..used]);
 }
