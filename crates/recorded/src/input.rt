@@ -1,11 +1,12 @@
-// Records on standard input: four bytes of a length, and so many bytes behind them.
+// Records on an input: four bytes of a length, and so many bytes behind them.
 ghost use Rattle.std.specs.Prelude.{◌≤◌};
-ghost use Rattle.io.specs.Counts.{IsPrefixLen};
+ghost use Rattle.std.specs.Counts.{IsPrefixLen};
 
 use crate::record::size_at;
-use libc::STDIN_FILENO;
+use line::input::read_full;
+use std::io::Read;
 
-#[derive(Drop)]
+#[derive(Clone, Copy)]
 pub enum Found {
     Record,
     TooLong,
@@ -13,31 +14,33 @@ pub enum Found {
 }
 
 // What came of the input, and how many bytes of it stand at the front of the space.
-#[derive(Drop)]
+#[derive(Clone, Copy)]
 pub struct Came {
     pub found: Found,
     pub size: usize,
 }
 
 fn least(a: usize, b: usize) -> usize
-    ensures { (result ≤ a) × (result ≤ b) }
+    ensures first { result ≤ a }
+    ensures second { result ≤ b }
 {
-    if a < b { a } else { b }
+    a.min(b)
 }
 
 // Reads so many bytes into the space, or as many as it holds or the input has, and answers how many came.
-fn read_some(space: &mut [u8], size: usize) -> usize
-    ensures { (result ≤ size) × IsPrefixLen result space.new }
+fn read_some<R: Read>(reader: &mut R, space: &mut [u8], size: usize) -> usize
+    ensures asked { result ≤ size }
+    ensures within { IsPrefixLen result space.new }
 {
     let step = least(size, space.len());
-    io::read_full(STDIN_FILENO, &mut space[..step])
+    read_full(reader, &mut space[..step])
 }
 
 // Passes over so many bytes.
-fn pass_over(space: &mut [u8], size: usize) {
+fn pass_over<R: Read>(reader: &mut R, space: &mut [u8], size: usize) {
     let mut left = size;
     while 0 < left {
-        let passed = read_some(space, left);
+        let passed = read_some(reader, space, left);
         if passed == 0 {
             return;
         }
@@ -46,11 +49,11 @@ fn pass_over(space: &mut [u8], size: usize) {
 }
 
 // The next record. One that the input's end cuts is what is there of it.
-pub fn next_record(space: &mut [u8]) -> Came
+pub fn next_record<R: Read>(reader: &mut R, space: &mut [u8]) -> Came
     ensures { IsPrefixLen result.size space.new }
 {
     let mut head = [0u8; 4];
-    if io::read_full(STDIN_FILENO, &mut head) < 4 {
+    if read_full(reader, &mut head) < 4 {
         return Came {
             found: Found::Nothing,
             size: 0,
@@ -58,13 +61,13 @@ pub fn next_record(space: &mut [u8]) -> Came
     }
     let size = size_at(&head, 0);
     if space.len() < size {
-        pass_over(space, size);
+        pass_over(reader, space, size);
         return Came {
             found: Found::TooLong,
             size: 0,
         };
     }
-    let got = read_some(space, size);
+    let got = read_some(reader, space, size);
     Came {
         found: Found::Record,
         size: got,

@@ -1,4 +1,6 @@
 // Records of cases: how they are read, what they hold, and what is said of them.
+#![tactic(auto)]
+
 pub mod input;
 pub mod lists;
 pub mod record;

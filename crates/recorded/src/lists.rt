@@ -6,7 +6,7 @@ use numbers::point::signed;
 
 // A word as an i32 has it: the signed form of twice the word.
 fn signed_word(word: u32) -> i32 {
-    signed(2 * (word as u64))
+    signed(2 * u64::from(word))
 }
 
 // So many coordinates from a place of the record on.
@@ -15,12 +15,10 @@ pub fn coordinates(record: &[u8], at: usize, count: usize) -> [i32; 1024]
     ensures { length result ≡ 1024 }
 {
     let mut list = [0; 1024];
-    let mut i = 0;
     let mut place = at;
-    while i < count {
+    for i in 0..count {
         list[i] = signed_word(word_at(record, place));
-        i += 1;
-        place = std::num::wrapping_add_usize(place, 4);
+        place = place.wrapping_add(4);
     }
     list
 }
@@ -31,12 +29,10 @@ pub fn piece_words(record: &[u8], at: usize, count: usize) -> [u32; 160]
     ensures { length result ≡ 160 }
 {
     let mut list = [0; 160];
-    let mut i = 0;
     let mut place = at;
-    while i < count {
+    for i in 0..count {
         list[i] = word_at(record, place);
-        i += 1;
-        place = std::num::wrapping_add_usize(place, 4);
+        place = place.wrapping_add(4);
     }
     list
 }
@@ -47,12 +43,10 @@ pub fn lengths_at(record: &[u8], at: usize, count: usize) -> [u32; 1024]
     ensures { length result ≡ 1024 }
 {
     let mut list = [0; 1024];
-    let mut i = 0;
     let mut place = at;
-    while i < count {
+    for i in 0..count {
         list[i] = word_at(record, place);
-        i += 1;
-        place = std::num::wrapping_add_usize(place, 4);
+        place = place.wrapping_add(4);
     }
     list
 }

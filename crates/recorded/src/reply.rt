@@ -1,9 +1,9 @@
 // A reply in the words of a record.
 use crate::record::{byte_at, long_at};
-use libc::STDOUT_FILENO;
-use std::num::wrapping_add_usize;
+use line::output::{say, say_number};
+use std::io::Stdout;
 
-#[derive(Drop)]
+#[derive(Clone, Copy, PartialEq, Eq)]
 pub struct Reply {
     // 0 answered, 1 refused, 2 failed or none.
     pub outcome: u8,
@@ -27,7 +27,7 @@ pub fn answered(words: [u64; 5]) -> Reply {
 pub fn refused(number: u8, words: [u64; 5]) -> Reply {
     Reply {
         outcome: 1,
-        number: number as u64,
+        number: u64::from(number),
         cause: words[0],
         detail: words[1],
         words: [words[2], words[3], words[4], 0, 0],
@@ -84,7 +84,7 @@ pub fn known(number: u8, words: [u64; 5]) -> Reply {
 }
 
 fn next_long(record: &[u8], at: usize, k: usize) -> u64 {
-    long_at(record, wrapping_add_usize(at, k))
+    long_at(record, at.wrapping_add(k))
 }
 
 // The reply that 34 bytes of a record hold, from a place on.
@@ -92,7 +92,7 @@ pub fn recorded_at(record: &[u8], at: usize) -> Reply {
     Reply {
         outcome: byte_at(record, at),
         number: next_long(record, at, 1),
-        cause: byte_at(record, wrapping_add_usize(at, 5)) as u64,
+        cause: u64::from(byte_at(record, at.wrapping_add(5))),
         detail: next_long(record, at, 6) | next_long(record, at, 10) << 32,
         words: [
             next_long(record, at, 14),
@@ -109,30 +109,20 @@ pub fn recorded(bytes: &[u8]) -> Reply {
 }
 
 pub fn same_reply(a: Reply, b: Reply) -> bool {
-    a.outcome == b.outcome
-        && a.number == b.number
-        && a.cause == b.cause
-        && a.detail == b.detail
-        && a.words[0] == b.words[0]
-        && a.words[1] == b.words[1]
-        && a.words[2] == b.words[2]
-        && a.words[3] == b.words[3]
-        && a.words[4] == b.words[4]
+    a == b
 }
 
-fn print_next(n: u64) {
-    io::write_all(STDOUT_FILENO, b" ");
-    io::print_decimal(STDOUT_FILENO, n);
+fn print_next(out: Stdout, n: u64) {
+    say(out, b" ");
+    say_number(out, n);
 }
 
-pub fn print_reply(reply: Reply) {
-    print_next(reply.outcome as u64);
-    print_next(reply.number);
-    print_next(reply.cause);
-    print_next(reply.detail);
-    print_next(reply.words[0]);
-    print_next(reply.words[1]);
-    print_next(reply.words[2]);
-    print_next(reply.words[3]);
-    print_next(reply.words[4]);
+pub fn print_reply(out: Stdout, reply: Reply) {
+    print_next(out, u64::from(reply.outcome));
+    print_next(out, reply.number);
+    print_next(out, reply.cause);
+    print_next(out, reply.detail);
+    for word in &reply.words {
+        print_next(out, *word);
+    }
 }

@@ -1,6 +1,7 @@
 // How many cases there were of each op, and then in all, wrong and skipped.
 use crate::verdict::Verdict;
-use libc::STDOUT_FILENO;
+use line::output::{say, say_number};
+use std::io::Stdout;
 
 const ALL: usize = 25;
 
@@ -10,7 +11,7 @@ const SKIPPED: usize = 27;
 
 fn count(tally: &mut [u64], which: usize) {
     if which < tally.len() {
-        tally[which] = std::num::wrapping_add_u64(tally[which], 1);
+        tally[which] = tally[which].wrapping_add(1);
     }
 }
 
@@ -31,21 +32,21 @@ pub fn note(tally: &mut [u64], op: u8, verdict: Verdict) {
     }
 }
 
-pub fn print_op(tally: &[u64], name: &[u8], op: usize) {
-    io::write_all(STDOUT_FILENO, name);
-    io::write_all(STDOUT_FILENO, b" ");
-    io::print_decimal(STDOUT_FILENO, counted(tally, op));
-    io::write_all(STDOUT_FILENO, b"\n");
+pub fn print_op(out: Stdout, tally: &[u64], name: &[u8], op: usize) {
+    say(out, name);
+    say(out, b" ");
+    say_number(out, counted(tally, op));
+    say(out, b"\n");
 }
 
 // The last line of a program.
-pub fn print_end(tally: &[u64], program: &[u8]) {
-    io::write_all(STDOUT_FILENO, program);
-    io::write_all(STDOUT_FILENO, b": ");
-    io::print_decimal(STDOUT_FILENO, counted(tally, ALL));
-    io::write_all(STDOUT_FILENO, b" cases, ");
-    io::print_decimal(STDOUT_FILENO, counted(tally, WRONG));
-    io::write_all(STDOUT_FILENO, b" wrong, ");
-    io::print_decimal(STDOUT_FILENO, counted(tally, SKIPPED));
-    io::write_all(STDOUT_FILENO, b" skipped\n");
+pub fn print_end(out: Stdout, tally: &[u64], program: &[u8]) {
+    say(out, program);
+    say(out, b": ");
+    say_number(out, counted(tally, ALL));
+    say(out, b" cases, ");
+    say_number(out, counted(tally, WRONG));
+    say(out, b" wrong, ");
+    say_number(out, counted(tally, SKIPPED));
+    say(out, b" skipped\n");
 }
