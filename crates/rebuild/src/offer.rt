@@ -8,7 +8,7 @@ use recorded::reply::{Reply, refused};
 use std::num::wrapping_add_usize;
 
 // How many there are of each: latitudes, longitudes, words of pieces, values, bytes of values.
-#[derive(Drop)]
+#[derive(Clone, Copy)]
 pub(crate) struct Offer {
     pub lats: usize,
     pub lons: usize,

@@ -4,6 +4,7 @@ use crate::offer::{add_at, offered_at, replace_at, unread, values_at};
 use office::calls::uskelzar_clear;
 use recorded::record::{byte_at, size_at};
 use recorded::reply::{Reply, print_reply, recorded_at, same_reply, unspoken};
+use std::io::Stdout;
 use std::num::wrapping_add_usize;
 
 const ADD: u8 = 1;
@@ -68,16 +69,17 @@ fn run_step(
 }
 
 // Whether a reply is the recorded one, which stands at a place; the other is printed.
-pub(crate) fn is_recorded(got: Reply, record: &[u8], at: usize) -> bool {
+pub(crate) fn is_recorded(to: Stdout, got: Reply, record: &[u8], at: usize) -> bool {
     if same_reply(got, recorded_at(record, at)) {
         return true;
     }
-    print_reply(got);
+    print_reply(to, got);
     false
 }
 
 // Where the steps end; 0 where one came out otherwise.
 pub(crate) fn run_steps(
+    to: Stdout,
     record: &[u8],
     from: usize,
     count: usize,
@@ -92,15 +94,13 @@ pub(crate) fn run_steps(
     groups: &mut [u32],
     begins: &mut [u32],
 ) -> usize {
-    let mut i = 0;
     let mut at = from;
-    while i < count {
-        i += 1;
+    for _ in 0..count {
         let reply = reply_at(record, at);
         let got = run_step(
             record, at, state, boxes, borders, lengths, texts, bytes, marks, chains, groups, begins,
         );
-        if !is_recorded(got, record, reply) {
+        if !is_recorded(to, got, record, reply) {
             return 0;
         }
         at = wrapping_add_usize(reply, 34);

@@ -6,6 +6,7 @@ use office::calls::uskelzar_begin;
 use recorded::lists::lengths_at;
 use recorded::record::{byte_at, same_bytes_at, size_at, word_at};
 use recorded::reply::{Reply, unspoken};
+use std::io::Stdout;
 use std::num::wrapping_add_usize;
 
 fn begin_with(
@@ -70,6 +71,7 @@ fn begin_cut(
 
 // The end's reply, and all of the output; nothing stands behind it.
 fn end_right(
+    to: Stdout,
     record: &[u8],
     at: usize,
     state: &[u64; 14],
@@ -81,7 +83,7 @@ fn end_right(
     out: &mut [u8],
 ) -> bool {
     let got = end(state, boxes, borders, lengths, texts, bytes, out);
-    if !is_recorded(got, record, at) {
+    if !is_recorded(to, got, record, at) {
         return false;
     }
     let from = wrapping_add_usize(at, 34);
@@ -93,6 +95,7 @@ fn end_right(
 
 // The output cut to what the record lends.
 fn end_cut(
+    to: Stdout,
     record: &[u8],
     at: usize,
     state: &[u64; 14],
@@ -108,6 +111,7 @@ fn end_cut(
         return false;
     }
     end_right(
+        to,
         record,
         at,
         state,
@@ -122,6 +126,7 @@ fn end_cut(
 
 // The steps from a place on, with notes that hold anything; where they end, or 0.
 fn run_noted(
+    to: Stdout,
     record: &[u8],
     from: usize,
     state: &mut [u64; 14],
@@ -136,6 +141,7 @@ fn run_noted(
     let mut groups = [0xAAAA_AAAA; 4136];
     let mut begins = [0xAAAA_AAAA; 40];
     run_steps(
+        to,
         record,
         from,
         size_at(record, 24),
@@ -154,6 +160,7 @@ fn run_noted(
 
 // From the reply to begin on. A record whose begin is refused has no steps, and the same refusal at its end.
 fn run_from(
+    to: Stdout,
     record: &[u8],
     got: Reply,
     at: usize,
@@ -164,25 +171,28 @@ fn run_from(
     texts: &mut [u8],
     bytes: &mut [u8],
 ) -> bool {
-    if !is_recorded(got, record, at) {
+    if !is_recorded(to, got, record, at) {
         return false;
     }
     let first = wrapping_add_usize(at, 34);
     if got.outcome != 0 {
-        return is_recorded(got, record, first);
+        return is_recorded(to, got, record, first);
     }
-    let last = run_noted(record, first, state, boxes, borders, lengths, texts, bytes);
+    let last = run_noted(
+        to, record, first, state, boxes, borders, lengths, texts, bytes,
+    );
     if last == 0 {
         return false;
     }
     let mut out = [0xAA; 32768];
     end_cut(
-        record, last, state, boxes, borders, lengths, texts, bytes, &mut out,
+        to, record, last, state, boxes, borders, lengths, texts, bytes, &mut out,
     )
 }
 
 // With names and notice, whose bytes begin at a place and end where the reply to begin stands.
 fn run_lists(
+    to: Stdout,
     record: &[u8],
     count: usize,
     strings: &[u8],
@@ -202,12 +212,12 @@ fn run_lists(
         record, &sizes, count, strings, &mut state, boxes, borders, lengths, texts, bytes,
     );
     run_from(
-        record, got, reply, &mut state, boxes, borders, lengths, texts, bytes,
+        to, record, got, reply, &mut state, boxes, borders, lengths, texts, bytes,
     )
 }
 
 // Whether every reply and the output came out as recorded; what is too large for the lists, or of another length than its parts have, did not.
-pub fn draft_right(record: &[u8]) -> bool {
+pub fn draft_right(to: Stdout, record: &[u8]) -> bool {
     let names = size_at(record, 8);
     let size = size_at(record, 12);
     if 1000 < names {
@@ -228,6 +238,7 @@ pub fn draft_right(record: &[u8]) -> bool {
     let mut texts = [0xAA; 32768];
     let mut bytes = [0xAA; 32768];
     run_lists(
+        to,
         record,
         count,
         &record[from..reply],
