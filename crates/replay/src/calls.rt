@@ -86,10 +86,8 @@ fn word_in(words: &[u32], at: usize) -> u32 {
 
 // The list with three words a hit: the place is left out.
 pub fn leave_out(words: &[u32], slots: &mut [u32]) {
-    let mut i = 0;
-    while i < slots.len() {
+    for i in 0..slots.len() {
         slots[i] = word_in(words, std::num::wrapping_add_usize(i, i / 3));
-        i += 1;
     }
 }
 
@@ -114,10 +112,8 @@ fn run_in_three(record: &[u8], file: &[u8], slots: &mut [u32], text: &mut [u8]) 
 
 // As many bytes as the text has, from a place of the file on, each XOR 0x80.
 fn unmask(file: &[u8], start: usize, text: &mut [u8]) {
-    let mut i = 0;
-    while i < text.len() {
+    for i in 0..text.len() {
         text[i] = byte_at(file, std::num::wrapping_add_usize(start, i)) ^ 0x80;
-        i += 1;
     }
 }
 

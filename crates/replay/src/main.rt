@@ -1,7 +1,9 @@
 // Runs the recorded cases of standard input and prints each that does not come out as recorded.
+#![tactic(auto)]
+
 mod calls;
 mod case;
-mod index;
+mod indexed;
 mod many;
 mod salvaged;
 mod slips;
@@ -13,57 +15,59 @@ use recorded::input::{Found, next_record};
 use recorded::record::byte_at;
 use recorded::tally::{note, print_end, print_op};
 use recorded::verdict::Verdict;
+use std::io::{Stdin, Stdout};
 
 // The next record, and whether there may be more.
-fn run_next(space: &mut [u8], tally: &mut [u64]) -> bool {
-    let came = next_record(space);
+fn run_next(input: &mut Stdin, to: Stdout, space: &mut [u8], tally: &mut [u64]) -> bool {
+    let came = next_record(input, space);
     let size = came.size;
-    let found = came.found;
-    match found {
-        Found::Record => note(tally, byte_at(&space[..size], 0), judge(&space[..size])),
+    match came.found {
+        Found::Record => note(tally, byte_at(&space[..size], 0), judge(to, &space[..size])),
         Found::TooLong => note(tally, 0, Verdict::Skipped),
         Found::Nothing => return false,
     }
     true
 }
 
-// Nothing says that the input ends, so the turns are counted down from a number that no run uses up.
-fn run_all(space: &mut [u8], tally: &mut [u64]) {
-    let mut turns = u64::MAX;
-    while turns > 0 && run_next(space, tally) {
-        turns -= 1;
+// Nothing says that the input ends, so the turns are counted up to a number that no run comes to.
+fn run_all(input: &mut Stdin, to: Stdout, space: &mut [u8], tally: &mut [u64]) {
+    for _ in 0..u64::MAX {
+        if !run_next(input, to, space, tally) {
+            return;
+        }
     }
 }
 
-fn report(tally: &[u64]) {
-    print_op(tally, b"open", 1);
-    print_op(tally, b"lookup", 14);
-    print_op(tally, b"simple", 15);
-    print_op(tally, b"lookup in three words", 2);
-    print_op(tally, b"simple in three words", 3);
-    print_op(tally, b"open strictly", 7);
-    print_op(tally, b"lookup strictly", 16);
-    print_op(tally, b"lookup strictly in three words", 8);
-    print_op(tally, b"index", 18);
-    print_op(tally, b"index in three words", 13);
-    print_op(tally, b"write", 4);
-    print_op(tally, b"string", 5);
-    print_op(tally, b"utf8", 6);
-    print_op(tally, b"many", 17);
-    print_op(tally, b"many in three words", 9);
-    print_op(tally, b"build", 10);
-    print_op(tally, b"salvage", 12);
-    print_op(tally, b"local", 20);
-    print_op(tally, b"listed", 21);
-    print_op(tally, b"request", 22);
-    print_op(tally, b"slip", 23);
-    print_op(tally, b"slip at", 24);
-    print_end(tally, b"replay");
+fn report(to: Stdout, tally: &[u64]) {
+    print_op(to, tally, b"open", 1);
+    print_op(to, tally, b"lookup", 14);
+    print_op(to, tally, b"simple", 15);
+    print_op(to, tally, b"lookup in three words", 2);
+    print_op(to, tally, b"simple in three words", 3);
+    print_op(to, tally, b"open strictly", 7);
+    print_op(to, tally, b"lookup strictly", 16);
+    print_op(to, tally, b"lookup strictly in three words", 8);
+    print_op(to, tally, b"index", 18);
+    print_op(to, tally, b"index in three words", 13);
+    print_op(to, tally, b"write", 4);
+    print_op(to, tally, b"string", 5);
+    print_op(to, tally, b"utf8", 6);
+    print_op(to, tally, b"many", 17);
+    print_op(to, tally, b"many in three words", 9);
+    print_op(to, tally, b"build", 10);
+    print_op(to, tally, b"salvage", 12);
+    print_op(to, tally, b"local", 20);
+    print_op(to, tally, b"listed", 21);
+    print_op(to, tally, b"request", 22);
+    print_op(to, tally, b"slip", 23);
+    print_op(to, tally, b"slip at", 24);
+    print_end(to, tally, b"replay");
 }
 
-fn main() {
+fn main(rt: HostRuntime) {
+    let to = rt.stdout();
     let mut space = [0u8; 131072];
     let mut tally = [0u64; 28];
-    run_all(&mut space, &mut tally);
-    report(&tally);
+    run_all(&mut rt.stdin(), to, &mut space, &mut tally);
+    report(to, &tally);
 }

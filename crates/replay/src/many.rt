@@ -13,11 +13,9 @@ pub fn fixes_at(record: &[u8], at: usize, count: usize) -> [f32; 4097]
     ensures { length result ≡ 4097 }
 {
     let mut list = [0.0; 4097];
-    let mut i = 0;
     let mut place = at;
-    while i < count {
+    for i in 0..count {
         list[i] = of_bits(word_at(record, place));
-        i += 1;
         place = std::num::wrapping_add_usize(place, 4);
     }
     list

@@ -4,9 +4,10 @@ ghost use Rattle.std.specs.Prelude.{◌≡◌, ◌+◌, ◌*◌, ◌≤◌, leng
 
 use crate::calls::filled_words;
 use numbers::float::bits::of_bits;
-use recorded::record::{byte_at, instant_at, same_words, size_at, word_at};
+use recorded::record::{byte_at, instant_at, same_bytes, same_words, size_at, word_at};
 use recorded::reply::{Reply, answered, recorded, refused, same_reply, spoken, unspoken};
 use recorded::verdict::{Verdict, print_wrong};
+use std::io::Stdout;
 use uskelzar::slips::{uskelzar_request, uskelzar_slip, uskelzar_slip_at};
 
 // What a request means, in a record's words: the instant is two of them, and two that must be 0 are one.
@@ -25,7 +26,7 @@ fn run_request(line: &[u8]) -> Reply {
     meant(number, words)
 }
 
-pub fn judge_request(record: &[u8]) -> Verdict {
+pub fn judge_request(to: Stdout, record: &[u8]) -> Verdict {
     let size = size_at(record, 5);
     if 65536 < size {
         return Verdict::Skipped;
@@ -36,7 +37,7 @@ pub fn judge_request(record: &[u8]) -> Verdict {
     }
     let got = run_request(&record[9..reply]);
     if !same_reply(got, recorded(&record[reply..])) {
-        return print_wrong(b"reply", record, got);
+        return print_wrong(to, b"reply", record, got);
     }
     Verdict::Right
 }
@@ -73,6 +74,7 @@ fn run_slip(
 
 // What was lent, which stands behind the reply.
 fn judge_lent(
+    to: Stdout,
     record: &[u8],
     got: Reply,
     words: usize,
@@ -85,19 +87,20 @@ fn judge_lent(
     let bytes = words + 4 * slots.len();
     let printed = bytes + text.len();
     if !same_words(slots, &record[words..bytes]) {
-        return print_wrong(b"slots", record, got);
+        return print_wrong(to, b"slots", record, got);
     }
-    if !check::same(text, &record[bytes..printed]) {
-        return print_wrong(b"text", record, got);
+    if !same_bytes(text, &record[bytes..printed]) {
+        return print_wrong(to, b"text", record, got);
     }
-    if !check::same(out, &record[printed..]) {
-        return print_wrong(b"line", record, got);
+    if !same_bytes(out, &record[printed..]) {
+        return print_wrong(to, b"line", record, got);
     }
     Verdict::Right
 }
 
 // With the places where line, map, zones and reply begin.
 fn judge_at(
+    to: Stdout,
     record: &[u8],
     line: usize,
     map: usize,
@@ -113,9 +116,9 @@ fn judge_at(
     let got = run_slip(record, line, map, zones, reply, slots, text, out);
     let words = reply + 34;
     if !same_reply(got, recorded(&record[reply..words])) {
-        return print_wrong(b"reply", record, got);
+        return print_wrong(to, b"reply", record, got);
     }
-    judge_lent(record, got, words, slots, text, out)
+    judge_lent(to, record, got, words, slots, text, out)
 }
 
 fn filled_bytes() -> [u8; 8192]
@@ -126,6 +129,7 @@ fn filled_bytes() -> [u8; 8192]
 
 // With so many slots, bytes of text and bytes of line lent as the record says from a place on.
 fn judge_lending(
+    to: Stdout,
     record: &[u8],
     line: usize,
     map: usize,
@@ -154,6 +158,7 @@ fn judge_lending(
     let mut text = filled_bytes();
     let mut out = filled_bytes();
     judge_at(
+        to,
         record,
         line,
         map,
@@ -167,6 +172,7 @@ fn judge_lending(
 
 // With parts of these lengths from a place on.
 fn judge_parts(
+    to: Stdout,
     record: &[u8],
     at: usize,
     line: usize,
@@ -187,18 +193,18 @@ fn judge_parts(
     }
     let second = at + line;
     let third = second + map;
-    judge_lending(record, at, second, third, third + zones, rooms)
+    judge_lending(to, record, at, second, third, third + zones, rooms)
 }
 
-pub fn judge_slip(record: &[u8]) -> Verdict {
+pub fn judge_slip(to: Stdout, record: &[u8]) -> Verdict {
     let line = size_at(record, 17);
     let map = size_at(record, 21);
     let zones = size_at(record, 25);
-    judge_parts(record, 29, line, map, zones, 5)
+    judge_parts(to, record, 29, line, map, zones, 5)
 }
 
-pub fn judge_slip_at(record: &[u8]) -> Verdict {
+pub fn judge_slip_at(to: Stdout, record: &[u8]) -> Verdict {
     let map = size_at(record, 33);
     let zones = size_at(record, 37);
-    judge_parts(record, 41, 0, map, zones, 21)
+    judge_parts(to, record, 41, 0, map, zones, 21)
 }

@@ -8,7 +8,7 @@ use recorded::record::{byte_at, word_at};
 use recorded::reply::{Reply, spoken, unspoken};
 
 // How many there are of each: words of yards, points, words of pieces, texts.
-#[derive(Drop)]
+#[derive(Clone, Copy)]
 pub struct Asked {
     pub yards: usize,
     pub lats: usize,

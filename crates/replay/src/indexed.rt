@@ -7,6 +7,7 @@ use numbers::float::bits::of_bits;
 use office::tiles::uskelzar_build_index;
 use recorded::record::{byte_at, long_at, same_bytes_at, same_words_at, size_at, word_at};
 use recorded::reply::{Reply, print_reply, recorded_at, same_reply, spoken, unspoken};
+use std::io::Stdout;
 use std::num::{wrapping_add_u64, wrapping_add_usize};
 use uskelzar::tiles::{uskelzar_index_tied, uskelzar_lookup_indexed, uskelzar_lookup_through};
 
@@ -46,11 +47,9 @@ fn added(sum: u64, word: u32, counts: bool) -> u64 {
 // The sum of the first so many words, with all others zero.
 fn sum_of(index: &[u32], used: u64) -> u64 {
     let mut sum = 0xCBF2_9CE4_8422_2325;
-    let mut i = 0;
-    while i < index.len() {
+    for i in 0..index.len() {
         let counts = (i as u64) < used;
         sum = added(sum, index[i], counts);
-        i += 1;
     }
     sum
 }
@@ -173,6 +172,7 @@ fn filled_index() -> [u32; 8448]
 
 // A lookup's reply, slots and text, as the record has them from a place on.
 fn looked_right(
+    to: Stdout,
     record: &[u8],
     fix: usize,
     at: usize,
@@ -184,7 +184,7 @@ fn looked_right(
 ) -> bool {
     let got = ask_either(record, fix, file, index, compares, slots, text);
     if !same_reply(got, recorded_at(record, at)) {
-        print_reply(got);
+        print_reply(to, got);
         return false;
     }
     let words = wrapping_add_usize(at, 34);
@@ -200,6 +200,7 @@ fn looked_right(
 
 // A fix: the bytes of what is expected, or 0 where it is another.
 fn fix_right(
+    to: Stdout,
     record: &[u8],
     fix: usize,
     at: usize,
@@ -218,6 +219,7 @@ fn fix_right(
     let mut slots = filled_words();
     let mut text = filled_bytes();
     let right = looked_right(
+        to,
         record,
         fix,
         at,
@@ -232,6 +234,7 @@ fn fix_right(
 
 // Every fix, and nothing behind the last.
 fn fixes_right(
+    to: Stdout,
     record: &[u8],
     first: usize,
     from: usize,
@@ -240,23 +243,22 @@ fn fixes_right(
     index: &[u32],
     compares: bool,
 ) -> bool {
-    let mut i = 0;
     let mut fix = first;
     let mut at = from;
-    while i < count {
-        let size = fix_right(record, fix, at, file, index, compares);
+    for _ in 0..count {
+        let size = fix_right(to, record, fix, at, file, index, compares);
         if size == 0 {
             return false;
         }
         at = wrapping_add_usize(at, size);
         fix = wrapping_add_usize(fix, 17);
-        i += 1;
     }
     at == record.len()
 }
 
 // All fixes with a comparison, and again without one where the words go with the file.
 fn lookups_right(
+    to: Stdout,
     record: &[u8],
     first: usize,
     from: usize,
@@ -264,48 +266,69 @@ fn lookups_right(
     file: &[u8],
     index: &[u32],
 ) -> bool {
-    if !fixes_right(record, first, from, count, file, index, true) {
+    if !fixes_right(to, record, first, from, count, file, index, true) {
         return false;
     }
     let mut words = unspoken();
     if uskelzar_index_tied(file, index, &mut words) == 0 {
-        return fixes_right(record, first, from, count, file, index, false);
+        return fixes_right(to, record, first, from, count, file, index, false);
     }
     true
 }
 
 // Through so many of the words as are lent.
-fn lent_right(record: &[u8], first: usize, from: usize, file: &[u8], index: &[u32]) -> bool {
+fn lent_right(
+    to: Stdout,
+    record: &[u8],
+    first: usize,
+    from: usize,
+    file: &[u8],
+    index: &[u32],
+) -> bool {
     let lent = size_at(record, 9);
     let count = size_at(record, 21);
     if index.len() < lent {
         return false;
     }
-    lookups_right(record, first, from, count, file, &index[0..lent])
+    lookups_right(to, record, first, from, count, file, &index[0..lent])
 }
 
 // Builds, and looks up in the other file.
-fn run_index(record: &[u8], first: usize, file: &[u8], other: &[u8], index: &mut [u32]) -> bool {
+fn run_index(
+    to: Stdout,
+    record: &[u8],
+    first: usize,
+    file: &[u8],
+    other: &[u8],
+    index: &mut [u32],
+) -> bool {
     let fixes = times_17(size_at(record, 21));
     let from = wrapping_add_usize(first, fixes);
     if !built_right(record, from, file, index) {
         return false;
     }
-    lent_right(record, first, wrapping_add_usize(from, 26), other, index)
+    lent_right(
+        to,
+        record,
+        first,
+        wrapping_add_usize(from, 26),
+        other,
+        index,
+    )
 }
 
 // In as many words as the record says.
-fn run_sized(record: &[u8], first: usize, file: &[u8], other: &[u8]) -> bool {
+fn run_sized(to: Stdout, record: &[u8], first: usize, file: &[u8], other: &[u8]) -> bool {
     let room = size_at(record, 5);
     if 8448 < room {
         return false;
     }
     let mut index = filled_index();
-    run_index(record, first, file, other, &mut index[..room])
+    run_index(to, record, first, file, other, &mut index[..room])
 }
 
 // Whether building and every lookup came out as recorded; what is too large for the buffers, or of another length than its parts have, did not.
-pub fn index_right(record: &[u8]) -> bool {
+pub fn index_right(to: Stdout, record: &[u8]) -> bool {
     let size = size_at(record, 13);
     let asked = size_at(record, 17);
     if 65536 < size {
@@ -319,5 +342,11 @@ pub fn index_right(record: &[u8]) -> bool {
     if record.len() < first {
         return false;
     }
-    run_sized(record, first, &record[25..middle], &record[middle..first])
+    run_sized(
+        to,
+        record,
+        first,
+        &record[25..middle],
+        &record[middle..first],
+    )
 }
