@@ -53,8 +53,8 @@ passed_over why rooms e = record { rooms = rooms; fits = omega arith; line = lin
 pub said_why : {hits text before out : List ℕ} (why : Refusal) (size : ℕ) → Rooms hits text before → (why.number ≡ 83 → ⊥) → Put before 0 (reason_line why) out size
     → Answers (refused why) hits text out (record { size = size; fault = 1 })
 said_why {hits} {text} {before} {out} why size rooms n put = let short = reason_short why in
-    let front = put_front put (omega (arith, short, rooms.line_room_lem)) in record {
-      rooms = record { hit_room = rooms.hit_room; text_room_lem = rooms.text_room_lem; line_room_lem = put_length put ∙ rooms.line_room_lem };
+    let front = put_front put (omega (arith, short, rooms.room_for_line)) in record {
+      rooms = record { hit_room = rooms.hit_room; room_for_text = rooms.room_for_text; room_for_line = put_length put ∙ rooms.room_for_line };
       fits = omega (arith, short, front.0);
       line = front.1 ∙ line_why why n;
       fault = fault_why why n;
@@ -62,7 +62,7 @@ said_why {hits} {text} {before} {out} why size rooms n put = let short = reason_
 
 -- ---- the rooms
 pub line_in : {hits text out : List ℕ} → Rooms hits text out → line_room ≤ length out
-line_in rooms = omega (arith, rooms.line_room_lem)
+line_in rooms = omega (arith, rooms.room_for_line)
 
 -- what was lent of the output goes back before its last byte
 back : (lent out : List ℕ) → length out ≡ line_room + 1 → length lent ≡ line_room → length (lent ++ drop line_room out) ≡ line_room + 1
@@ -148,8 +148,8 @@ stamped_line request map zones before {n} {room} {size} {after} {hits} {text} {o
       rooms =
           record {
             hit_room = eh ∙ en;
-            text_room_lem = et ∙ er;
-            line_room_lem = ap length ea ∙ length-set (out ++ tail) k 10 ∙ whole;
+            room_for_text = et ∙ er;
+            room_for_line = ap length ea ∙ length-set (out ++ tail) k 10 ∙ whole;
           };
       fits = omega (arith, fits, es);
       line =

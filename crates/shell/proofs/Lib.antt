@@ -4,6 +4,8 @@ pub mod Saying
 pub mod Answering
 pub mod Turns
 pub mod Streams
+pub mod Ends
 pub mod Whole
+pub mod Came
 pub mod Theorems
 pub mod Worked

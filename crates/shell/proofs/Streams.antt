@@ -17,15 +17,15 @@ unfolding worst
 worst_both map zones [] ys = omega arith
 worst_both map zones (x ∷ xs) ys = omega (arith, worst_both map zones xs ys)
 
-status_none : (map zones : List ℕ) (status : ℕ) → status ≡ max status (worst map zones [])
+pub status_none : (map zones : List ℕ) (status : ℕ) → status ≡ max status (worst map zones [])
 unfolding worst
 status_none map zones status = omega arith
 
-pub sofar_none : (chunk map zones : List ℕ) {space hits text out : List ℕ} (status used : ℕ) → Ready space hits text out used
+unfoldable pub sofar_none : (chunk map zones : List ℕ) {space hits text out : List ℕ} (status used : ℕ) → Ready space hits text out used
     → Sofar chunk (take used space) status map zones 0 used space hits text out status
 sofar_none chunk map zones status used ready = record { done = []; within = omega arith; ready = ready; took = took_none _ _ _; faults = status_none map zones status }
 
-pub sofar_turn : {chunk line map zones space hits text out space' hits' text' out' : List ℕ} {status at used w : ℕ} (turn : Turn) (w' : ℕ)
+unfoldable pub sofar_turn : {chunk line map zones space hits text out space' hits' text' out' : List ℕ} {status at used w : ℕ} (turn : Turn) (w' : ℕ)
     → Sofar chunk line status map zones at used space hits text out w
     → Turned chunk at (take used space) space' map zones hits' text' out' turn → w' ≡ max w turn.fault → Sofar chunk line status map zones turn.next turn.used space' hits' text' out' w'
 sofar_turn {map = map} {zones = zones} turn w' s t e =

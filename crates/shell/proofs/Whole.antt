@@ -52,7 +52,7 @@ last_front [] = refl
 last_front (byte ∷ line) = refl
 
 -- what ends in the bytes, and what then is left
-pub kept : List ℕ → List ℕ → List (List ℕ)
+unfoldable pub kept : List ℕ → List ℕ → List (List ℕ)
 kept line bytes = ended line bytes ++ last (left line bytes)
 
 kept_if : (line bytes : List ℕ) (byte : ℕ) (t : Bool) → kept [] bytes ≡ fronts (requests_from [] bytes) → kept (push (take most line) byte) bytes ≡ fronts (requests_from (line ++ (byte ∷ [])) bytes)
@@ -88,7 +88,7 @@ module _ (map zones : List ℕ) where
   kept_worst input = ap (worst map zones) (kept_requests [] input) ∙ worst_fronts (requests_from [] input)
 
   -- ---- in two parts
-  lines_both : (xs ys : List (List ℕ)) → lines_of map zones (xs ++ ys) ≡ lines_of map zones xs ++ lines_of map zones ys
+  pub lines_both : (xs ys : List (List ℕ)) → lines_of map zones (xs ++ ys) ≡ lines_of map zones xs ++ lines_of map zones ys
   unfolding lines_of
   lines_both [] ys = refl
   lines_both (x ∷ xs) ys =

@@ -1,5 +1,6 @@
 -- S-4: what is written for a request.
-use Rattle.numbers.specs.{Answer.{if◌then◌else◌}, Prelude.{ℕ, ◌+◌, ◌≤◌, eqb, length, take, List, [], ◌∷◌, ◌++◌, ◌≡◌}, Reply.{Reply, given, refused, ◌>>=◌}, declared.refusal.Refusal.{Refusal}}
+use Rattle.std.specs.Prelude.{if◌then◌else◌, ◌+◌, ◌≤◌, ◌∷◌, ◌++◌, ◌≡◌}
+use Rattle.numbers.specs.{Prelude.{ℕ, eqb, length, take, List, []}, Reply.{Reply, given, refused, ◌>>=◌}, declared.refusal.Refusal.{Refusal}}
 use Rattle.line.specs.Put.{decimal}
 use Rattle.shell.specs.{Text.{bytes}, Words.{words_of}, declared.answer.Answered.{Answered}}
 use Rattle.slip.specs.Slip.{slip_of}
@@ -44,8 +45,8 @@ fault_for (refused why) = if eqb why.number 83 then 0 else 1
 -- what is lent has the program's rooms; the output one byte more, for the line's end
 pub record Rooms (hits text out : List ℕ) : Type 0 where
   pub hit_room : length hits ≡ hit_words
-  pub text_room_lem : length text ≡ text_room
-  pub line_room_lem : length out ≡ line_room + 1
+  pub room_for_text : length text ≡ text_room
+  pub room_for_line : length out ≡ line_room + 1
 
 -- the bytes for a reply stand at the output's front, whole
 pub record Answers (reply : Reply (List ℕ)) (hits text out : List ℕ) (answered : Answered) : Type 0 where

@@ -1,5 +1,6 @@
 -- The requests that end in a piece of the input, as they are kept: of a line that is too long its front, which is as surely too long.
-use Rattle.numbers.specs.{Answer.{if◌then◌else◌}, Prelude.{ℕ, eqb, take, List, [], ◌∷◌, ◌++◌}}
+use Rattle.std.specs.Prelude.{if◌then◌else◌, ◌∷◌, ◌++◌}
+use Rattle.numbers.specs.Prelude.{ℕ, eqb, take, List, []}
 
 -- a request of 255 bytes, a line end of two, and one byte more
 abbrev pub most : ℕ

@@ -1,5 +1,6 @@
 -- S-4: the requests of an input. A line is what ends with LF or with the input.
-use Rattle.numbers.specs.{Answer.{if◌then◌else◌}, Prelude.{ℕ, eqb, List, [], ◌∷◌, ◌++◌}}
+use Rattle.std.specs.Prelude.{if◌then◌else◌, ◌∷◌, ◌++◌}
+use Rattle.numbers.specs.Prelude.{ℕ, eqb, List, []}
 
 -- at the input's end a line that has begun is a request
 unfoldable pub last : List ℕ → List (List ℕ)

@@ -1,5 +1,6 @@
 -- A run: what it hands to standard output, and its exit status, by what is promised of each turn and piece. The pieces are any.
-use Rattle.numbers.specs.Prelude.{ℕ, ◌≤◌, length, take, List, [], ◌∷◌, ◌++◌, ◌≡◌}
+use Rattle.std.specs.Prelude.{◌≤◌, ◌∷◌, ◌++◌, ◌≡◌}
+use Rattle.numbers.specs.Prelude.{ℕ, length, take, List, []}
 use Rattle.shell.specs.{Answer.{Answers, slip_for}, Stream.{Served, Finished}, Turn.{Turned}, declared.{answer.Answered.{Answered}, stream.State.{State}, turn.Turn.{Turn}}}
 
 module _ (map zones : List ℕ) where

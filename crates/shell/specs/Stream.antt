@@ -1,6 +1,6 @@
 -- What is left behind a piece of the input, and the exit status so far.
-use Rattle.numbers.specs.Prelude.{ℕ, ◌≤◌, length, take, List, ◌≡◌}
-use Rattle.std.specs.Prelude.{max}
+use Rattle.numbers.specs.Prelude.{ℕ, length, take, List}
+use Rattle.std.specs.Prelude.{max, ◌≤◌, ◌≡◌}
 use Rattle.shell.specs.{Answer.{Rooms}, Kept.{most, ended, left}, Requests.{last}, Written.{worst}, declared.stream.State.{State}}
 
 -- unless writing failed (status 2), the line so far is what the piece leaves, and the status is 1 where a request of it was not stamped

@@ -1,5 +1,6 @@
 -- What a turn takes from a piece of the input, and what it writes.
-use Rattle.numbers.specs.Prelude.{ℕ, zero, suc, ◌+◌, ◌≤◌, ◌<◌, length, take, drop, List, [], ◌∷◌, ◌++◌, ◌≡◌}
+use Rattle.std.specs.Prelude.{◌+◌, ◌≤◌, ◌<◌, ◌∷◌, ◌++◌, ◌≡◌}
+use Rattle.numbers.specs.Prelude.{ℕ, zero, suc, length, take, drop, List, []}
 use Rattle.shell.specs.{Answer.{Rooms, line_room}, Kept.{most, ended, left}, Written.{lines_of, worst}, declared.{gather.Step.{Step}, turn.Turn.{Turn}}}
 
 -- from a piece, a place in it and a line so far: the requests that ended, the next place, and the line so far there

@@ -1,5 +1,6 @@
 -- The words of the refusals that a slip can meet; docs/FORMAT.md and docs/TZIF.md have the tables.
-use Rattle.numbers.specs.{Answer.{if◌then◌else◌}, Prelude.{ℕ, zero, suc, ◌-◌, ◌≤◌, eqb, List, [], ◌∷◌, ◌≡◌}}
+use Rattle.std.specs.Prelude.{if◌then◌else◌, ◌-◌, ◌≤◌, ◌∷◌, ◌≡◌}
+use Rattle.numbers.specs.Prelude.{ℕ, zero, suc, eqb, List, []}
 use Prim.Native.String.{String}
 use Rattle.shell.specs.Text.{bytes}
 

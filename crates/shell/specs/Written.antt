@@ -1,6 +1,6 @@
 -- S-4: what is written for an input, and the exit status.
-use Rattle.numbers.specs.Prelude.{ℕ, List, [], ◌∷◌, ◌++◌}
-use Rattle.std.specs.Prelude.{max}
+use Rattle.numbers.specs.Prelude.{ℕ, List, []}
+use Rattle.std.specs.Prelude.{max, ◌∷◌, ◌++◌}
 use Rattle.shell.specs.{Answer.{slip_for, line_for, fault_for}, Requests.{requests}}
 
 module _ (map zones : List ℕ) where

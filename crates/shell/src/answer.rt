@@ -10,7 +10,7 @@ use numbers::refusal::Refusal;
 use slip::slip::{Slipped, slip};
 
 // How many bytes to write, and 1 where the request is not stamped.
-#[derive(Drop)]
+#[derive(Clone, Copy)]
 pub struct Answered {
     pub size: usize,
     pub fault: u64,

@@ -3,7 +3,7 @@ ghost use Rattle.std.specs.Prelude.{◌≡◌, ◌≤◌, length, take};
 ghost use Rattle.shell.specs.{Kept.{most}, Turn.{Gathered}};
 
 // The place behind the bytes that were taken, how many bytes the line has, and 1 where it has ended.
-#[derive(Drop)]
+#[derive(Clone, Copy)]
 pub struct Step {
     pub next: usize,
     pub used: usize,

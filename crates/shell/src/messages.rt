@@ -1,31 +1,34 @@
-// What the program says on standard error.
-use libc::STDERR_FILENO;
+// What the program says on standard error. That it could not be said is not told.
+use std::io;
 
-pub fn usage() {
-    io::write_all(
-        STDERR_FILENO,
+pub fn usage(errors: &impl Print) {
+    let _ = errors.write_all(
         b"stamp: give a map and a bundle of zones: stamp MAP ZONES, with requests on standard input\n",
     );
 }
 
-pub fn cannot(path: &[u8]) {
-    os::fail(path);
-    io::write_all(
-        STDERR_FILENO,
+pub fn cannot(errors: &impl Print, path: &[u8], why: &io::Error) {
+    broken(errors, path, why);
+    let _ = errors.write_all(
         b"stamp: that file cannot be read: see its path and who may read it; of a folder of zones depot bundle makes one file; then run stamp MAP ZONES again\n",
     );
 }
 
-pub fn too_large(path: &[u8], most: u64) {
-    io::write_all(STDERR_FILENO, path);
-    io::write_all(STDERR_FILENO, b": too large: a file of at most ");
-    io::print_decimal(STDERR_FILENO, most);
-    io::write_all(
-        STDERR_FILENO,
+pub fn too_large(errors: &impl Print, path: &[u8], most: u64) {
+    let _ = errors.write_all(path);
+    let _ = errors.print(format_args!(": too large: a file of at most {most}"));
+    let _ = errors.write_all(
         b" bytes is taken here: give a map of a lower precision, or a bundle of fewer zones (depot bundle --map MAP)\n",
     );
 }
 
-pub fn broken(what: &[u8]) {
-    os::fail(what);
+// What the system says of something that failed.
+pub fn broken(errors: &impl Print, what: &[u8], why: &io::Error) {
+    let _ = errors.write_all(what);
+    let _ = errors.println(format_args!(": {why}"));
+}
+
+// Of the room for both files.
+pub fn no_memory(errors: &impl Print) {
+    let _ = errors.write_all(b"stamp: out of memory\n");
 }

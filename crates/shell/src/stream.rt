@@ -1,25 +1,28 @@
 // Standard input in pieces, and a line on standard output for each request.
-ghost use Rattle.std.specs.Prelude.{◌≡◌, max, length, take};
-ghost use Rattle.shell.specs.{Answer.{Rooms, hit_words, text_room}, Kept.{most}, Stream.{Served, Ready, Finished}};
+ghost use Rattle.std.specs.Prelude.{◌≡◌, ◌≢◌, max, length, take, IfOk, IfSome, OnOk};
+ghost use Rattle.std.specs.Io.KnownBytes.{Appends};
+ghost use Rattle.shell.specs.{Answer.{Rooms, hit_words, text_room}, Kept.{most, ended, left}, Requests.{last}};
+ghost use Rattle.shell.specs.{Stream.{Served, Ready, Finished}, Written.{lines_of, worst, written, status_of}};
 
 use crate::answer::answer;
 use crate::messages::broken;
 use crate::turn::take_turn;
-use libc::{STDIN_FILENO, STDOUT_FILENO};
+use std::io;
+use std::io::{Read, Write};
 
 // How many bytes the line so far has, and the exit status so far.
-#[derive(Drop)]
+#[derive(Clone, Copy)]
 pub struct State {
     pub used: usize,
     pub status: u64,
 }
 
-// The same, and 1 where the input goes on.
+// What failed, or an input that did not end in as many pieces as can be counted.
 #[derive(Drop)]
-pub struct Next {
-    pub used: usize,
-    pub status: u64,
-    pub more: u64,
+pub enum Broken {
+    Input(io::Error),
+    Output(io::Error),
+    Endless,
 }
 
 fn worse(a: u64, b: u64) -> u64
@@ -28,8 +31,19 @@ fn worse(a: u64, b: u64) -> u64
     if a < b { b } else { a }
 }
 
-// Answers each request that ends in a piece. The status is 2 where a line could not be written.
-fn piece(
+// Writes some lines, whole.
+fn put_lines<W: Write>(writer: &mut W, lines: &[u8]) -> Result<(), Broken>
+    ensures { OnOk result (Appends (W.contents writer.old) (W.contents writer.new) lines.now) }
+{
+    match writer.write_all(lines) {
+        Ok(()) => Ok(()),
+        Err(why) => Err(Broken::Output(why)),
+    }
+}
+
+// Answers each request that ends in a piece.
+fn piece<W: Write>(
+    writer: &mut W,
     chunk: &[u8],
     line: &mut [u8],
     used: usize,
@@ -39,10 +53,15 @@ fn piece(
     hits: &mut [u32],
     text: &mut [u8],
     out: &mut [u8],
-) -> State
+) -> Result<State, Broken>
     requires { Ready line.old hits.old text.old out.old used }
-    ensures { Served chunk.now (take used line.old) status map.now zones.now
-        line.new hits.new text.new out.new result }
+    ensures served { IfOk result (λ state. Served chunk.now (take used line.old) status map.now zones.now
+        line.new hits.new text.new out.new state) }
+    ensures rest { IfOk result (λ state. take state.used line.new ≡ left (take used line.old) chunk.now) }
+    ensures faults { IfOk result (λ state. state.status
+        ≡ max status (worst map.now zones.now (ended (take used line.old) chunk.now))) }
+    ensures lines { OnOk result (Appends (W.contents writer.old) (W.contents writer.new)
+        (lines_of map.now zones.now (ended (take used line.old) chunk.now))) }
 {
     let mut at = 0;
     let mut size = used;
@@ -50,69 +69,20 @@ fn piece(
     while at < chunk.len() {
         let turned = take_turn(chunk, at, line, size, map, zones, hits, text, out);
         let length = turned.size;
-        if !io::write_all(STDOUT_FILENO, &out[..length]) {
-            broken(b"stamp: standard output");
-            return State { used: 0, status: 2 };
-        }
+        put_lines(writer, &out[..length])?;
         worst = worse(worst, turned.fault);
         size = turned.used;
         at = turned.next;
     }
-    State {
+    Ok(State {
         used: size,
         status: worst,
-    }
-}
-
-// Reads a piece and answers what ends in it.
-fn read_piece(
-    line: &mut [u8],
-    used: usize,
-    status: u64,
-    map: &[u8],
-    zones: &[u8],
-    hits: &mut [u32],
-    text: &mut [u8],
-    out: &mut [u8],
-) -> Next
-    requires { Ready line.old hits.old text.old out.old used }
-    ensures { Ready line.new hits.new text.new out.new result.used }
-{
-    let mut chunk = io::buffer();
-    let got = libc::read(STDIN_FILENO, &mut chunk);
-    if got < 0 {
-        broken(b"stamp: standard input");
-        return Next {
-            used,
-            status: 2,
-            more: 0,
-        };
-    }
-    if got == 0 {
-        return Next {
-            used,
-            status,
-            more: 0,
-        };
-    }
-    let n = io::count(got, &chunk);
-    let state = piece(&chunk[..n], line, used, status, map, zones, hits, text, out);
-    if state.status == 2 {
-        return Next {
-            used: state.used,
-            status: 2,
-            more: 0,
-        };
-    }
-    Next {
-        used: state.used,
-        status: state.status,
-        more: 1,
-    }
+    })
 }
 
 // At the input's end a line that has begun is a request.
-fn finish(
+fn finish<W: Write>(
+    writer: &mut W,
     request: &[u8],
     status: u64,
     map: &[u8],
@@ -120,51 +90,66 @@ fn finish(
     hits: &mut [u32],
     text: &mut [u8],
     out: &mut [u8],
-) -> u64
+) -> Result<u64, Broken>
     requires { Rooms hits.old text.old out.old }
-    ensures { Finished request.now status map.now zones.now result }
+    ensures finished { IfOk result (λ answer. Finished request.now status map.now zones.now answer) }
+    ensures faults { IfOk result (λ answer. answer ≡ max status (worst map.now zones.now (last request.now))) }
+    ensures lines { OnOk result (Appends (W.contents writer.old) (W.contents writer.new)
+        (lines_of map.now zones.now (last request.now))) }
 {
     if request.len() == 0 {
-        return status;
+        return Ok(status);
     }
     let answered = answer(request, map, zones, hits, text, out);
     let length = answered.size;
-    if !io::write_all(STDOUT_FILENO, &out[..length]) {
-        broken(b"stamp: standard output");
-        return 2;
-    }
-    worse(status, answered.fault)
+    put_lines(writer, &out[..length])?;
+    Ok(worse(status, answered.fault))
 }
 
-// A proved loop has to end, and nothing says that an input does: so the pieces are counted down from a number that no run uses up.
-fn all(
+// A proved loop has to end, and nothing says that an input does: so the pieces are counted up to a number that no run comes to.
+fn all<R: Read, W: Write>(
+    reader: &mut R,
+    writer: &mut W,
     line: &mut [u8],
     map: &[u8],
     zones: &[u8],
     hits: &mut [u32],
     text: &mut [u8],
     out: &mut [u8],
-) -> u64
+) -> Result<u64, Broken>
     requires { Ready line.old hits.old text.old out.old 0 }
+    ensures lines { OnOk result (IfSome (R.remaining reader.old) (λ input.
+        Appends (W.contents writer.old) (W.contents writer.new) (written map.now zones.now input))) }
+    ensures status { IfOk result (λ status. IfSome (R.remaining reader.old) (λ input.
+        status ≡ status_of map.now zones.now input)) }
 {
+    let mut chunk = [0u8; 4096];
     let mut used = 0;
     let mut status = 0;
-    let mut more = 1;
-    let mut turns: u64 = 0x7fff_ffff_ffff_ffff;
-    while turns > 0 && more == 1 {
-        let next = read_piece(line, used, status, map, zones, hits, text, out);
-        used = next.used;
-        status = next.status;
-        more = next.more;
-        turns -= 1;
+    for _ in 0..u64::MAX {
+        let size = match reader.read(&mut chunk) {
+            Ok(size) => size,
+            Err(why) => return Err(Broken::Input(why)),
+        };
+        if size == 0 {
+            return finish(writer, &line[..used], status, map, zones, hits, text, out);
+        }
+        let state = piece(
+            writer,
+            &chunk[..size],
+            line,
+            used,
+            status,
+            map,
+            zones,
+            hits,
+            text,
+            out,
+        )?;
+        used = state.used;
+        status = state.status;
     }
-    if status == 2 {
-        return 2;
-    }
-    if more == 1 {
-        return 2;
-    }
-    finish(&line[..used], status, map, zones, hits, text, out)
+    Err(Broken::Endless)
 }
 
 fn line_space() -> [u8; 258]
@@ -191,18 +176,40 @@ fn out_space() -> [u8; 4097]
     [0; 4097]
 }
 
-// The exit status: 0 where every request was stamped, 1 where one was not, 2 where standard input or output failed.
-pub fn serve(map: &[u8], zones: &[u8]) -> i32 {
+fn tell(errors: &impl Print, why: &Broken) {
+    match why {
+        Broken::Input(why) => broken(errors, b"stamp: standard input", why),
+        Broken::Output(why) => broken(errors, b"stamp: standard output", why),
+        Broken::Endless => {}
+    }
+}
+
+// The exit status: 0 where every request was stamped, 1 where one was not, 2 where the input or the output failed.
+pub fn serve<R: Read, W: Write>(
+    errors: &impl Print,
+    reader: &mut R,
+    writer: &mut W,
+    map: &[u8],
+    zones: &[u8],
+) -> u8
+    ensures lines { result ≢ 2 → IfSome (R.remaining reader.old) (λ input.
+        Appends (W.contents writer.old) (W.contents writer.new) (written map.now zones.now input)) }
+    ensures status { result ≢ 2 → IfSome (R.remaining reader.old) (λ input.
+        result ≡ status_of map.now zones.now input) }
+{
     let mut line = line_space();
     let mut hits = hit_space();
     let mut text = text_space();
     let mut out = out_space();
-    let status = all(&mut line, map, zones, &mut hits, &mut text, &mut out);
-    if status == 0 {
-        return 0;
+    match all(
+        reader, writer, &mut line, map, zones, &mut hits, &mut text, &mut out,
+    ) {
+        Ok(0) => 0,
+        Ok(1) => 1,
+        Ok(_) => 2,
+        Err(why) => {
+            tell(errors, &why);
+            2
+        }
     }
-    if status == 1 {
-        return 1;
-    }
-    2
 }

@@ -6,7 +6,7 @@ use crate::answer::answer;
 use crate::gather::gather;
 
 // The place behind what was taken, how many bytes the line so far has, how many to write, and 1 where a request was not stamped.
-#[derive(Drop)]
+#[derive(Clone, Copy)]
 pub struct Turn {
     pub next: usize,
     pub used: usize,
