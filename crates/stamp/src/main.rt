@@ -1,4 +1,8 @@
-// The shell as a program of the kit's own: its exit status is 0 whatever came.
-fn main() {
-    shell::shell_run();
+// `stamp MAP ZONES`: the shell as a program, with its exit status.
+#![tactic(auto)]
+
+use std::process::ExitCode;
+
+fn main(rt: HostRuntime) -> ExitCode {
+    ExitCode::from(shell::shell_run(&rt, &rt.stderr()))
 }
