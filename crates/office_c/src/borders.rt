@@ -1,0 +1,22 @@
+// A border, for C.
+ghost use Rattle.std.specs.Prelude.{length, ◌≡◌, [], ◌∷◌};
+ghost use Rattle.writer.specs.{Pieces.{pieces_of}, Writer.{border_of, fitted}};
+ghost use Rattle.numbers.specs.Spoken.{spoken};
+ghost use Rattle.office.specs.Written.{written_spoken};
+
+// Writes a border, with pieces of five words each. Values: its length.
+#[unsafe(no_mangle)]
+pub extern "C" fn uskelzar_write_border(
+    version: u8,
+    lats: &[i32],
+    lons: &[i32],
+    pieces: &[u32],
+    earlier: &[u8],
+    out: &mut [u8],
+    reply: &mut [u64; 5],
+) -> u8
+    ensures { spoken result reply.new (out.new ∷ [])
+        ≡ written_spoken (fitted (length out.old) (border_of version lats.now lons.now (pieces_of pieces.now) earlier.now)) }
+{
+    office::borders::uskelzar_write_border(version, lats, lons, pieces, earlier, out, reply)
+}
