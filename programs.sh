@@ -9,7 +9,10 @@ die() { say "$@"; exit 2; }
 
 # ---- proving
 
-# crates_of NAME..: these crates and all that they are built from, in the order of crates.txt; the kit's own are not among them.
+# lowest_first: each crate of crates.txt behind those that it is built from; the kit's own are among them.
+lowest_first() { sed 's/#.*//; s/ staticlib *:/:/; s/:/ /' "$root/crates.txt" | awk 'NF { print $1, $1; for (i = 2; i <= NF; i++) print $i, $1 }' | tsort; }
+
+# crates_of NAME..: these crates and all that they are built from, lowest first; the kit's own are not among them.
 crates_of() {
     wanted=" $* " before=''
     until [ "$wanted" = "$before" ]; do
@@ -21,9 +24,9 @@ crates_of() {
             done
         done <"$root/crates.txt"
     done
-    while read -r crate needs; do
-        case $wanted in *" ${crate%:} "*) printf '%s\n' "${crate%:}" ;; esac
-    done <"$root/crates.txt"
+    for crate in $(lowest_first); do
+        case $wanted in *" $crate "*) [ ! -d "$root/crates/$crate" ] || printf '%s\n' "$crate" ;; esac
+    done
 }
 
 # sum_of NAME: one number for the kit and all sources that this crate is built from.
@@ -32,7 +35,7 @@ sum_of() {
         rt version
         cd "$root" || exit
         for each in $(crates_of "$1"); do
-            grep "^$each:" crates.txt
+            grep "^${each}[ :]" crates.txt
             for part in src specs proofs; do [ ! -d "crates/$each/$part" ] || set -- "$@" "crates/$each/$part"; done
         done
         shift
@@ -52,7 +55,7 @@ keep_sum() {
     printf '%s %s\n' "$3" "$(sha256sum <"$root/$2" | cut -d ' ' -f 1)" >"$root/target/sums/$1"
 }
 
-# Two commands of rt in one folder disturb each other, so one script at a time proves; the others wait, and then find all done. Held until the (sub)shell ends.
+# One script at a time proves; the others wait, and then find all done. Held until the (sub)shell ends.
 lock() {
     mkdir -p "$root/target"
     if command -v flock >/dev/null; then
@@ -80,56 +83,57 @@ costs_of() {
     done
 }
 
-# minutes SECONDS: of work, on as many processors as rt takes
-minutes() {
-    jobs=${RT_JOBS:-$(nproc 2>/dev/null || echo 2)}
-    [ "$jobs" -le 4 ] || jobs=4
-    echo $((($1 / jobs + 59) / 60))
+# minutes SECONDS: of work
+minutes() { echo $((($1 + 59) / 60)); }
+
+# made_by CRATE: what rt leaves of it where it is proved, below its folder: a program, a static library's archive, or a library for the crates above it
+made_by() {
+    if [ -f "$root/crates/$1/src/main.rt" ]; then
+        printf 'out/%s' "$1"
+    elif grep -q "^$1 staticlib *:" "$root/crates.txt"; then
+        printf 'out/lib%s.a' "$1"
+    else
+        printf 'out/rlib/stamp'
+    fi
 }
 
-# Reads rt's lines "rt: CRATE proved (..)" and says which crate of how many was proved, and about how many minutes are left.
-show_progress() { # CRATE:SECONDS..
-    all=$# at=0 left=0 seen=' '
+# build CRATE: proved and built. rt builds a program where it runs it, on the input that stands beside it; what it prints and how it ends is asked elsewhere.
+build() (
+    cd "$root/crates/$1" || exit
+    [ -f src/main.rt ] || { rt lib 2>&1; exit; }
+    said=$(rt run 2>&1 >/dev/null </dev/null) || :
+    printf '%s\n' "$said"
+    printf '%s\n' "$said" | grep -q "^rt: running out/$1\b"
+)
+
+# prove_by NAME..: these crates and all that they are built from, proved and built, lowest first, with a line for each crate that was not before. All that rt says is in target/prove.log.
+prove_by() {
+    log=$root/target/prove.log
+    names=$*
+    # shellcheck disable=SC2046
+    set -- $(costs_of $(crates_of "$@"))
+    all=$# at=0 left=0
     for each; do left=$((left + ${each#*:})); done
     say "proving and building, once: $all crates, about $(minutes "$left") min; what is proved already is not proved again"
-    while read -r _ crate _ took _; do
-        for each; do
-            [ "${each%%:*}" = "$crate" ] || continue
-            case $seen in *" $crate "*) continue ;; esac
-            at=$((at + 1)) left=$((left - ${each#*:})) seen="$seen$crate "
-            case $took in \(unchanged) ;; *) say "$at of $all crates: $crate proved $took s); about $(minutes "$left") min left" ;; esac
-        done
+    : >"$log"
+    for each; do
+        crate=${each%%:*} at=$((at + 1)) left=$((left - ${each#*:})) began=$(date +%s)
+        printf '== %s\n' "$crate" >>"$log"
+        if build "$crate" >>"$log" 9>&- && [ -f "$root/crates/$crate/$(made_by "$crate")" ]; then
+            took=$(($(date +%s) - began))
+            [ "$took" -lt 3 ] || say "$at of $all crates: $crate proved ($took s); about $(minutes "$left") min left"
+            continue
+        fi
+        sed -n "/^== $crate\$/,\$p" "$log" | grep -E '^rt: |: error|not proved|no proof' | head -n 20 >&2
+        die "not proved: $crate, for $names ($log has all that was said)"
     done
-}
-
-# prove_by VERB NAME..: rt's verb on these crates, with a line for each crate that is proved. All that rt says is in target/prove.log.
-prove_by() {
-    verb=$1
-    shift
-    # shellcheck disable=SC2046
-    set -- "$*" $(costs_of $(crates_of "$@"))
-    names=$1
-    shift
-    log=$root/target/prove.log
-    {
-        # rt proves what an archive is built from one crate after the other; a check proves several at a time
-        before=''
-        [ "$verb" != staticlib ] || before=$(crates_of "$names" | grep -vx "$names")
-        # shellcheck disable=SC2086
-        (cd "$root" && { [ -z "$before" ] || rt check $before; } 2>&1 9>&- && rt "$verb" $names 2>&1 9>&- && echo 'rt: ended well')
-    } | tee "$log" | { grep --line-buffered '^rt: [a-z_]* proved (' || true; } | show_progress "$@"
-    [ "$(tail -n 1 "$log")" = 'rt: ended well' ] && return
-    grep '^rt: ' "$log" | grep -v ' proved (' >&2
-    die "not proved: $names ($log has all that was said)"
 }
 
 # stale NAME:FILE ..: those that are not built from the sources that stand here
 stale() { for each; do is_built "${each%%:*}" "${each#*:}" || printf ' %s' "$each"; done; }
 
-# ensure VERB NAME:FILE ..: each file built from the sources that stand here, by rt's verb on its crate. Nothing is asked of rt where it is so. In a shell of its own.
+# ensure NAME:FILE ..: each file made of its crate from the sources that stand here. Nothing is asked of rt where it is so. In a shell of its own.
 ensure() (
-    verb=$1
-    shift
     command -v rt >/dev/null || die "the Rattle kit's rt is not on the PATH"
     rt version >/dev/null || die "rt does not run here: it needs a kit for this machine, $(uname -m)"
     [ -n "$(stale "$@")" ] || exit 0
@@ -141,39 +145,41 @@ ensure() (
     names='' sums=''
     for each; do names="$names ${each%%:*}" sums="$sums $each:$(sum_of "${each%%:*}")"; done
     # shellcheck disable=SC2086
-    prove_by "$verb" $names
+    prove_by $names
     for each in $sums; do
-        file=${each#*:} file=${file%:*}
-        [ -f "$root/$file" ] || die "target/ is not whole: remove it and run this again"
-        keep_sum "${each%%:*}" "$file" "${each##*:}"
+        crate=${each%%:*} file=${each#*:} file=${file%:*}
+        mkdir -p "$root/${file%/*}"
+        put_same "$root/crates/$crate/$(made_by "$crate")" "$root/$file"
+        keep_sum "$crate" "$file" "${each##*:}"
     done
 )
 
 # prove PROGRAM..: proved and built in target/bin, and ready for `run`.
 prove() {
     # shellcheck disable=SC2046
-    ensure check $(for each; do printf '%s:target/bin/%s ' "$each" "$each"; done) || exit 2
-    rattle=$(rt doc) && tools=${rattle%/docs/*}/on/$(uname -m)/toolchain
-    emulator=$tools/bin/qemu-x86_64
-    [ -x "$emulator" ] || emulator=''
+    ensure $(for each; do printf '%s:target/bin/%s ' "$each" "$each"; done) || exit 2
+    tools=$(rt doc) && tools=${tools%/*}/toolchain
+    emulator=''
+    [ "$(uname -m)" = x86_64 ] || emulator=qemu-x86_64
 }
 
-# prove_archive [CRATE]: for C and Rust to link, in target/staticlib: libuskelzar.a, the printer's functions, and libuskelzar-office.a, the office's; or one crate's archive.
-# rt writes libCRATE.a. No crate can be called uskelzar-office: that archive is a copy of liboffice.a, made here and nowhere else.
+# prove_archive [CRATE]: for C and Rust to link, in target/staticlib: libuskelzar.a, the printer's functions, and libuskelzar-office.a, the office's; or one of the two.
+# A crate is a library or an archive, so that of `uskelzar` is made by the crate `uskelzar_c`, whose functions call those of the same names and promise the same; of `office` by `office_c`.
+# No crate can be called uskelzar-office: that archive is liboffice_c.a, copied here and nowhere else.
 prove_archive() {
-    for each in ${1-uskelzar office}; do
-        ensure staticlib "$each:target/staticlib/lib$each.a" || exit 2
-        [ "$each" != office ] || put_same "$root/target/staticlib/liboffice.a" "$root/target/staticlib/libuskelzar-office.a" || exit 2
-    done
+    # shellcheck disable=SC2046
+    ensure $(for each in ${1-uskelzar office}; do
+        case $each in office) printf 'office_c:target/staticlib/libuskelzar-office.a ' ;; *) printf '%s_c:target/staticlib/lib%s.a ' "$each" "$each" ;; esac
+    done) || exit 2
 }
 
 # put_same FILE COPY: where it is the same already nothing is touched, so that nothing is built again.
 put_same() { cmp -s "$1" "$2" || { cp "$1" "$2.new" && mv "$2.new" "$2"; }; }
 
-# prove_libraries CRATE..: proved, with their folders in target/rlib. rt itself looks whether anything has changed.
-prove_libraries() { (lock; prove_by check "$@") || exit 2; }
+# prove_libraries CRATE..: proved, and built for the crates above them. rt itself looks whether anything has changed.
+prove_libraries() { (lock; prove_by "$@") || exit 2; }
 
-# run PROGRAM [WORD..]: as rt runs it, by the kit's loader, and on another processor than x86-64 by its emulator.
+# run PROGRAM [WORD..]: by the kit's loader and C library, and on another processor than x86-64 by Debian's emulator.
 run() {
     program=$root/target/bin/$1
     shift
