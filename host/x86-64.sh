@@ -35,10 +35,10 @@ build_archive() {
     for each in "$archive" "$office"; do [ -f "$each" ] || stop "no archive $each"; done
 }
 
-# build_stamp FILE: the proved program `stamp`, with its exit status.
+# build_stamp FILE: the proved program `stamp` as it is installed, with its exit status.
 build_stamp() {
-    prove stamp
-    cp "$root/target/bin/stamp" "$1"
+    prove stamp_host
+    cp "$root/target/bin/stamp_host" "$1"
 }
 
 # What counting takes besides.

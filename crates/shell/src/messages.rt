@@ -1,4 +1,5 @@
 // What the program says on standard error. That it could not be said is not told.
+use std::fmt::InlineText;
 use std::io;
 
 pub fn usage(errors: &impl Print) {
@@ -22,10 +23,15 @@ pub fn too_large(errors: &impl Print, path: &[u8], most: u64) {
     );
 }
 
-// What the system says of something that failed.
+// What the system says of something that failed, without the number that the library puts behind it.
 pub fn broken(errors: &impl Print, what: &[u8], why: &io::Error) {
+    let said = InlineText::<320>::of(*why);
+    let words = match said.as_str().rsplit_once(" (os error ") {
+        Some((words, _)) => words,
+        None => said.as_str(),
+    };
     let _ = errors.write_all(what);
-    let _ = errors.println(format_args!(": {why}"));
+    let _ = errors.println(format_args!(": {words}"));
 }
 
 // Of the room for both files.

@@ -1,8 +1,6 @@
-// `stamp MAP ZONES`: the shell as a program, with its exit status.
+// The shell as a program of the kit's own: its exit status is 0 whatever came.
 #![tactic(auto)]
 
-use std::process::ExitCode;
-
-fn main(rt: HostRuntime) -> ExitCode {
-    ExitCode::from(shell::shell_run(&rt, &rt.stderr()))
+fn main(rt: HostRuntime) {
+    let _status = shell::shell_run(&rt, &rt.stderr());
 }
