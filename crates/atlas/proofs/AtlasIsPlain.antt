@@ -127,7 +127,7 @@ module _ (words : List ℕ) where
   unfolding is_made
   itself_made used = same_self words
 
--- `is_atlas` says 0 exactly where building, lent as many words, gives and leaves these for this file: built-is-atlas and atlas-is-built.
+-- `is_atlas` says 0 exactly where building, lent as many words, gives and leaves these for this file: built_is_atlas and atlas_is_built.
 pub is_atlas_exactly : (file words : List ℕ) → (is_atlas_of file words ≡ given tt) ↔ ((used : ℕ) × (atlas_made file (length words) ≡ indexed (given used) words))
 unfolding is_atlas_of
 is_atlas_exactly file words = (

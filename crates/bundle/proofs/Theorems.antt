@@ -15,7 +15,7 @@ pub xored_zero : (xs : List ℕ) → map (xored 0) xs ≡ xs
 xored_zero [] = refl
 xored_zero (x ∷ xs) = λ i. xor_zero_r x i ∷ xored_zero xs i
 
--- ---- same-found
+-- ---- same_found
 untold : Reply File → Found
 untold (given file) = F.At file
 untold (refused why) = F.Refused why
@@ -29,7 +29,7 @@ untold_told (F.Refused why) = refl
 pub same_found : (bundle name : List ℕ) (r s : Found) → told r ≡ find_of bundle name → told s ≡ find_of bundle name → r ≡ s
 same_found bundle name r s p q = sym (untold_told r) ∙ ap untold (p ∙ sym q) ∙ untold_told s
 
--- ---- found-refusals
+-- ---- found_refusals
 abbrev Two : ℕ → Type 0
 Two = Listed (88 ∷ 89 ∷ [])
 

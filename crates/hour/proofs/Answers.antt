@@ -67,12 +67,12 @@ taken-short (suc n) [] = omega arith
 taken-short (suc n) (x ∷ text) = omega (arith, taken-short n text)
 
 -- with 256 bytes for the abbreviation every line has room in 512
-pub line-short : (instant : ℤ) (reply : LocalTime) (text line : List ℕ) → LineFor instant reply text line → length text ≤ 256 → length line ≤ 512
+pub line_short : (instant : ℤ) (reply : LocalTime) (text line : List ℕ) → LineFor instant reply text line → length text ≤ 256 → length line ≤ 512
 unfolding LineFor
-line-short instant (L.Local local) text line p h =
+line_short instant (L.Local local) text line p h =
     omega (arith, ap length p.is, civil-short local (take local.length text) p.civil (omega (arith, h, taken-short local.length text)))
-line-short instant L.Unknown text line p h = omega (arith, ap length p)
-line-short instant (L.Refused why) text line p h = omega (arith, ap length p, refused_short why)
+line_short instant L.Unknown text line p h = omega (arith, ap length p)
+line_short instant (L.Refused why) text line p h = omega (arith, ap length p, refused_short why)
 
 -- ---- the ways of `put_local` and `put_answer`
 moved : {instant at o offset : ℤ} (civil : Civil) → at ≡ instant → offset ≡ o → CivilOf at offset civil → CivilOf instant o civil
@@ -151,7 +151,7 @@ module _ (input : List ℕ) (room : ℕ) where
   module _ {before after : List ℕ} {next : ℕ} where
     printed : Answered (instant_of input) (answer_of input room) before after next → length (answer_of input room).text ≤ 256 → 512 ≤ length before → Printed input
         room after next
-    printed a small large = let short = line-short (instant_of input) (answer_of input room).reply (answer_of input room).text a.line a.is small in
+    printed a small large = let short = line_short (instant_of input) (answer_of input room).reply (answer_of input room).text a.line a.is small in
         let front = put_front a.put (omega (arith, short, large)) in
         record { line = a.line; is = a.is; fits = omega (arith, front.0, short, large, put_length a.put); whole = front.1 }
 

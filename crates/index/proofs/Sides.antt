@@ -39,8 +39,8 @@ unfolding tile_along
 column_few precision x = omega arith
 
 -- tests one after the other
-pub and-true : (a b c : Bool) → a ≡ true → b ≡ true → c ≡ (a && (b && c))
-and-true a b c e f = rw (e, f)
+pub and_true : (a b c : Bool) → a ≡ true → b ≡ true → c ≡ (a && (b && c))
+and_true a b c e f = rw (e, f)
 
 pub and_first : (a b : Bool) → a ≡ false → false ≡ (a && b)
 and_first a b e = rw e

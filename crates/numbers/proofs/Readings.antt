@@ -86,7 +86,7 @@ reading_numbered {P} true twelve thirty_one file place = go (forward_at file pla
   go failed h = as_failed
   go (refused n) (as_refused h) = as_refused h
 
--- the leaf's `strict-exactly`: 31 where the plain reading finds an incomplete number,
+-- read strictly: 31 where the plain reading finds an incomplete number,
 pub incomplete_refused : (file : List ℕ) (place : ℕ) {number : Numeral} → forward_at file place ≡ found number → is_complete file number ≡ false → reading_of true file place ≡ refused 31
 unfolding reading_of
 incomplete_refused file place e i = sym (S.cut file e i)

@@ -7,7 +7,7 @@ use Rattle.request.specs.{Clock.{Date, Time, utc, instant_at}, Nearest.{Nearest}
 use Rattle.request.specs.declared.read.{Asked.{Asked}, Fix.{Fix}}
 use Rattle.request.specs.declared.read.Asked.TheVariants as R
 
--- ---- same-request
+-- ---- same_request
 untold : Reply Fix → Asked
 untold (given fix) = R.Fix fix
 untold (refused why) = R.Refused why
@@ -21,12 +21,12 @@ untold_told (R.Refused why) = refl
 pub same_request : (text : List ℕ) (r s : Asked) → told r ≡ request_of text → told s ≡ request_of text → r ≡ s
 same_request text r s p q = sym (untold_told r) ∙ ap untold (p ∙ sym q) ∙ untold_told s
 
--- ---- request-refusals
+-- ---- request_refusals
 -- a request is refused with 80 to 84 alone
 pub request_refusals : (text : List ℕ) {why : Refusal} → told (R.Refused why) ≡ request_of text → Listed five_numbers why.number
 request_refusals text e = number_of_lem (request_told text) (sym e)
 
--- ---- request-instant
+-- ---- request_instant
 only_at : (date : Date) (time : Time) → Ranged date time → OnlyAt date time (instant_at (utc date time))
 unfolding CivilOf instant_at
 only_at date time r = let t = in_time time r.time_is in record {
@@ -43,7 +43,7 @@ request_instant text {fix = fix} {spelt = spelt} {date = date} {time = time} e s
     let at : fix.instant ≡ instant_at (utc date time) = ap (λ (x : Fix). x.instant) f.shows ∙ ap (λ (x : Spelt). instant_at x.when) (sym same) ∙ ap instant_at w in
     let civil : Civilly (utc date time) = subst Civilly w (spelt_meant (line_of text) s).civil in subst (OnlyAt date time) (sym at) (only_at date time civil)
 
--- ---- request-nearest
+-- ---- request_nearest
 -- the two floats of a fix are the f32 nearest to the fractions that the request spells, ties to even
 pub request_nearest : (text : List ℕ) {fix : Fix} {spelt : Spelt} → told (R.Fix fix) ≡ request_of text → given spelt ≡ spelt_of (line_of text)
     → Nearest spelt.lat fix.lat × Nearest spelt.lon fix.lon

@@ -3,7 +3,7 @@ use Rattle.numbers.specs.Prelude.{ℕ, length, take, List}
 use Rattle.std.specs.Prelude.{max, ◌≤◌, ◌≡◌}
 use Rattle.shell.specs.{Answer.{Rooms}, Kept.{most, ended, left}, Requests.{last}, Written.{worst}, declared.stream.State.{State}}
 
--- unless writing failed (status 2), the line so far is what the piece leaves, and the status is 1 where a request of it was not stamped
+-- unless the status is 2, the line so far is what the piece leaves, and the status is 1 where a request of it was not stamped
 pub record Served (chunk line : List ℕ) (status : ℕ) (map zones space hits text out : List ℕ) (state : State) : Type 0 where
   pub fits : state.used ≤ most
   pub kept : length space ≡ most

@@ -26,12 +26,12 @@ pub fn too_large(errors: &impl Print, path: &[u8], most: u64) {
 // What the system says of something that failed, without the number that the library puts behind it.
 pub fn broken(errors: &impl Print, what: &[u8], why: &io::Error) {
     let said = InlineText::<320>::of(*why);
-    let words = match said.as_str().rsplit_once(" (os error ") {
-        Some((words, _)) => words,
-        None => said.as_str(),
-    };
+    let words = said.as_str();
+    let end = words.rfind(" (os error ").unwrap_or(words.len());
     let _ = errors.write_all(what);
-    let _ = errors.println(format_args!(": {words}"));
+    let _ = errors.write_all(b": ");
+    let _ = errors.write_all(&words.as_bytes()[..end.min(words.len())]);
+    let _ = errors.write_all(b"\n");
 }
 
 // Of the room for both files.

@@ -1,5 +1,5 @@
 // Standard input in pieces, and a line on standard output for each request.
-ghost use Rattle.std.specs.Prelude.{◌≡◌, ◌≢◌, max, length, take, IfOk, IfSome, OnOk};
+ghost use Rattle.std.specs.Prelude.{◌≡◌, ◌≢◌, ◌≤◌, max, length, take, IfOk, IfSome, OnErr, OnOk};
 ghost use Rattle.std.specs.Io.KnownBytes.{Appends};
 ghost use Rattle.shell.specs.{Answer.{Rooms, hit_words, text_room}, Kept.{most, ended, left}, Requests.{last}};
 ghost use Rattle.shell.specs.{Stream.{Served, Ready, Finished}, Written.{lines_of, worst, written, status_of}};
@@ -62,6 +62,7 @@ fn piece<W: Write>(
         ≡ max status (worst map.now zones.now (ended (take used line.old) chunk.now))) }
     ensures lines { OnOk result (Appends (W.contents writer.old) (W.contents writer.new)
         (lines_of map.now zones.now (ended (take used line.old) chunk.now))) }
+    ensures broken { OnErr result (Ready line.new hits.new text.new out.new 0) }
 {
     let mut at = 0;
     let mut size = used;
@@ -96,6 +97,7 @@ fn finish<W: Write>(
     ensures faults { IfOk result (λ answer. answer ≡ max status (worst map.now zones.now (last request.now))) }
     ensures lines { OnOk result (Appends (W.contents writer.old) (W.contents writer.new)
         (lines_of map.now zones.now (last request.now))) }
+    ensures rooms { Rooms hits.new text.new out.new }
 {
     if request.len() == 0 {
         return Ok(status);
@@ -122,6 +124,7 @@ fn all<R: Read, W: Write>(
         Appends (W.contents writer.old) (W.contents writer.new) (written map.now zones.now input))) }
     ensures status { IfOk result (λ status. IfSome (R.remaining reader.old) (λ input.
         status ≡ status_of map.now zones.now input)) }
+    ensures ready { Ready line.new hits.new text.new out.new 0 }
 {
     let mut chunk = [0u8; 4096];
     let mut used = 0;
@@ -196,6 +199,7 @@ pub fn serve<R: Read, W: Write>(
         Appends (W.contents writer.old) (W.contents writer.new) (written map.now zones.now input)) }
     ensures status { result ≢ 2 → IfSome (R.remaining reader.old) (λ input.
         result ≡ status_of map.now zones.now input) }
+    ensures known { result ≤ 2 }
 {
     let mut line = line_space();
     let mut hits = hit_space();

@@ -11,7 +11,7 @@ use Rattle.tzif.specs.declared.zone.Read.TheVariants as Z
 use Rattle.tzif.specs.declared.local.Answer.TheVariants as A
 use Rattle.tzif.specs.declared.local.LocalTime.TheVariants as L
 
--- ---- last-not-after
+-- ---- last_not_after_lem
 module _ (file : List ℕ) (octets : Octets file) (block : Block) (instant : ℤ) (fits : SFits w64 instant) where
   times : ℕ → ℕ
   times = time_in file (transitions_of block)
@@ -54,7 +54,7 @@ module _ (file : List ℕ) (octets : Octets file) (block : Block) (instant : ℤ
   unfolding is_after_last times
   after_last = ap (λ (t : Bool). ltb 0 block.timecnt && t) (is_before (block.timecnt - 1))
 
--- ---- block-width
+-- ---- block_width
 -- two blocks of whatever widths that have the same times: 48 finds fault with both or neither, and they are searched alike
 pub record BlockWidth (file file' : List ℕ) (block block' : Block) : Type 0 where
   pub check : Rises file (transitions_of block) → Rises file' (transitions_of block')
@@ -72,12 +72,12 @@ block_width file file' o o' block block' n e = record {
   same : (i : ℕ) → i < block.timecnt → time_in file (transitions_of block) i ≡ time_in file' (transitions_of block') i
   same i l = time_is_signed file block.width (time_place block i) o ∙ ap lift (e i l) ∙ sym (time_is_signed file' block'.width (time_place block' i) o')
 
--- ---- first-fault
+-- ---- first_fault
 -- checks index by index are refused exactly with the fault of the least index that has one
 pub first_fault : (check : ℕ → Reply (Unit {0})) (n : ℕ) (why : Refusal) → (refused why ≡ each n check) ↔ Least check n why
 first_fault check n why = (least_fault check n why, fault_of_least)
 
--- ---- same-local-time
+-- ---- same_local_time
 -- two replies that the promise permits are equal, with all of the lent text
 pub same_local_time : (file : List ℕ) (instant : ℤ) (room : ℕ) {r r' : LocalTime} {text text' : List ℕ}
     → replied r text ≡ local_time file instant room → replied r' text' ≡ local_time file instant room → (r ≡ r') × (text ≡ text')

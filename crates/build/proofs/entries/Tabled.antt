@@ -136,16 +136,16 @@ table_stands ns ys xs w t yards is boxes boxes' keys spare spare' o before drawn
     table_over yards boxes' rest keys (omega (arith, o.few, count)) laid order before drawn heads begins places many room eb ep
 
 -- ---- where the records begin, by the yards
-map-map : {A B C : Type 0} (f : A → B) (g : B → C) (xs : List A) → map g (map f xs) ≡ map (λ (x : A). g (f x)) xs
-map-map f g [] = refl
-map-map {C = C} f g (x ∷ xs) = ap (λ (l : List C). g (f x) ∷ l) (map-map f g xs)
+map_map : {A B C : Type 0} (f : A → B) (g : B → C) (xs : List A) → map g (map f xs) ≡ map (λ (x : A). g (f x)) xs
+map_map f g [] = refl
+map_map {C = C} f g (x ∷ xs) = ap (λ (l : List C). g (f x) ∷ l) (map_map f g xs)
 
 pub begins_are : (yards : List Yard) (names : ℕ) (lengths texts : List ℕ) (count : ℕ) → map (λ (y : Yard). y.values) yards ≡ values_to names lengths texts count
     → map (begin_of names lengths texts count) (numbers_from 0 count) ≡ map (λ (y : Yard). start_of (records_of yards) y.values) yards
 unfolding values_to
 begins_are yards names lengths texts count e = let item : ℕ → List Text = λ yard. item_at (starts_from 0 lengths) texts (yard * names) names in
-    sym (map-map item (start_of (firsts same_texts (map item (numbers_from 0 count)))) (numbers_from 0 count))
-    ∙ (ap (λ (vs : List (List Text)). map (start_of (firsts same_texts vs)) vs) (sym e) ∙ map-map (λ (y : Yard). y.values) (start_of (records_of yards)) yards)
+    sym (map_map item (start_of (firsts same_texts (map item (numbers_from 0 count)))) (numbers_from 0 count))
+    ∙ (ap (λ (vs : List (List Text)). map (start_of (firsts same_texts vs)) vs) (sym e) ∙ map_map (λ (y : Yard). y.values) (start_of (records_of yards)) yards)
 
 -- ---- a border for each yard
 pub drawn_many : (version room : ℕ) (sofar : List ℕ) (yards : List Yard) (d : Drawn) → given d ≡ drawn_from version room sofar yards → length d.places ≡ length yards

@@ -75,7 +75,7 @@ unfolding ran
 ran_fresh b [] h = h
 ran_fresh b (call ∷ calls) h = ran_fresh (after b (called b call)) calls (after_fresh b (called b call) h (called_fresh b call))
 
--- what the definition's calls give has fresh totals; of the exported calls uskelzar/proofs/Made says so
+-- what the definition's calls give has fresh totals; of the exported calls office/proofs/Made says so
 pub ran_from_fresh : (plan : Plan) (room : ℕ) (space : Space) (b : Builder) → begin plan room space ≡ given b → (calls : List Call) → (ran b calls).totals ≡ totals_of (ran b calls).plan
 unfolding Gives
 ran_from_fresh plan room space b e calls = ran_fresh b calls (subst Gives e (begin_fresh plan room space))

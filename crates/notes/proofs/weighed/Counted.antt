@@ -43,10 +43,10 @@ item_more starts texts at (suc width) = let e : at + 1 + width ≡ at + suc widt
 -- items of one text
 pub one_text : (starts texts : List ℕ) (a b : ℕ) → same_texts (item_at starts texts a 1) (item_at starts texts b 1) ≡ same_text (text_at starts texts a) (text_at starts texts b)
 unfolding same_by item_at
-one_text starts texts a b = and-true (same_text (text_at starts texts a) (text_at starts texts b)) where
-  and-true : (c : Bool) → (c && true) ≡ c
-  and-true true = refl
-  and-true false = refl
+one_text starts texts a b = and_true (same_text (text_at starts texts a) (text_at starts texts b)) where
+  and_true : (c : Bool) → (c && true) ≡ c
+  and_true true = refl
+  and_true false = refl
 
 pub alike_one : (starts texts : List ℕ) (a b : ℕ) → alike starts texts 1 a b ≡ same_text (text_at starts texts a) (text_at starts texts b)
 unfolding alike
