@@ -1,4 +1,5 @@
 // Numbers in a record, low byte first.
+ghost use Rattle.std.specs.Prelude.{◌≡◌, ◌↔◌, IsTrue};
 
 fn wide(byte: u8) -> u32 {
     u32::from(byte)
@@ -68,7 +69,9 @@ pub fn same_bytes_at(bytes: &[u8], record: &[u8], from: usize) -> bool {
 }
 
 // Whether both are the same bytes.
-pub fn same_bytes(a: &[u8], b: &[u8]) -> bool {
+pub fn same_bytes(a: &[u8], b: &[u8]) -> bool
+    ensures { IsTrue result ↔ (a.now ≡ b.now) }
+{
     a == b
 }
 
