@@ -97,8 +97,8 @@ made_by() {
     fi
 }
 
-# build CRATE: proved and built. rt builds a program where it runs it, on the input that stands beside it; what it prints and how it ends is asked elsewhere.
-build() (
+# prove_crate NAME: proved and built. rt builds a program where it runs it, on the input that stands beside it; what it prints and how it ends is asked elsewhere.
+prove_crate() (
     cd "$root/crates/$1" || exit
     [ -f src/main.rt ] || { rt lib 2>&1; exit; }
     said=$(rt run 2>&1 >/dev/null </dev/null) || :
@@ -119,7 +119,7 @@ prove_by() {
     for each; do
         crate=${each%%:*} at=$((at + 1)) left=$((left - ${each#*:})) began=$(date +%s)
         printf '== %s\n' "$crate" >>"$log"
-        if build "$crate" >>"$log" 9>&- && [ -f "$root/crates/$crate/$(made_by "$crate")" ]; then
+        if prove_crate "$crate" >>"$log" 9>&- && [ -f "$root/crates/$crate/$(made_by "$crate")" ]; then
             took=$(($(date +%s) - began))
             [ "$took" -lt 3 ] || say "$at of $all crates: $crate proved ($took s); about $(minutes "$left") min left"
             continue
