@@ -1,4 +1,3 @@
 pub mod Places
 pub mod Turns
-pub mod Rounds
 pub mod Counts

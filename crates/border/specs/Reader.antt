@@ -4,11 +4,8 @@ use Rattle.numbers.specs.Prelude.{ℕ, zero, suc, eqb, ltb, leb, ℤ, pos, negsu
 use Rattle.numbers.specs.{Answer.{Answer, found, failed, checked, ◌>>=◌}, Point.{low32, signed_of, point_of}, Varint.{Numeral, reading_of, backward_at}, declared.point.RawPoint.{RawPoint}}
 use Rattle.border.specs.{Place.{move_by, is_still, moved_by, negated}, declared.{place.Point.{Point}, reader.{Reader.{Reader}, Run.{Run, TheVariants.{Idle, Forward, Backward}}}}}
 use Rattle.border.specs.declared.reader.Version.{Version, TheVariants.{Plain, Packed}}
-
 -- what a turn comes to: a point, which is the state's own; another turn; the border's end
-pub data Turn : Type 0 where
-  gives again : Reader → Turn
-  ends : Turn
+pub use Rattle.border.specs.declared.reader.Turn.{Turn, TheVariants.{Gives as gives, Again as again, Ended as ends}}
 
 -- reading goes on at a place, with moves that are left, in a run or in none
 abbrev pub onward : Reader → ℕ → ℕ → Run → Reader

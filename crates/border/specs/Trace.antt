@@ -1,13 +1,13 @@
 -- The next point of a border, and the points of a whole border with how it ends.
-use Rattle.std.specs.Prelude.{◌*◌}
+use Rattle.std.specs.Prelude.{◌*◌, Option}
+pub use Rattle.std.specs.Prelude.{Some as reaches, None as ended}
 use Rattle.numbers.specs.{Answer.{Answer, found, ◌>>=◌}, Prelude.{ℕ, zero, suc, pos, length, false, List}}
 use Rattle.border.specs.{Place.{point_at}, Reader.{Turn, gives, again, ends, turn_of}, declared.{place.Point.{Point}, reader.{Encoding.{Encoding}, Reader.{Reader}, Run.TheVariants.{Idle}}}}
 use Rattle.numbers.specs.Answer as A
 
 -- the state at the next point, which is its own; or the border's end
-pub data Given : Type 0 where
-  reaches : Reader → Given
-  ended : Given
+abbrev pub Given : Type 0
+Given = Option Reader
 
 -- a turn that gives no point is followed by the next
 unfoldable pub round_again : (Reader → Answer Given) → Turn → Answer Given

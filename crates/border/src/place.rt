@@ -1,17 +1,19 @@
 // Fixed coordinates. Their scales differ by two, so each has a type of its own.
 ghost use Rattle.std.specs.Prelude.{◌≡◌, ◌^◌};
 ghost use lib.{Dec.{ltb}, Signed.{mag}};
-ghost use Rattle.border.specs.{Place.{is_still, moved_by, negated}, inner.Told.{told_moved, told_away}};
+ghost use Rattle.border.specs.{Place.{is_still, moved_by, negated}};
+ghost use Rattle.numbers.specs.Varint.{told};
 
 use numbers::point::RawPoint;
+use numbers::varint::Stop;
 
-#[derive(Clone, Copy)]
+#[derive(Clone, Copy, PartialEq, Eq, PartialOrd, Ord)]
 pub struct FixedLat(pub i32);
 
-#[derive(Clone, Copy)]
+#[derive(Clone, Copy, PartialEq, Eq, PartialOrd, Ord)]
 pub struct FixedLon(pub i32);
 
-#[derive(Clone, Copy)]
+#[derive(Clone, Copy, PartialEq, Eq)]
 pub struct Point {
     pub lat: FixedLat,
     pub lon: FixedLon,
@@ -24,57 +26,30 @@ pub fn fits_i32(wide: i64) -> bool
     -2147483648 <= wide && wide <= 2147483647
 }
 
-#[derive(Clone, Copy)]
-pub(crate) enum Moved {
-    To(Point),
-    Over,
-}
-
 // The point that a move leads to.
-pub(crate) fn move_by(p: Point, by: RawPoint) -> Moved
-    ensures { told_moved result ≡ moved_by p by }
+pub(crate) fn move_by(p: Point, by: RawPoint) -> Result<Point, Stop>
+    ensures { told result ≡ moved_by p by }
 {
-    let lat = (p.lat.0 as i64) + (by.lat as i64);
-    if !fits_i32(lat) {
-        return Moved::Over;
-    }
-    let lon = (p.lon.0 as i64) + (by.lon as i64);
-    if !fits_i32(lon) {
-        return Moved::Over;
-    }
-    Moved::To(Point {
-        lat: FixedLat(lat as i32),
-        lon: FixedLon(lon as i32),
+    let lat = p.lat.0.checked_add(by.lat).ok_or(Stop::OutOfRange)?;
+    let lon = p.lon.0.checked_add(by.lon).ok_or(Stop::OutOfRange)?;
+    Ok(Point {
+        lat: FixedLat(lat),
+        lon: FixedLon(lon),
     })
-}
-
-#[derive(Clone, Copy)]
-pub enum Away {
-    By(RawPoint),
-    Over,
 }
 
 // The move back.
-pub fn negate(by: RawPoint) -> Away
-    ensures { told_away result ≡ negated by }
+pub fn negate(by: RawPoint) -> Result<RawPoint, Stop>
+    ensures { told result ≡ negated by }
 {
-    let lat = 0 - (by.lat as i64);
-    if !fits_i32(lat) {
-        return Away::Over;
-    }
-    let lon = 0 - (by.lon as i64);
-    if !fits_i32(lon) {
-        return Away::Over;
-    }
-    Away::By(RawPoint {
-        lat: lat as i32,
-        lon: lon as i32,
-    })
+    let lat = by.lat.checked_neg().ok_or(Stop::OutOfRange)?;
+    let lon = by.lon.checked_neg().ok_or(Stop::OutOfRange)?;
+    Ok(RawPoint { lat, lon })
 }
 
 // Whether a move is two zeros.
 pub fn is_still(by: RawPoint) -> bool
     ensures { result ≡ is_still by }
 {
-    by.lat == 0 && by.lon == 0
+    by == RawPoint { lat: 0, lon: 0 }
 }

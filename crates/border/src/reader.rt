@@ -1,14 +1,12 @@
 // Reading a border's points, one at a time. The state is plain data; the file's bytes and its encoding stand beside it.
 ghost use Rattle.std.specs.Prelude.{◌≡◌, pos, negsuc};
-ghost use Rattle.numbers.specs.{Answer.{found}, Varint.{reading_of}};
-ghost use Rattle.numbers.specs.Varint as varint;
+ghost use Rattle.numbers.specs.{Answer.{found}, Varint.{told, reading_of}};
 ghost use Rattle.border.specs.Reader.{onward, arrived, closing, advanced, shown_by, plain_move, plain_pair, plain_turn, data_place, as_i64, opened, reference, marker, forward_from, backward_from, packed_turn, turn_of};
-ghost use Rattle.border.specs.{inner.Told.{counted, stopped, told_run, told_turn, told, settled_by, stepped_by}, Trace.{next_point, border_at}};
+ghost use Rattle.border.specs.{inner.Told.{counted, shown_of, left_by}, Trace.{next_point, border_at}};
 
-use crate::place::{Away, FixedLat, FixedLon, Moved, Point, is_still, move_by, negate};
+use crate::place::{FixedLat, FixedLon, Point, is_still, move_by, negate};
 use numbers::point::{RawPoint, decode_point, signed};
-use numbers::refusal::OUT_OF_RANGE;
-use numbers::varint::{Number, Varint, read_backward, read_number};
+use numbers::varint::{Number, Stop, read_backward, read_number};
 
 // How borders are written: version 0 and version 1.
 #[derive(Clone, Copy)]
@@ -48,25 +46,12 @@ pub struct Reader {
     pub run: Run,
 }
 
-// One turn of the reader's loop. The point that is given is the state's own.
+// One turn of the reader's loop, which the definitions of the crates above name. The point that is given is the state's own.
 #[derive(Clone, Copy)]
-enum Turn {
+pub enum Turn {
     Gives(Reader),
     Again(Reader),
     Ended,
-    Failed,
-    Refused(u8),
-}
-
-// The turn's answer where a number could not be read.
-fn stop(n: Varint) -> Turn
-    ensures { told_turn result ≡ stopped n }
-{
-    match n {
-        Varint::Refused(number) => Turn::Refused(number),
-        Varint::Failed => Turn::Failed,
-        Varint::Number(_) => Turn::Failed,
-    }
 }
 
 // The state at a point that was reached; the first one is kept to close with.
@@ -114,53 +99,49 @@ fn close(reader: Reader, place: usize, moves: u64) -> Reader
 }
 
 // Version 1: the point moves; `place` and `run` say where reading goes on.
-fn advance(reader: Reader, place: usize, run: Run, by: RawPoint) -> Turn
-    ensures { told_turn result ≡ advanced (onward reader place reader.moves run) by }
+fn advance(reader: Reader, place: usize, run: Run, by: RawPoint) -> Result<Turn, Stop>
+    ensures { told result ≡ advanced (onward reader place reader.moves run) by }
 {
     let here = reader.point;
-    let Moved::To(point) = move_by(here, by) else {
-        return Turn::Refused(OUT_OF_RANGE);
-    };
-    Turn::Gives(arrive(reader, place, reader.moves, run, point))
+    let point = move_by(here, by)?;
+    Ok(Turn::Gives(arrive(reader, place, reader.moves, run, point)))
 }
 
 // A zero move gives no point, and as the closing pair none either.
-fn shown(reader: Reader, by: RawPoint) -> Turn
-    ensures { told_turn result ≡ found (shown_by by reader) }
+fn shown(reader: Reader, by: RawPoint) -> Result<Turn, Stop>
+    ensures { told result ≡ found (shown_by by reader) }
 {
     if is_still(by) {
-        Turn::Again(reader)
+        Ok(Turn::Again(reader))
     } else {
-        Turn::Gives(reader)
+        Ok(Turn::Gives(reader))
     }
 }
 
 // Version 0: a move, which counts; past the last one the closing point.
-fn plain_move(reader: Reader, place: usize, moves: u64, by: RawPoint) -> Turn
-    ensures { told_turn result ≡ plain_move (onward reader place moves Run.Idle) by }
+fn plain_move(reader: Reader, place: usize, moves: u64, by: RawPoint) -> Result<Turn, Stop>
+    ensures { told result ≡ plain_move (onward reader place moves Run.Idle) by }
 {
     if moves == 0 {
         return shown(close(reader, place, moves), by);
     }
     let here = reader.point;
-    let Moved::To(point) = move_by(here, by) else {
-        return Turn::Refused(OUT_OF_RANGE);
-    };
+    let point = move_by(here, by)?;
     shown(arrive(reader, place, moves - 1, Run::Idle, point), by)
 }
 
 // Version 0: the two signed numbers of a move or of the closing pair.
-fn plain_pair(file: &[u8], strict: bool, reader: Reader, place: usize, moves: u64) -> Turn
-    ensures { told_turn result ≡ plain_pair (reading_of strict file.now) (onward reader place moves Run.Idle) }
+fn plain_pair(
+    file: &[u8],
+    strict: bool,
+    reader: Reader,
+    place: usize,
+    moves: u64,
+) -> Result<Turn, Stop>
+    ensures { told result ≡ plain_pair (reading_of strict file.now) (onward reader place moves Run.Idle) }
 {
-    let n = read_number(file, place, strict);
-    let Varint::Number(lat) = n else {
-        return stop(n);
-    };
-    let m = read_number(file, lat.place, strict);
-    let Varint::Number(lon) = m else {
-        return stop(m);
-    };
+    let lat = read_number(file, place, strict)?;
+    let lon = read_number(file, lat.place, strict)?;
     let by = RawPoint {
         lat: signed(lat.value),
         lon: signed(lon.value),
@@ -169,42 +150,29 @@ fn plain_pair(file: &[u8], strict: bool, reader: Reader, place: usize, moves: u6
 }
 
 // Version 0: the moves that are left, and where the next pair stands. The count comes before the first move.
-fn moves_left(file: &[u8], strict: bool, reader: Reader) -> Varint
-    ensures { varint.told result ≡ counted (reading_of strict file.now) reader }
+fn moves_left(file: &[u8], strict: bool, reader: Reader) -> Result<Number, Stop>
+    ensures { told result ≡ counted (reading_of strict file.now) reader }
 {
     let place = reader.place;
     if reader.begun {
-        return Varint::Number(Number {
+        return Ok(Number {
             value: reader.moves,
             place,
         });
     }
-    let n = read_number(file, place, strict);
-    let Varint::Number(count) = n else {
-        return n;
-    };
+    let count = read_number(file, place, strict)?;
     if count.value == 0 {
-        return Varint::Failed;
+        return Err(Stop::Failed);
     }
-    n
+    Ok(count)
 }
 
 // The one call of `plain_pair`: with a second one it would not be compiled in line.
-fn plain_turn(file: &[u8], strict: bool, reader: Reader) -> Turn
-    ensures { told_turn result ≡ plain_turn (reading_of strict file.now) reader }
+fn plain_turn(file: &[u8], strict: bool, reader: Reader) -> Result<Turn, Stop>
+    ensures { told result ≡ plain_turn (reading_of strict file.now) reader }
 {
-    let n = moves_left(file, strict, reader);
-    let Varint::Number(moves) = n else {
-        return stop(n);
-    };
+    let moves = moves_left(file, strict, reader)?;
     plain_pair(file, strict, reader, moves.place, moves.value)
-}
-
-// A reference, or that its end leaves the i64.
-#[derive(Clone, Copy)]
-enum Opened {
-    Run(Run),
-    Over,
 }
 
 // The place `n` bytes into the data section, modulo 2^32.
@@ -215,39 +183,39 @@ fn data_place(base: u32, n: u64) -> usize
 }
 
 // A reference of `size` bytes; 0 opens none.
-fn open_forward(base: u32, start: u64, size: u32) -> Opened
-    ensures { told_run result ≡ opened base (as_i64 start) (pos size) }
+fn open_forward(base: u32, start: u64, size: u32) -> Result<Run, Stop>
+    ensures { told result ≡ opened base (as_i64 start) (pos size) }
 {
     if size == 0 {
-        return Opened::Run(Run::Idle);
+        return Ok(Run::Idle);
     }
     if start < 0x8000_0000_0000_0000 {
         if 0x8000_0000_0000_0000 <= start + size as u64 {
-            return Opened::Over;
+            return Err(Stop::OutOfRange);
         }
     }
     let next = data_place(base, start);
     let end = data_place(base, start % 0x1_0000_0000 + size as u64);
-    Opened::Run(Run::Forward { next, end })
+    Ok(Run::Forward { next, end })
 }
 
 // A backward reference of `more` and one bytes; it starts and ends one byte lower.
-fn open_backward(base: u32, start: u64, more: u32) -> Opened
-    ensures { told_run result ≡ opened base (as_i64 start) (negsuc more) }
+fn open_backward(base: u32, start: u64, more: u32) -> Result<Run, Stop>
+    ensures { told result ≡ opened base (as_i64 start) (negsuc more) }
 {
     if 0x8000_0000_0000_0000 <= start {
         if start - 0x8000_0000_0000_0000 <= more as u64 {
-            return Opened::Over;
+            return Err(Stop::OutOfRange);
         }
     }
     let before = start % 0x1_0000_0000 + 0xffff_ffff;
     let next = data_place(base, before);
     let end = data_place(base, before + (0xffff_ffff - more) as u64);
-    Opened::Run(Run::Backward { next, end })
+    Ok(Run::Backward { next, end })
 }
 
-fn open_run(base: u32, start: u64, length: i32) -> Opened
-    ensures { told_run result ≡ opened base (as_i64 start) length }
+fn open_run(base: u32, start: u64, length: i32) -> Result<Run, Stop>
+    ensures { told result ≡ opened base (as_i64 start) length }
 {
     if length < 0 {
         open_backward(base, start, (-1 - length) as u32)
@@ -257,21 +225,19 @@ fn open_run(base: u32, start: u64, length: i32) -> Opened
 }
 
 // Version 1, after 0 and 1.
-fn open_reference(file: &[u8], base: u32, strict: bool, reader: Reader, place: usize) -> Turn
-    ensures { told_turn result ≡ reference (reading_of strict file.now) base (onward reader place reader.moves Run.Idle) }
+fn open_reference(
+    file: &[u8],
+    base: u32,
+    strict: bool,
+    reader: Reader,
+    place: usize,
+) -> Result<Turn, Stop>
+    ensures { told result ≡ reference (reading_of strict file.now) base (onward reader place reader.moves Run.Idle) }
 {
-    let n = read_number(file, place, strict);
-    let Varint::Number(start) = n else {
-        return stop(n);
-    };
-    let m = read_number(file, start.place, strict);
-    let Varint::Number(length) = m else {
-        return stop(m);
-    };
-    let Opened::Run(run) = open_run(base, start.value, signed(length.value)) else {
-        return Turn::Refused(OUT_OF_RANGE);
-    };
-    Turn::Again(go_on(reader, length.place, run))
+    let start = read_number(file, place, strict)?;
+    let length = read_number(file, start.place, strict)?;
+    let run = open_run(base, start.value, signed(length.value))?;
+    Ok(Turn::Again(go_on(reader, length.place, run)))
 }
 
 // Reading goes on at a place, in a run.
@@ -292,32 +258,32 @@ fn go_on(reader: Reader, place: usize, run: Run) -> Reader
 }
 
 // Version 1, after 0.
-fn read_marker(file: &[u8], base: u32, strict: bool, reader: Reader, place: usize) -> Turn
-    ensures { told_turn result ≡ marker (reading_of strict file.now) base (onward reader place reader.moves Run.Idle) }
+fn read_marker(
+    file: &[u8],
+    base: u32,
+    strict: bool,
+    reader: Reader,
+    place: usize,
+) -> Result<Turn, Stop>
+    ensures { told result ≡ marker (reading_of strict file.now) base (onward reader place reader.moves Run.Idle) }
 {
-    let n = read_number(file, place, strict);
-    let Varint::Number(mark) = n else {
-        return stop(n);
-    };
+    let mark = read_number(file, place, strict)?;
     if mark.value == 0 {
-        return Turn::Gives(close(reader, mark.place, reader.moves));
+        return Ok(Turn::Gives(close(reader, mark.place, reader.moves)));
     }
     if mark.value == 1 {
         return open_reference(file, base, strict, reader, mark.place);
     }
     let here = reader.point;
-    Turn::Gives(arrive(reader, mark.place, reader.moves, Run::Idle, here))
+    Ok(Turn::Gives(arrive(reader, mark.place, reader.moves, Run::Idle, here)))
 }
 
 // Version 1, outside a reference.
-fn read_move(file: &[u8], base: u32, strict: bool, reader: Reader) -> Turn
-    ensures { told_turn result ≡ packed_turn Run.Idle (reading_of strict file.now) file.now base reader }
+fn read_move(file: &[u8], base: u32, strict: bool, reader: Reader) -> Result<Turn, Stop>
+    ensures { told result ≡ packed_turn Run.Idle (reading_of strict file.now) file.now base reader }
 {
     let place = reader.place;
-    let n = read_number(file, place, strict);
-    let Varint::Number(number) = n else {
-        return stop(n);
-    };
+    let number = read_number(file, place, strict)?;
     if number.value == 0 {
         return read_marker(file, base, strict, reader, number.place);
     }
@@ -353,15 +319,12 @@ fn run_forward(
     reader: Reader,
     next: usize,
     end: usize,
-) -> Turn
-    ensures { told_turn result ≡ packed_turn (Run.Forward next end) (reading_of strict file.now) file.now base reader }
+) -> Result<Turn, Stop>
+    ensures { told result ≡ packed_turn (Run.Forward next end) (reading_of strict file.now) file.now base reader }
 {
-    let n = read_number(file, next, strict);
-    let Varint::Number(ahead) = n else {
-        return stop(n);
-    };
+    let ahead = read_number(file, next, strict)?;
     if ahead.value == 0 {
-        return Turn::Failed;
+        return Err(Stop::Failed);
     }
     let run = forward_from(ahead.place, end);
     advance(reader, reader.place, run, decode_point(ahead.value))
@@ -375,24 +338,19 @@ fn run_backward(
     reader: Reader,
     next: usize,
     end: usize,
-) -> Turn
-    ensures { told_turn result ≡ packed_turn (Run.Backward next end) (reading_of strict file.now) file.now base reader }
+) -> Result<Turn, Stop>
+    ensures { told result ≡ packed_turn (Run.Backward next end) (reading_of strict file.now) file.now base reader }
 {
-    let n = read_backward(file, next);
-    let Varint::Number(behind) = n else {
-        return stop(n);
-    };
+    let behind = read_backward(file, next)?;
     if behind.value == 0 {
-        return Turn::Failed;
+        return Err(Stop::Failed);
     }
-    let Away::By(by) = negate(decode_point(behind.value)) else {
-        return Turn::Refused(OUT_OF_RANGE);
-    };
+    let by = negate(decode_point(behind.value))?;
     advance(reader, reader.place, backward_from(behind.place, end), by)
 }
 
-fn packed_turn(file: &[u8], base: u32, strict: bool, reader: Reader) -> Turn
-    ensures { told_turn result ≡ packed_turn reader.run (reading_of strict file.now) file.now base reader }
+fn packed_turn(file: &[u8], base: u32, strict: bool, reader: Reader) -> Result<Turn, Stop>
+    ensures { told result ≡ packed_turn reader.run (reading_of strict file.now) file.now base reader }
 {
     let run = reader.run;
     match run {
@@ -402,11 +360,11 @@ fn packed_turn(file: &[u8], base: u32, strict: bool, reader: Reader) -> Turn
     }
 }
 
-fn turn_once(file: &[u8], encoding: Encoding, reader: Reader) -> Turn
-    ensures { told_turn result ≡ turn_of encoding.strict file.now encoding.version encoding.«data» reader }
+fn turn_once(file: &[u8], encoding: Encoding, reader: Reader) -> Result<Turn, Stop>
+    ensures { told result ≡ turn_of encoding.strict file.now encoding.version encoding.«data» reader }
 {
     if reader.closed {
-        return Turn::Ended;
+        return Ok(Turn::Ended);
     }
     let version = encoding.version;
     match version {
@@ -415,39 +373,17 @@ fn turn_once(file: &[u8], encoding: Encoding, reader: Reader) -> Turn
     }
 }
 
-// The next point of a border, which is the state's own.
-#[derive(Clone, Copy)]
-pub enum Next {
-    Point(Reader),
-    Ended,
-    Failed,
-    Refused(u8),
-}
-
-// A turn that does not go round again.
-fn settled(t: Turn) -> Next
-    ensures { told result ≡ settled_by t }
-{
-    match t {
-        Turn::Gives(reader) => Next::Point(reader),
-        Turn::Refused(number) => Next::Refused(number),
-        Turn::Ended => Next::Ended,
-        Turn::Failed => Next::Failed,
-        Turn::Again(_) => Next::Failed,
-    }
-}
-
-// The next point of a border. The file's bytes and its encoding are the same from point to point.
-pub fn next_point(file: &[u8], encoding: Encoding, reader: Reader) -> Next
+// The state at the next point of a border, which is its own; None at the border's end. The file's bytes and its encoding are the same from point to point.
+pub fn next_point(file: &[u8], encoding: Encoding, reader: Reader) -> Result<Option<Reader>, Stop>
     ensures { told result ≡ next_point file.now encoding reader }
 {
     let mut state = reader;
     loop {
-        let t = turn_once(file, encoding, state);
-        let Turn::Again(later) = t else {
-            return settled(t);
-        };
-        state = later;
+        match turn_once(file, encoding, state)? {
+            Turn::Again(later) => state = later,
+            Turn::Gives(later) => return Ok(Some(later)),
+            Turn::Ended => return Ok(None),
+        }
     }
 }
 
@@ -470,56 +406,18 @@ pub fn open_border(place: usize) -> Reader
     }
 }
 
-// What the thin form answers.
-#[derive(Clone, Copy)]
-pub enum Reply {
-    Point(Point),
-    Ended,
-    Failed,
-    Refused(u8),
-}
-
-// A reply beside the state after it.
-#[derive(Clone, Copy)]
-struct Stepped {
-    reader: Reader,
-    reply: Reply,
-}
-
-// The end, a failure and a refusal leave the state as it was.
-fn step(file: &[u8], encoding: Encoding, reader: Reader) -> Stepped
-    ensures { result ≡ stepped_by reader (next_point file.now encoding reader) }
+// The thin form: the next point, to which the lent state goes on. The end, a failure and a refusal leave the state as it was.
+pub fn reader_get_point(
+    file: &[u8],
+    encoding: Encoding,
+    reader: &mut Reader,
+) -> Result<Option<Point>, Stop>
+    ensures { (told result ≡ shown_of (next_point file.now encoding reader.old))
+        × (reader.new ≡ left_by reader.old (next_point file.now encoding reader.old)) }
 {
-    let n = next_point(file, encoding, reader);
-    match n {
-        Next::Point(later) => {
-            let point = later.point;
-            Stepped {
-                reader: later,
-                reply: Reply::Point(point),
-            }
-        }
-        Next::Ended => Stepped {
-            reader,
-            reply: Reply::Ended,
-        },
-        Next::Failed => Stepped {
-            reader,
-            reply: Reply::Failed,
-        },
-        Next::Refused(number) => Stepped {
-            reader,
-            reply: Reply::Refused(number),
-        },
-    }
-}
-
-// The thin form: the lent state goes through `step` and back.
-pub fn reader_get_point(file: &[u8], encoding: Encoding, reader: &mut Reader) -> Reply
-    ensures { (result ≡ (stepped_by reader.old (next_point file.now encoding reader.old)).reply)
-        × (reader.new ≡ (stepped_by reader.old (next_point file.now encoding reader.old)).reader) }
-{
-    let stepped = step(file, encoding, *reader);
-    *reader = stepped.reader;
-    stepped.reply
+    let Some(later) = next_point(file, encoding, *reader)? else {
+        return Ok(None);
+    };
+    *reader = later;
+    Ok(Some(later.point))
 }

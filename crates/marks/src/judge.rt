@@ -1,20 +1,18 @@
 // A border's verdict by its marks: only stretches are read whose box, and whose group's, holds the location or, with the distance, is not far from it.
-ghost use Rattle.std.specs.Prelude.{◌≡◌, ◌+◌, ◌*◌, ◌≤◌, ◌<◌, min, length};
+ghost use Rattle.std.specs.Prelude.{IfSome, None, ◌≡◌, ◌+◌, ◌*◌, ◌≤◌, ◌<◌, min, length};
 ghost use Rattle.verdict.specs.{Distance.{to_vertex}, Verdict.{told, closed_at, then_on}};
 ghost use Rattle.verdict.specs.Step as step;
 ghost use Rattle.marks.specs.{Judging.{can_pass, stretch_by, end_in, points_by, stretches_by, groups_by, count_in, judged_from, nearer_by, nearest_of, near_in, is_below, judged_by}, Marks.{group_wide, groups_of}, Words.{low_in, high_in}};
 
-use crate::words::{MARK, STRETCH, groups_of, point_at, state_at, wide};
+use crate::words::{MARK, STRETCH, groups_of, point_at, state_at};
 use border::place::{FixedLat, FixedLon, Point};
 use border::reader::Encoding;
+use numbers::fault::Fault;
 use verdict::afar::is_afar;
-use verdict::distance::{Distance, to_vertex};
+use verdict::distance::to_vertex;
 use verdict::edge::{in_box, same_point};
 use verdict::judge::{Judged, closed, leap, on_border, pass_edges, stopped};
-use verdict::step::{Passed, Tally, Verdict};
-
-// The refusal of words that are no marks.
-pub const NO_MARKS: u8 = 36;
+use verdict::step::{Halt, Tally, Verdict};
 
 // Whether a stretch with such a box is passed as its one edge.
 fn can_pass(fix: Point, asked: bool, least: u64, low: Point, high: Point) -> bool
@@ -23,44 +21,7 @@ fn can_pass(fix: Point, asked: bool, least: u64, low: Point, high: Point) -> boo
     if in_box(low, fix, high) {
         return false;
     }
-    if asked {
-        return is_afar(fix, least, low, high);
-    }
-    true
-}
-
-// Whether the stretch of a mark is.
-fn is_passed(fix: Point, asked: bool, words: &[u32], at: usize, least: u64) -> bool
-    requires { at + 11 ≤ length words.now }
-    ensures { result ≡ can_pass fix asked least (low_in words.now at) (high_in words.now at) }
-{
-    let low = point_at(words, at);
-    let high = point_at(words, at + 2);
-    can_pass(fix, asked, least, low, high)
-}
-
-// The stretch of a mark, which leads to a point.
-fn pass_stretch(
-    file: &[u8],
-    encoding: Encoding,
-    fix: Point,
-    asked: bool,
-    words: &[u32],
-    first: Point,
-    at: usize,
-    to: Point,
-    tally: Tally,
-) -> Passed
-    requires { at + 11 ≤ length words.now }
-    ensures { step.told result ≡ stretch_by file.now encoding fix asked words.now first at to
-        (points_by file.now encoding fix asked words.now first at) tally }
-{
-    if is_passed(fix, asked, words, at, tally.least) {
-        let from = point_at(words, at + 4);
-        return leap(fix, from, to, tally);
-    }
-    let start = state_at(words, at, first);
-    pass_edges(file, encoding, fix, asked, STRETCH, start, tally)
+    !asked || is_afar(fix, least, low, high)
 }
 
 // Where a stretch leads that has so many behind it.
@@ -74,135 +35,138 @@ fn end_at(words: &[u32], last: Point, behind: usize, at: usize) -> Point
     point_at(words, at + MARK + 4)
 }
 
-// So many stretches, which lead to a point.
-fn pass_stretches(
-    file: &[u8],
-    encoding: Encoding,
-    fix: Point,
-    asked: bool,
-    words: &[u32],
-    first: Point,
-    count: usize,
-    place: usize,
-    end: Point,
-    tally: Tally,
-) -> Passed
-    requires { place + 11 * count ≤ length words.now }
-    ensures { step.told result ≡ stretches_by file.now encoding fix asked words.now first count place end tally }
-{
-    let mut left = count;
-    let mut at = place;
-    let mut counted = tally;
-    while left > 0 {
-        left -= 1;
-        let to = end_at(words, end, left, at);
-        let passed = pass_stretch(file, encoding, fix, asked, words, first, at, to, counted);
-        let Passed::On(on) = passed else {
-            return passed;
-        };
-        at += MARK;
-        counted = on;
-    }
-    Passed::On(counted)
+// A border with its marks and its first point, and the location that is asked for.
+#[derive(Clone, Copy)]
+pub(crate) struct Course<'a> {
+    pub file: &'a [u8],
+    pub encoding: Encoding,
+    pub fix: Point,
+    pub asked: bool,
+    pub words: &'a [u32],
+    pub first: Point,
 }
 
-// A group, which leads to a point, with so many stretches inside.
-fn pass_group(
-    file: &[u8],
-    encoding: Encoding,
-    fix: Point,
-    asked: bool,
-    words: &[u32],
-    first: Point,
-    at: usize,
-    few: usize,
-    fine: usize,
-    to: Point,
-    tally: Tally,
-) -> Passed
-    requires { (at + 11 ≤ length words.now) × (fine + 11 * few ≤ length words.now) }
-    ensures { step.told result ≡ stretch_by file.now encoding fix asked words.now first at to
-        (stretches_by file.now encoding fix asked words.now first few fine to) tally }
-{
-    if is_passed(fix, asked, words, at, tally.least) {
-        let from = point_at(words, at + 4);
-        return leap(fix, from, to, tally);
+impl Course<'_> {
+    // Whether the stretch of a mark is passed as its one edge.
+    fn is_passed(self, at: usize, least: u64) -> bool
+        requires { at + 11 ≤ length self.words.now }
+        ensures { result ≡ can_pass self.entry.fix self.entry.asked least (low_in self.entry.words.now at) (high_in self.entry.words.now at) }
+    {
+        let low = point_at(self.words, at);
+        let high = point_at(self.words, at + 2);
+        can_pass(self.fix, self.asked, least, low, high)
     }
-    pass_stretches(
-        file, encoding, fix, asked, words, first, few, fine, to, tally,
-    )
-}
 
-// How many of the stretches that are left are in the next group.
-fn few_of(left: usize) -> usize
-    ensures { result ≡ min group_wide left }
-{
-    if left < 16 {
-        return left;
+    // The stretch of a mark, which leads to a point.
+    fn pass_stretch(self, at: usize, to: Point, tally: Tally) -> Result<Tally, Halt>
+        requires { at + 11 ≤ length self.words.now }
+        ensures { step.told result ≡ stretch_by self.entry.file.now self.entry.encoding self.entry.fix self.entry.asked self.entry.words.now self.entry.first at to
+            (points_by self.entry.file.now self.entry.encoding self.entry.fix self.entry.asked self.entry.words.now self.entry.first at) tally }
+    {
+        if self.is_passed(at, tally.least) {
+            let from = point_at(self.words, at + 4);
+            return leap(self.fix, from, to, tally);
+        }
+        let start = state_at(self.words, at, self.first);
+        pass_edges(
+            self.file,
+            self.encoding,
+            self.fix,
+            self.asked,
+            STRETCH,
+            start,
+            tally,
+        )
     }
-    16
-}
 
-// All groups of so many stretches, whose marks stand from a place on.
-fn pass_groups(
-    file: &[u8],
-    encoding: Encoding,
-    fix: Point,
-    asked: bool,
-    words: &[u32],
-    first: Point,
-    count: usize,
-    place: usize,
-    tally: Tally,
-) -> Passed
-    requires { place + 11 * (count + groups_of count) ≤ length words.now }
-    ensures { step.told result ≡ groups_by file.now encoding fix asked words.now first (groups_of count) (place + count * 11) count place tally }
-{
-    let mut groups = groups_of(count);
-    let mut at = place + count * MARK;
-    let mut left = count;
-    let mut fine = place;
-    let mut counted = tally;
-    while groups > 0 {
-        groups -= 1;
-        let few = few_of(left);
-        let to = end_at(words, first, groups, at);
-        let passed = pass_group(
-            file, encoding, fix, asked, words, first, at, few, fine, to, counted,
-        );
-        let Passed::On(on) = passed else {
-            return passed;
-        };
-        at += MARK;
-        left -= few;
-        fine += few * MARK;
-        counted = on;
+    // So many stretches, which lead to a point.
+    fn pass_stretches(
+        self,
+        count: usize,
+        place: usize,
+        end: Point,
+        tally: Tally,
+    ) -> Result<Tally, Halt>
+        requires { place + 11 * count ≤ length self.words.now }
+        ensures { step.told result ≡ stretches_by self.entry.file.now self.entry.encoding self.entry.fix self.entry.asked self.entry.words.now self.entry.first count place end tally }
+    {
+        let mut at = place;
+        let mut counted = tally;
+        for left in (0..count).rev() {
+            let to = end_at(self.words, end, left, at);
+            counted = self.pass_stretch(at, to, counted)?;
+            at += MARK;
+        }
+        Ok(counted)
     }
-    Passed::On(counted)
+
+    // A group, which leads to a point, with so many stretches inside.
+    fn pass_group(
+        self,
+        at: usize,
+        few: usize,
+        fine: usize,
+        to: Point,
+        tally: Tally,
+    ) -> Result<Tally, Halt>
+        requires { (at + 11 ≤ length self.words.now) × (fine + 11 * few ≤ length self.words.now) }
+        ensures { step.told result ≡ stretch_by self.entry.file.now self.entry.encoding self.entry.fix self.entry.asked self.entry.words.now self.entry.first at to
+            (stretches_by self.entry.file.now self.entry.encoding self.entry.fix self.entry.asked self.entry.words.now self.entry.first few fine to) tally }
+    {
+        if self.is_passed(at, tally.least) {
+            let from = point_at(self.words, at + 4);
+            return leap(self.fix, from, to, tally);
+        }
+        self.pass_stretches(few, fine, to, tally)
+    }
+
+    // All groups of so many stretches, whose marks stand from a place on.
+    fn pass_groups(self, count: usize, place: usize, tally: Tally) -> Result<Tally, Halt>
+        requires { place + 11 * (count + groups_of count) ≤ length self.words.now }
+        ensures { step.told result ≡ groups_by self.entry.file.now self.entry.encoding self.entry.fix self.entry.asked self.entry.words.now self.entry.first (groups_of count) (place + count * 11) count place tally }
+    {
+        let mut at = place + count * MARK;
+        let mut left = count;
+        let mut fine = place;
+        let mut counted = tally;
+        for groups in (0..groups_of(count)).rev() {
+            let few = left.min(16);
+            let to = end_at(self.words, self.first, groups, at);
+            counted = self.pass_group(at, few, fine, to, counted)?;
+            at += MARK;
+            left -= few;
+            fine += few * MARK;
+        }
+        Ok(counted)
+    }
 }
 
 // What is said of a border that was passed so.
-fn answer(passed: Passed, asked: bool, least: u64) -> Judged
+fn answer(passed: Result<Tally, Halt>, asked: bool, least: u64) -> Result<Judged, Fault>
     ensures { told result ≡ then_on asked least (step.told passed) (closed_at asked) }
 {
-    let Passed::On(tally) = passed else {
-        return stopped(passed, asked, least);
-    };
-    closed(asked, tally)
+    match passed {
+        Ok(tally) => Ok(closed(asked, tally)),
+        Err(halt) => stopped(halt, asked, least),
+    }
 }
 
-// How many stretches have their marks, and those of their groups, from a place of the words on; 0 where there is no room for as many as it says.
-fn count_at(words: &[u32], at: usize) -> usize
-    ensures { (result ≡ count_in words.now at) × (0 < result → at + 1 + 11 * (result + groups_of result) ≤ length words.now) }
+// How many stretches have their marks, and those of their groups, from a place of the words on; None where there is none, or no room for as many as it says.
+fn count_at(words: &[u32], at: usize) -> Option<usize>
+    ensures some { IfSome result (λ n. (0 < n) × (n ≡ count_in words.now at) × (at + 1 + 11 * (n + groups_of n) ≤ length words.now)) }
+    ensures none { result ≡ None → 0 ≡ count_in words.now at }
 {
     if words.len() <= at {
-        return 0;
+        return None;
     }
-    let count = wide(words[at]);
+    let count = words[at] as usize;
+    if count == 0 {
+        return None;
+    }
     if (words.len() - (at + 1)) / MARK < count + groups_of(count) {
-        return 0;
+        return None;
     }
-    count
+    Some(count)
 }
 
 // From a least distance on.
@@ -214,22 +178,27 @@ fn judge_from(
     fix: Point,
     asked: bool,
     least: u64,
-) -> Judged
+) -> Result<Judged, Fault>
     ensures { told result ≡ judged_from file.now encoding words.now at fix asked least }
 {
-    let count = count_at(words, at);
-    if count == 0 {
-        return Judged::Refused(NO_MARKS);
-    }
+    let Some(count) = count_at(words, at) else {
+        return Err(Fault::OtherIndex);
+    };
     let place = at + 1;
     let first = point_at(words, place + 4);
     if same_point(first, fix) {
-        return on_border(Verdict::OnBorderVertex, asked, least);
+        return Ok(on_border(Verdict::OnBorderVertex, asked, least));
     }
     let tally = Tally { winding: 0, least };
-    let passed = pass_groups(
-        file, encoding, fix, asked, words, first, count, place, tally,
-    );
+    let course = Course {
+        file,
+        encoding,
+        fix,
+        asked,
+        words,
+        first,
+    };
+    let passed = course.pass_groups(count, place, tally);
     answer(passed, asked, least)
 }
 
@@ -237,13 +206,10 @@ fn judge_from(
 fn nearer(fix: Point, p: Point, near: u64) -> u64
     ensures { result ≡ nearer_by (to_vertex p fix) near }
 {
-    let Distance::Is(squared) = to_vertex(p, fix) else {
-        return near;
-    };
-    if squared < near {
-        return squared + 1;
+    match to_vertex(p, fix) {
+        Ok(squared) => near.min(squared.saturating_add(1)),
+        Err(_) => near,
     }
-    near
 }
 
 // The same of the first points of so many stretches.
@@ -251,14 +217,9 @@ fn nearest(words: &[u32], fix: Point, count: usize, place: usize, least: u64) ->
     requires { place + 11 * count ≤ length words.now }
     ensures { result ≡ nearest_of words.now fix count place least }
 {
-    let mut left = count;
-    let mut at = place;
     let mut near = least;
-    while left > 0 {
-        left -= 1;
-        let p = point_at(words, at + 4);
-        at += MARK;
-        near = nearer(fix, p, near);
+    for i in 0..count {
+        near = nearer(fix, point_at(words, place + MARK * i + 4), near);
     }
     near
 }
@@ -270,21 +231,19 @@ fn near_by(words: &[u32], at: usize, fix: Point, asked: bool, least: u64) -> u64
     if !asked {
         return least;
     }
-    let count = count_at(words, at);
-    if count == 0 {
-        return least;
+    match count_at(words, at) {
+        Some(count) => nearest(words, fix, count, at + 1, least),
+        None => least,
     }
-    nearest(words, fix, count, at + 1, least)
 }
 
 // Whether there is a verdict with less than this.
-fn is_below(judged: Judged, near: u64) -> bool
+fn is_below(judged: Result<Judged, Fault>, near: u64) -> bool
     ensures { result ≡ is_below near (told judged) }
 {
     match judged {
-        Judged::Answered { verdict: _, least } => least < near,
-        Judged::Failed { least: _ } => false,
-        Judged::Refused(_) => false,
+        Ok(judged) => judged.verdict.is_some() && judged.least < near,
+        Err(_) => false,
     }
 }
 
@@ -298,7 +257,7 @@ pub fn judge_by(
     lon: FixedLon,
     asked: bool,
     least: u64,
-) -> Judged
+) -> Result<Judged, Fault>
     ensures { told result ≡ judged_by file.now encoding words.now at lat lon asked least }
 {
     let fix = Point { lat, lon };

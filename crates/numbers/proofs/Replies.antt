@@ -1,5 +1,6 @@
 -- What a reply that was taken apart says of the reply that follows it, and which numbers it can be refused with. Assumes nothing.
-use Rattle.numbers.proofs.{Prelude.{ℕ, Bool, true, false, ◌≡◌, refl, ap, subst, arith}, Refusals.{Numbered, as_found, as_failed, as_refused}}
+use Rattle.numbers.proofs.{Prelude.{ℕ, Bool, true, false, ◌≡◌, refl, sym, ap, subst, ◌∙◌, arith}, Refusals.{Numbered, as_found, as_failed, as_refused}}
+use Rattle.std.specs.Prelude.{Result, Ok, Err, IfOk, IsErrAnd}
 use Rattle.numbers.specs.{Answer.{Answer}, Reply.{Reply, given, refused, demand, ◌or_else◌, ◌>>=◌, ◌>>◌}, declared.refusal.Refusal.{Refusal}}
 
 module _ {A B : Type 0} {answer : Reply A} where
@@ -8,6 +9,25 @@ module _ {A B : Type 0} {answer : Reply A} where
 
   pub onward : {a : A} → given a ≡ answer → (next : A → Reply B) → next a ≡ (answer >>= next)
   onward e next = ap (λ (x : Reply A). x >>= next) e
+
+-- ---- what `?` does
+-- the refusal that it hands on
+pub passed_on : {A : Type 0} (r : Result A Refusal) {why : Refusal} → IsErrAnd r (λ e. e ≡ why) → r ≡ refused why
+passed_on (Ok a) h = elim h [ ]
+passed_on (Err e) h = ap refused h
+
+-- what holds of what it goes on with
+pub held : {A E : Type 0} (P : A → Type 0) {r : Result A E} {a : A} → r ≡ Ok a → IfOk r P → P a
+held P is h = rw is at h
+
+module _ {A B : Type 0} {answer : Reply A} {a : Result A Refusal} where
+  -- where it ends the call, so does the reply
+  pub ended_by : {why : Refusal} (r : Result B Refusal) → a ≡ Err why → a ≡ answer → IsErrAnd r (λ e. e ≡ why) → (next : A → Reply B) → r ≡ (answer >>= next)
+  ended_by r is same h next = passed_on r h ∙ carried (sym is ∙ same) next
+
+  -- where it does not, the reply goes on with what was found
+  pub led_on : {x : A} → a ≡ Ok x → a ≡ answer → (next : A → Reply B) → next x ≡ (answer >>= next)
+  led_on is same next = onward (sym is ∙ same) next
 
 -- what a reply was given from
 pub record From {A B : Type 0} (answer : Reply A) (next : A → Reply B) (b : B) : Type 0 where
@@ -20,7 +40,7 @@ given_from (given a) next e = record { it = a; is = refl; onto = e }
 given_from (refused why) next e = let z : ◌≡◌ {A = ℕ} 0 1 = cc in absurd (omega arith)
 
 -- what is given is one thing
-pub given_one : {A : Type 0} {a b : A} → given a ≡ given b → a ≡ b
+pub given_one : {A : Type 0} {a b : A} → ◌≡◌ {A = Reply A} (given a) (given b) → a ≡ b
 given_one e = cc
 
 -- what is only looked at was refused before

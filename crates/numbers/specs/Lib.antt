@@ -6,6 +6,7 @@ pub mod Varint
 pub mod inner
 pub mod Point
 pub mod Spelling
+pub mod Fault
 pub mod Float
 pub mod Spoken
 pub mod Prelude

@@ -1,6 +1,7 @@
 // Numbers of the PLB format: varints read forward and backward, the signed form, and the two halves of a point; refusals by their number, and what a call says to C.
 #![tactic(auto)]
 
+pub mod fault;
 pub mod float;
 pub mod limits;
 pub mod point;

@@ -3,31 +3,24 @@ ghost use Rattle.std.specs.Prelude.{◌≡◌, ◌^◌, ◌<◌};
 ghost use mir.{Syntax.{w32}, Val.{of_z}};
 ghost use Rattle.numbers.specs.Point.{read_i32, signed_of, even_bits, both_bits, point_of};
 
-#[derive(Clone, Copy)]
+#[derive(Clone, Copy, PartialEq, Eq)]
 pub struct RawPoint {
     pub lat: i32,
     pub lon: i32,
 }
 
-// The i32 that has these bits. Both arms compile to no instruction.
+// The i32 that has these bits.
 fn with_bits(bits: u32) -> i32
     ensures { result ≡ read_i32 bits }
 {
-    if bits < 0x8000_0000 {
-        bits as i32
-    } else {
-        -1 - (0xffff_ffff - bits) as i32
-    }
+    bits.cast_signed()
 }
 
-// The bits of an i32, the other way. Both arms compile to no instruction.
+// The bits of an i32, the other way.
 pub fn bits_of(n: i32) -> u32
     ensures { result ≡ of_z w32 n }
 {
-    if n < 0 {
-        return 0xffff_ffff - (-1 - n) as u32;
-    }
-    n as u32
+    n.cast_unsigned()
 }
 
 // Half the value, negated if odd, kept modulo 2^32.

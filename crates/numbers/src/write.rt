@@ -40,12 +40,8 @@ pub fn interleave(a: u64, b: u64) -> u64
     ensures { result ≡ interleaved 32 a b }
 {
     let mut out: u64 = 0;
-    let mut weight: u64 = 0x1_0000_0000;
-    let mut i: u64 = 32;
-    while 0 < i {
-        weight /= 2;
-        i -= 1;
-        out = a / weight % 2 + b / weight % 2 * 2 + out * 4;
+    for place in (0..32u32).rev() {
+        out = (a >> place) % 2 + (b >> place) % 2 * 2 + out * 4;
     }
     out
 }

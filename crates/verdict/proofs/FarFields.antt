@@ -4,8 +4,9 @@ use Rattle.numbers.proofs.Prelude.{sym, ap, subst, ◌∙◌, w32, SFits, arith}
 use lib.{IntN.{sub_ℕ}, Signed.{non_neg}}
 use Rattle.border.specs.declared.place.Point.{Point}
 use Rattle.verdict.proofs.{AfarField.{remote_calm}, Gliding.{aside_of, quadrant_calm}}
-use Rattle.verdict.specs.declared.{field.{Field.{Field}, Open.{Open, TheVariants.{About, Shut}}, Span.{Span}}, step.Tally.{Tally}}
+use Rattle.verdict.specs.declared.{field.{Field.{Field}, Span.{Span}}, step.Tally.{Tally}}
 use Rattle.verdict.specs.inner.Gliding.{beside, aside, nearby, far_from, Held, Opens, OpensFar, FarSpan, FarAbout, LiftedTo, lowered}
+use Rattle.std.specs.Prelude.{Option, Some, None}
 use mathlib.Core.Bool.{or-true}
 
 -- ---- differences
@@ -111,15 +112,15 @@ module _ (span : Span) (low high : ℕ) (l : span.low ≡ lowered low) (h : span
 
 -- ---- fields
 
-pub held_about : (y r x q : ℕ) (p : Point) (field : Field) → FarSpan (lowered y) r field.lat → FarSpan (lowered x) q field.lon → (o : Open) → Held field p o → FarAbout y r x q p o
-held_about y r x q p field lat lon (About that) h =
+pub held_about : (y r x q : ℕ) (p : Point) (field : Field) → FarSpan (lowered y) r field.lat → FarSpan (lowered x) q field.lon → (o : Option Field) → Held field p o → FarAbout y r x q p o
+held_about y r x q p field lat lon (Some that) h =
     (subst (λ (f : Field). FarSpan (lowered y) r f.lat) (sym h.0) lat, subst (λ (f : Field). FarSpan (lowered x) q f.lon) (sym h.0) lon, h.1)
-held_about y r x q p field lat lon Shut h = tt
+held_about y r x q p field lat lon None h = tt
 
 -- a field of two far spans is remote
 pub about_far : (fix : Point) (least : ℕ) (p : Point) (y r x q : ℕ) → y ≤ 8388608 → x ≤ 8388608 → LiftedTo fix.lat.0 y → LiftedTo fix.lon.0 x → least ≤ r * r + 4 * (q * q)
-    → (o : Open) → FarAbout y r x q p o → OpensFar fix least p o
-about_far fix least p y r x q ymost xmost ly lx enough (About field) h = let north = ly.1 ymost in let east = lx.1 xmost in (
+    → (o : Option Field) → FarAbout y r x q p o → OpensFar fix least p o
+about_far fix least p y r x q ymost xmost ly lx enough (Some field) h = let north = ly.1 ymost in let east = lx.1 xmost in (
   aside_of fix field (subst (λ (z : ℤ). beside z field.lat ≡ true) (sym north) h.0.side) (subst (λ (z : ℤ). beside z field.lon ≡ true) (sym east) h.1.side),
   record {
     lat_near = h.0.near;
@@ -136,12 +137,12 @@ about_far fix least p y r x q ymost xmost ly lx enough (About field) h = let nor
   },
   h.2,
 )
-about_far fix least p y r x q ymost xmost ly lx enough Shut h = tt
+about_far fix least p y r x q ymost xmost ly lx enough None h = tt
 
-pub opens_far : (fix : Point) (tally : Tally) (p : Point) (r : Open) → OpensFar fix tally.least p r → Opens fix true tally p r
-opens_far fix tally p (About field) h = (remote_calm fix tally field h.0 h.1, h.2)
-opens_far fix tally p Shut h = tt
+pub opens_far : (fix : Point) (tally : Tally) (p : Point) (r : Option Field) → OpensFar fix tally.least p r → Opens fix true tally p r
+opens_far fix tally p (Some field) h = (remote_calm fix tally field h.0 h.1, h.2)
+opens_far fix tally p None h = tt
 
-pub opens_near : (fix : Point) (tally : Tally) (p : Point) (field : Field) → aside fix field ≡ true → (r : Open) → Held field p r → Opens fix false tally p r
-opens_near fix tally p field beyond (About that) h = (quadrant_calm fix tally that (subst (λ (f : Field). aside fix f ≡ true) (sym h.0) beyond), h.1)
-opens_near fix tally p field beyond Shut h = tt
+pub opens_near : (fix : Point) (tally : Tally) (p : Point) (field : Field) → aside fix field ≡ true → (r : Option Field) → Held field p r → Opens fix false tally p r
+opens_near fix tally p field beyond (Some that) h = (quadrant_calm fix tally that (subst (λ (f : Field). aside fix f ≡ true) (sym h.0) beyond), h.1)
+opens_near fix tally p field beyond None h = tt

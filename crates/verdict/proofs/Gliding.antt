@@ -4,11 +4,12 @@ use Rattle.numbers.proofs.{Prelude.{lt_z, le_z, Bool, true, false, ◌&&◌, ◌
 use Rattle.numbers.specs.{Answer.{found, checked, if◌then◌else◌}, Point.{signed_of, point_of}, Varint.{Numeral, numeral, reading_of, backward_at}, declared.point.RawPoint.{RawPoint}}
 use mathlib.Core.Bool.{and-false, or-true}
 use Rattle.border.{proofs.{Trace.{gives_trace}, reader.Turns.{open_packed, open_plain, turn_move, backward_move, advances, counted_before, pair_read, pair_moves}}, specs.Encoding.{encoded_by}}
-use Rattle.border.specs.{Place.{point_at, move_by, is_still, moved_by, negated}, Reader.{gives, shown_by, advanced, backward_from}, Trace.{Trace, point, trace_of}, declared.place.Point.{Point}}
+use Rattle.border.specs.{Place.{point_at, move_by, is_still, moved_by, negated}, Reader.{shown_by, advanced, backward_from}, Trace.{Trace, point, trace_of}, declared.place.Point.{Point}}
 use Rattle.border.specs.declared.reader.{Encoding.{Encoding}, Reader.{Reader}, Run.{Run, TheVariants.{Idle, Backward}}, Version.{Version, TheVariants.{Plain, Packed}}}
 use Rattle.verdict.specs.{Distance.{measured}, Edge.{same_z, same_point, straight, between, in_box, quadrant_of}, Verdict.{after, along, passing, then_on, judge}}
 use Rattle.verdict.specs.{Winding.{quarter_by, clear_of, wound_by}, declared.{field.{Field.{Field}, Span.{Span}}, step.Tally.{Tally}}}
 use Rattle.verdict.specs.inner.Gliding.{same_side, in_one_quadrant, in_span, beside, aside, within, Glides, stays, glides, GlidesTo, standing, GlidesForth, GlidesBack, GlidesPlain, points, Calm}
+use Rattle.border.specs.declared.reader.Turn.TheVariants.{Gives as gives}
 use Rattle.verdict.specs.Step as S
 
 -- ---- the order of whole numbers

@@ -3,6 +3,7 @@ pub mod Compared
 pub mod Checks
 pub mod Squares
 pub mod Kept
+pub mod Halts
 pub mod Gliding
 pub mod CutDifference
 pub mod Beyond

@@ -1,14 +1,9 @@
 -- The squared distance of a location from an edge. The longitude counts twice: it has half the scale.
 use Rattle.numbers.specs.{Float.{cut64, ◌⊟◌}, Prelude.{ℕ, min, ℤ, nat_abs, Bool}}
 use Rattle.std.specs.Prelude.{◌*ℤ◌, if◌then◌else◌, ◌+◌, ◌*◌, ◌%◌, ◌^◌, ◌-ℤ◌}
-use Rattle.verdict.specs.{Edge.{in_box, spot_of, edge_of, closest_on, cut_of}, Step.{Step, found, refused, ◌>>=◌, checked}, declared.distance.Distance.{Distance, TheVariants.{Is, Over}}}
+use Rattle.verdict.specs.{Edge.{in_box, spot_of, edge_of, closest_on, cut_of}, Step.{Step, found, ◌>>=◌, checked}}
 use Rattle.verdict.specs.declared.{edge.Spot.{Spot}, step.Tally.{Tally}}
 use Rattle.border.specs.declared.place.Point.{Point}
-
--- what the enum's cases say
-abbrev pub told : Distance → Step ℕ
-told (Is d) = found d
-told Over = refused 13
 
 -- "squares must fit i64"; their sum wraps
 unfoldable pub squared : ℤ → ℤ → Step ℕ

@@ -1,7 +1,7 @@
 -- What a step along a border comes to.
-use Rattle.std.specs.Prelude.{if◌then◌else◌}
+use Rattle.std.specs.Prelude.{if◌then◌else◌, Result, Ok, Err}
 use Rattle.numbers.specs.{Answer.{in_range}, Prelude.{ℕ, ℤ}}
-use Rattle.verdict.specs.declared.step.{Passed.{Passed, TheVariants.{On, Meets, Over}}, Tally.{Tally}, Verdict.{Verdict}}
+use Rattle.verdict.specs.declared.step.{Halt.{Halt, TheVariants.{Meets, Over}}, Verdict.{Verdict}}
 
 -- it goes on with what was found, or meets the location on the border, or is refused by a number
 pub data Step (A : Type 0) : Type 0 where
@@ -19,8 +19,8 @@ infixl 20 ◌>>=◌
 unfoldable pub checked : ℕ → ℤ → Step ℤ
 checked bits z = if in_range bits z then found z else refused 13
 
--- what the enum's cases say
-abbrev pub told : Passed → Step Tally
-told (On tally) = found tally
-told (Meets verdict) = meets verdict
-told Over = refused 13
+-- what a result says
+abbrev pub told : {A : Type 0} → Result A Halt → Step A
+told (Ok a) = found a
+told (Err (Meets verdict)) = meets verdict
+told (Err Over) = refused 13

@@ -1,12 +1,11 @@
 -- A border's verdict on a location: a judge over the trace of its points, which may answer before the trace ends.
-use Rattle.std.specs.Prelude.{if◌then◌else◌}
-use Rattle.numbers.specs.Prelude.{ℕ, pos, negsuc, Bool, List}
+use Rattle.std.specs.Prelude.{if◌then◌else◌, Option, Some, None, Result, Ok, Err}
+use Rattle.numbers.specs.{Fault.{number_of}, Prelude.{ℕ, pos, negsuc, Bool, List}, declared.fault.Fault.{Fault}}
 use Rattle.border.specs.{Trace.{Trace, point, closed, trace_of, border_at}, declared.{place.{FixedLat.{FixedLat}, FixedLon.{FixedLon}, Point.{Point}}, reader.Encoding.{Encoding}}}
 use Rattle.verdict.specs.{Distance.{measured}, Edge.{same_z, same_point}, Step.{Step, found, meets, ◌>>=◌}, Winding.{wound_by}, declared.{judge.Judged.{Judged}, step.Tally.{Tally}}}
 use Rattle.verdict.specs.declared.step.Verdict.{Verdict, TheVariants.{NotInZone, InZone, InExcludedZone, OnBorderVertex, OnBorderSegment}}
 use Rattle.border.specs.Trace as T
 use Rattle.verdict.specs.Step as S
-use Rattle.verdict.specs.declared.judge.Judged.TheVariants as J
 
 -- A border comes to a verdict with the least squared distance, to a failure, whose distances count too, or to a refusal by its number.
 pub data Judgement : Type 0 where
@@ -14,11 +13,17 @@ pub data Judgement : Type 0 where
   failed : ℕ → Judgement
   refused : ℕ → Judgement
 
--- what the enum's cases say
-abbrev pub told : Judged → Judgement
-told (J.Answered verdict least) = reached verdict least
-told (J.Failed least) = failed least
-told (J.Refused n) = refused n
+-- what is said of it: a verdict, or none, which is a failure
+abbrev pub judged_by : ℕ → Option Verdict → Judgement
+judged_by least (Some verdict) = reached verdict least
+judged_by least None = failed least
+
+abbrev pub judged_as : Judged → Judgement
+judged_as j = judged_by j.least j.verdict
+
+abbrev pub told : Result Judged Fault → Judgement
+told (Ok j) = judged_as j
+told (Err fault) = refused (number_of fault)
 
 -- the point before, if there is one
 pub data Last : Type 0 where

@@ -1,16 +1,9 @@
 -- How often a border winds about a location, in quarter turns.
 use Rattle.std.specs.Prelude.{if◌then◌else◌, ◌+◌, ◌-◌, ◌%◌, ◌+ℤ◌, ◌-ℤ◌, ◌&&◌}
 use Rattle.numbers.specs.{Float.{to_f32, cut32, ◌⊟◌, ◌⊘◌}, Prelude.{ℕ, eqb, ltb, ℤ, pos, negsuc, lt_z, Bool, true, false}}
-use Rattle.verdict.specs.{Edge.{straight, in_box, quadrant_of, edge_of}, Step.{Step, found, meets, refused, ◌>>=◌, checked}, declared.edge.Edge.{Edge}}
+use Rattle.verdict.specs.{Edge.{straight, in_box, quadrant_of, edge_of}, Step.{Step, found, meets, ◌>>=◌, checked}, declared.edge.Edge.{Edge}}
 use Rattle.verdict.specs.declared.{edge.{Edge.TheVariants.{Sloped, EqualLongitude, EqualLatitude}, Slope.{Slope}}, step.{Tally.{Tally}, Verdict.TheVariants.{OnBorderSegment}}}
-use Rattle.verdict.specs.declared.winding.Crossing.{Crossing, TheVariants.{Turns, OnSegment, Over}}
 use Rattle.border.specs.declared.place.{FixedLon.{FixedLon}, Point.{Point}}
-
--- what the enum's cases say
-abbrev pub told : Crossing → Step ℤ
-told (Turns turn) = found turn
-told OnSegment = meets OnBorderSegment
-told Over = refused 13
 
 -- the sum is held against the i32's range at each step
 unfoldable pub turned : ℤ → Tally → Step Tally

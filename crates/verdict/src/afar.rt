@@ -26,13 +26,7 @@ fn is_small(p: Point) -> bool
 fn are_small(fix: Point, low: Point, high: Point) -> bool
     ensures { result ≡ is_small fix && (is_small low && is_small high) }
 {
-    if !is_small(fix) {
-        return false;
-    }
-    if !is_small(low) {
-        return false;
-    }
-    is_small(high)
+    is_small(fix) && is_small(low) && is_small(high)
 }
 
 // Counted from 2^22 below 0, so that it is a plain number.

@@ -3,19 +3,12 @@ ghost use mathlib.Core.{Path.{◌≡◌}, Bool.{true}};
 ghost use Rattle.std.specs.Prelude.{◌+◌, ◌*◌, ◌%◌, ◌^◌, ◌<◌};
 ghost use lib.{Dec.{ltb}, IntN.{◌-ℤ◌, ◌*ℤ◌, nat_abs}, Signed.{mag}};
 ghost use Rattle.numbers.specs.Float.{cut64, ◌⊟◌};
-ghost use Rattle.verdict.specs.{Edge.{spot_of}, Distance.{told, to_segment, to_vertex, distance_of, measured}};
-ghost use Rattle.verdict.specs.Step as step;
+ghost use Rattle.verdict.specs.{Edge.{spot_of}, Distance.{to_segment, to_vertex, distance_of, measured}, Step.{told}};
 
 use crate::edge::{Seen, Spot, closest, edge_between, holds_cut};
-use crate::step::{Passed, Tally};
-use border::place::{Point, fits_i32};
+use crate::step::{Halt, Tally};
+use border::place::Point;
 use numbers::float::cut::to_i64;
-
-#[derive(Clone, Copy)]
-pub enum Distance {
-    Is(u64),
-    Over,
-}
 
 // Whether a square fits an i64.
 fn squarable(difference: i64) -> bool
@@ -36,7 +29,7 @@ fn sum_of_squares(lat: i64, lon: i64) -> u64
     requires { (mag (lat *ℤ lat) < 2 ^ 63) × (mag (lon *ℤ lon) < 2 ^ 63) }
     ensures { result ≡ (nat_abs (lat *ℤ lat) + 4 * nat_abs (lon *ℤ lon)) % 2 ^ 64 }
 {
-    std::num::wrapping_add_u64(square(lat), square(lon) % 0x4000_0000_0000_0000 * 4)
+    square(lat).wrapping_add(square(lon) % 0x4000_0000_0000_0000 * 4)
 }
 
 // The difference of two floats, cut to an i64.
@@ -46,36 +39,30 @@ fn apart(one: f32, other: f32) -> i64
     to_i64(one - other)
 }
 
-fn to_segment(near: Spot, at: Spot) -> Distance
+fn to_segment(near: Spot, at: Spot) -> Result<u64, Halt>
     ensures { told result ≡ to_segment near at }
 {
     let lat = apart(near.lat, at.lat);
     if !squarable(lat) {
-        return Distance::Over;
+        return Err(Halt::Over);
     }
     let lon = apart(near.lon, at.lon);
     if !squarable(lon) {
-        return Distance::Over;
+        return Err(Halt::Over);
     }
-    Distance::Is(sum_of_squares(lat, lon))
+    Ok(sum_of_squares(lat, lon))
 }
 
-pub fn to_vertex(to: Point, fix: Point) -> Distance
+pub fn to_vertex(to: Point, fix: Point) -> Result<u64, Halt>
     ensures { told result ≡ to_vertex to fix }
 {
-    let lat = (to.lat.0 as i64) - (fix.lat.0 as i64);
-    if !fits_i32(lat) {
-        return Distance::Over;
-    }
-    let lon = (to.lon.0 as i64) - (fix.lon.0 as i64);
-    if !fits_i32(lon) {
-        return Distance::Over;
-    }
-    Distance::Is(sum_of_squares(lat, lon))
+    let lat = to.lat.0.checked_sub(fix.lat.0).ok_or(Halt::Over)?;
+    let lon = to.lon.0.checked_sub(fix.lon.0).ok_or(Halt::Over)?;
+    Ok(sum_of_squares(lat as i64, lon as i64))
 }
 
 // To the closest point, if that is in the edge's box. Else to the vertex: the border is closed, so one of the two is enough.
-fn distance_of(fix: Point, at: Spot, from: Seen, to: Seen) -> Distance
+fn distance_of(fix: Point, at: Spot, from: Seen, to: Seen) -> Result<u64, Halt>
     requires { (at ≡ spot_of fix) × («from».spot ≡ spot_of «from».point) × (to.spot ≡ spot_of to.point) }
     ensures { told result ≡ distance_of fix «from».point to.point }
 {
@@ -91,18 +78,19 @@ fn distance_of(fix: Point, at: Spot, from: Seen, to: Seen) -> Distance
 }
 
 // The least distance after an edge.
-pub(crate) fn measure(fix: Point, at: Spot, from: Seen, to: Seen, tally: Tally) -> Passed
+pub(crate) fn measure(
+    fix: Point,
+    at: Spot,
+    from: Seen,
+    to: Seen,
+    tally: Tally,
+) -> Result<Tally, Halt>
     requires { (at ≡ spot_of fix) × («from».spot ≡ spot_of «from».point) × (to.spot ≡ spot_of to.point) }
-    ensures { step.told result ≡ measured true fix «from».point to.point tally }
+    ensures { told result ≡ measured true fix «from».point to.point tally }
 {
-    let Distance::Is(new) = distance_of(fix, at, from, to) else {
-        return Passed::Over;
-    };
-    if new < tally.least {
-        return Passed::On(Tally {
-            winding: tally.winding,
-            least: new,
-        });
-    }
-    Passed::On(tally)
+    let new = distance_of(fix, at, from, to)?;
+    Ok(Tally {
+        winding: tally.winding,
+        least: new.min(tally.least),
+    })
 }

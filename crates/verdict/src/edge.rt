@@ -40,7 +40,7 @@ pub struct Seen {
 pub fn same_point(one: Point, other: Point) -> bool
     ensures { result ≡ same_point one other }
 {
-    one.lat.0 == other.lat.0 && one.lon.0 == other.lon.0
+    one == other
 }
 
 fn rising(one: i32, x: i32, other: i32) -> bool
@@ -56,6 +56,7 @@ fn between_numbers(one: i32, x: i32, other: i32) -> bool
     rising(one, x, other) || rising(other, x, one)
 }
 
+// Two functions of one form: each type's keeps a latitude from a longitude's place, and a generic one over `Ord` would say its clause by `cmp`.
 fn lat_between(one: FixedLat, x: FixedLat, other: FixedLat) -> bool
     ensures { result ≡ between one.0 x.0 other.0 }
 {
@@ -72,11 +73,7 @@ fn lon_between(one: FixedLon, x: FixedLon, other: FixedLon) -> bool
 pub fn in_box(one: Point, point: Point, other: Point) -> bool
     ensures { result ≡ in_box one point other }
 {
-    if lat_between(one.lat, point.lat, other.lat) {
-        lon_between(one.lon, point.lon, other.lon)
-    } else {
-        false
-    }
+    lat_between(one.lat, point.lat, other.lat) && lon_between(one.lon, point.lon, other.lon)
 }
 
 // The quadrant about `fix` that a point lies in: 0 north-east, 1 north-west, 2 south-west, 3 south-east.
@@ -104,17 +101,10 @@ pub(crate) fn seen_from(fix: Point, at: Spot, asked: bool, point: Point) -> Seen
     ensures { result ≡ seen_from fix asked point }
 {
     let quadrant = quadrant_of(fix, point);
-    if asked {
-        return Seen {
-            point,
-            quadrant,
-            spot: spot_of(point),
-        };
-    }
     Seen {
         point,
         quadrant,
-        spot: at,
+        spot: if asked { spot_of(point) } else { at },
     }
 }
 
@@ -186,9 +176,6 @@ pub(crate) fn closest(edge: Edge, at: Spot) -> Spot
 pub(crate) fn holds_cut(one: Point, at: Spot, other: Point) -> bool
     ensures { result ≡ in_box one (cut_of at) other }
 {
-    if lat_between(one.lat, FixedLat(to_i32(at.lat)), other.lat) {
-        lon_between(one.lon, FixedLon(to_i32(at.lon)), other.lon)
-    } else {
-        false
-    }
+    lat_between(one.lat, FixedLat(to_i32(at.lat)), other.lat)
+        && lon_between(one.lon, FixedLon(to_i32(at.lon)), other.lon)
 }

@@ -2,7 +2,7 @@
 ghost use Rattle.std.specs.Prelude.{◌≡◌, ◌+◌, ◌*◌, ◌<◌, ◌≤◌};
 ghost use Rattle.verdict.specs.inner.Gliding.{lowered, LiftedTo, FarSpan, FarAbout, OpensFar, Opens};
 
-use crate::field::{Field, Open, Span, field_of, held};
+use crate::field::{Field, Span, field_of, held};
 use crate::step::Tally;
 use border::place::Point;
 
@@ -86,13 +86,7 @@ fn gap(one: u64, other: u64) -> u64
     requires { (one ≤ 8388609) × (other ≤ 8388609) }
     ensures { result ≤ 8388609 }
 {
-    if one < other {
-        return other - one - 1;
-    }
-    if other < one {
-        return one - other - 1;
-    }
-    0
+    one.abs_diff(other).saturating_sub(1)
 }
 
 // A number up to the gap whose square is at least this; 0 if none was found. One step of Newton's for the root: whatever it gives is tried.
@@ -114,7 +108,7 @@ fn reach(gap: u64, square: u64) -> u64
 }
 
 // The field about a point that is so far from the location by either coordinate.
-fn far_about(at: Place, p: Place, lat: u64, lon: u64, from: Point) -> Open
+fn far_about(at: Place, p: Place, lat: u64, lon: u64, from: Point) -> Option<Field>
     requires { (at.lat ≤ 8388608) × (at.lon ≤ 8388608) × (lat ≤ 8388609) × (lon ≤ 8388609) }
     ensures { FarAbout at.lat lat at.lon lon «from» result }
 {
@@ -126,18 +120,18 @@ fn far_about(at: Place, p: Place, lat: u64, lon: u64, from: Point) -> Open
 }
 
 // A field about a point, far enough from the location: by the latitudes, else by the longitudes, whose squares count four times.
-fn far_field(fix: Point, from: Point, least: u64) -> Open
+fn far_field(fix: Point, from: Point, least: u64) -> Option<Field>
     ensures { OpensFar fix least «from» result }
 {
     let at = place_of(fix);
     if MOST < at.lat {
-        return Open::Shut;
+        return None;
     }
     if MOST < at.lon {
-        return Open::Shut;
+        return None;
     }
     if TOO_FAR < least {
-        return Open::Shut;
+        return None;
     }
     let p = place_of(from);
     let lat = reach(gap(at.lat, p.lat), least);
@@ -148,11 +142,11 @@ fn far_field(fix: Point, from: Point, least: u64) -> Open
     if 0 < lon {
         return far_about(at, p, 0, lon, from);
     }
-    Open::Shut
+    None
 }
 
 // A field about a point of the border in which no step changes anything, if one is found: without the distance a quadrant about the location is one.
-pub(crate) fn open_field(fix: Point, asked: bool, tally: Tally, p: Point) -> Open
+pub(crate) fn open_field(fix: Point, asked: bool, tally: Tally, p: Point) -> Option<Field>
     ensures { Opens fix asked tally p result }
 {
     if asked {

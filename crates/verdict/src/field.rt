@@ -29,10 +29,7 @@ pub(crate) fn lies_in(span: Span, x: i64) -> bool
 pub(crate) fn is_within(field: Field, p: Point) -> bool
     ensures { result ≡ within field p }
 {
-    if lies_in(field.lat, p.lat.0 as i64) {
-        return lies_in(field.lon, p.lon.0 as i64);
-    }
-    false
+    lies_in(field.lat, p.lat.0 as i64) && lies_in(field.lon, p.lon.0 as i64)
 }
 
 // The numbers on the side of x where another one lies.
@@ -61,19 +58,13 @@ pub(crate) fn field_of(fix: Point, p: Point) -> Field
     }
 }
 
-// A field in which nothing changes, or none.
-#[derive(Clone, Copy)]
-pub(crate) enum Open {
-    About(Field),
-    Shut,
-}
-
 // The field, if it holds a point.
-pub(crate) fn held(field: Field, p: Point) -> Open
+pub(crate) fn held(field: Field, p: Point) -> Option<Field>
     ensures { Held field p result }
 {
     if is_within(field, p) {
-        return Open::About(field);
+        Some(field)
+    } else {
+        None
     }
-    Open::Shut
 }

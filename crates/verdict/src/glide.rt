@@ -6,10 +6,10 @@ ghost use Rattle.border.specs.Encoding.{encoded_by};
 ghost use Rattle.verdict.specs.inner.Gliding.{pointed, Narrow, LedTo, GlidesForth, GlidesBack, GlidesPlain, GlidesTo, standing};
 
 use crate::field::{Field, lies_in};
-use border::place::{Away, FixedLat, FixedLon, Point, is_still, negate};
+use border::place::{FixedLat, FixedLon, Point, is_still, negate};
 use border::reader::{Encoding, Reader, Run, Version};
 use numbers::point::{RawPoint, decode_point, signed};
-use numbers::varint::{Varint, read_backward, read_number, read_short};
+use numbers::varint::{Number, Stop, read_backward, read_number, read_short};
 
 // A point whose coordinates are held wide, each by itself: a point that is one word is taken apart and put together at every move.
 #[derive(Clone, Copy)]
@@ -38,25 +38,19 @@ fn narrow(w: Wide) -> Point
 }
 
 // Where a move leads inside the field.
-#[derive(Clone, Copy)]
-pub(crate) enum Led {
-    To(Wide),
-    Out,
-}
-
-fn lead(field: Field, p: Wide, by: RawPoint) -> Led
+fn lead(field: Field, p: Wide, by: RawPoint) -> Option<Wide>
     requires { Narrow p }
     ensures { LedTo field p by result }
 {
     let lat = p.lat + (by.lat as i64);
     if !lies_in(field.lat, lat) {
-        return Led::Out;
+        return None;
     }
     let lon = p.lon + (by.lon as i64);
     if !lies_in(field.lon, lon) {
-        return Led::Out;
+        return None;
     }
-    Led::To(Wide { lat, lon })
+    Some(Wide { lat, lon })
 }
 
 // A place of the border, and the point there.
@@ -77,25 +71,24 @@ fn glided_at(place: usize, point: Wide) -> Glided
 }
 
 // A number where four bytes stand: nearly every move is a short one.
-fn read_move(file: &[u8], place: usize, strict: bool) -> Varint
+fn read_move(file: &[u8], place: usize, strict: bool) -> Result<Number, Stop>
     requires { place + 3 < length file.now }
     ensures { told result ≡ reading_of strict file.now place }
 {
-    let n = read_short(file, place);
-    let Varint::Number(number) = n else {
-        return read_number(file, place, strict);
-    };
-    Varint::Number(number)
+    match read_short(file, place) {
+        Ok(number) => Ok(number),
+        Err(_) => read_number(file, place, strict),
+    }
 }
 
 // The end of the places where four bytes stand.
 fn fours_end(file: &[u8]) -> usize
     ensures { result ≡ length file.now - 3 }
 {
-    if file.len() < 3 { 0 } else { file.len() - 3 }
+    file.len().saturating_sub(3)
 }
 
-// Version 1, outside a reference, but for the last bytes of a file.
+// Version 1, outside a reference, but for the last bytes of a file. These three stay loops: the place goes on by what was read, and each is left from its middle.
 fn glide_forth(file: &[u8], strict: bool, field: Field, start: usize, from: Point) -> Glided
     ensures { GlidesForth file.now strict field start «from» result.place result.point }
 {
@@ -103,14 +96,13 @@ fn glide_forth(file: &[u8], strict: bool, field: Field, start: usize, from: Poin
     let mut place = start;
     let mut point = widen(from);
     while place < end {
-        let n = read_move(file, place, strict);
-        let Varint::Number(number) = n else {
+        let Ok(number) = read_move(file, place, strict) else {
             return glided_at(place, point);
         };
         if number.value == 0 {
             return glided_at(place, point);
         }
-        let Led::To(to) = lead(field, point, decode_point(number.value)) else {
+        let Some(to) = lead(field, point, decode_point(number.value)) else {
             return glided_at(place, point);
         };
         place = number.place;
@@ -126,8 +118,7 @@ fn glide_back(file: &[u8], field: Field, start: usize, end: usize, from: Point) 
     let mut place = start;
     let mut point = widen(from);
     loop {
-        let n = read_backward(file, place);
-        let Varint::Number(number) = n else {
+        let Ok(number) = read_backward(file, place) else {
             return glided_at(place, point);
         };
         if number.value == 0 {
@@ -136,10 +127,10 @@ fn glide_back(file: &[u8], field: Field, start: usize, end: usize, from: Point) 
         if number.place <= end {
             return glided_at(place, point);
         }
-        let Away::By(by) = negate(decode_point(number.value)) else {
+        let Ok(by) = negate(decode_point(number.value)) else {
             return glided_at(place, point);
         };
-        let Led::To(to) = lead(field, point, by) else {
+        let Some(to) = lead(field, point, by) else {
             return glided_at(place, point);
         };
         place = number.place;
@@ -181,12 +172,10 @@ fn glide_plain(
     let mut moves = count;
     let mut point = widen(from);
     while 0 < moves {
-        let n = read_number(file, place, strict);
-        let Varint::Number(lat) = n else {
+        let Ok(lat) = read_number(file, place, strict) else {
             return counted_at(place, moves, point);
         };
-        let m = read_number(file, lat.place, strict);
-        let Varint::Number(lon) = m else {
+        let Ok(lon) = read_number(file, lat.place, strict) else {
             return counted_at(place, moves, point);
         };
         let by = RawPoint {
@@ -196,7 +185,7 @@ fn glide_plain(
         if is_still(by) {
             return counted_at(place, moves, point);
         }
-        let Led::To(to) = lead(field, point, by) else {
+        let Some(to) = lead(field, point, by) else {
             return counted_at(place, moves, point);
         };
         place = lon.place;

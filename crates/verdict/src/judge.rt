@@ -1,44 +1,48 @@
 // A border's verdict on a location, over its points as they are read.
 ghost use mathlib.Core.{Bool.{false, ◌&&◌}, Path.{◌≡◌}};
-ghost use Rattle.std.specs.Prelude.{◌-◌, ◌==◌};
+ghost use Rattle.std.specs.Prelude.{◌-◌, ◌==◌, Err};
 ghost use Rattle.border.specs.Trace.{trace_of};
-ghost use Rattle.verdict.specs.{inner.{Kept.{Sighted, last_of, ended_at}, Walk.{OpensUnless, judgement_of, step_of, WalkedOn}}, Stretch.{leapt, passing_first}};
-ghost use Rattle.verdict.specs.Verdict.{told, after, along, passing, on_border, closed_at, then_on, judged_at};
-ghost use Rattle.verdict.specs.Verdict as verdict;
+ghost use Rattle.verdict.specs.{inner.{Kept.{Sighted, last_of, unread_at}, Walk.{OpensUnless, judgement_of, step_of, WalkedOn}}, Stretch.{leapt, passing_first}};
+ghost use Rattle.verdict.specs.Verdict.{told, judged_as, after, along, passing, on_border, closed_at, then_on, judged_at};
+ghost use Rattle.numbers.specs.Varint as N;
 ghost use Rattle.verdict.specs.Step as step;
 
 use crate::distance::measure;
 use crate::edge::{Seen, Spot, quadrant_of, same_point, seen_from, spot_of};
 use crate::far::open_field;
-use crate::field::Open;
+use crate::field::Field;
 use crate::glide::glide_on;
-use crate::step::{Passed, Tally, Verdict};
+use crate::step::{Halt, Tally, Verdict};
 use crate::winding::{quarter, wound};
 use border::place::{FixedLat, FixedLon, Point};
-use border::reader::{Encoding, Next, Reader, next_point, open_border};
-use numbers::refusal::OUT_OF_RANGE;
+use border::reader::{Encoding, Reader, next_point, open_border};
+use numbers::fault::Fault;
+use numbers::varint::Stop;
 
-// A failed border's distances count too.
+// What a border says: a verdict, or none where it can't be read to its end, whose distances count too; and the least squared distance so far.
 #[derive(Clone, Copy)]
-pub enum Judged {
-    Answered { verdict: Verdict, least: u64 },
-    Failed { least: u64 },
-    Refused(u8),
+pub struct Judged {
+    pub verdict: Option<Verdict>,
+    pub least: u64,
 }
 
 // The edge between two points: the winding, then the distance, if it is asked for.
-fn judge_edge(fix: Point, at: Spot, asked: bool, from: Seen, to: Seen, tally: Tally) -> Passed
+fn judge_edge(
+    fix: Point,
+    at: Spot,
+    asked: bool,
+    from: Seen,
+    to: Seen,
+    tally: Tally,
+) -> Result<Tally, Halt>
     requires { Sighted fix at asked «from» to }
     ensures { step.told result ≡ along fix asked (after «from».point) to.point tally }
 {
-    let turned = wound(fix, at, from, to, tally);
-    let Passed::On(counted) = turned else {
-        return turned;
-    };
+    let counted = wound(fix, at, from, to, tally)?;
     if asked {
         return measure(fix, at, from, to, counted);
     }
-    Passed::On(counted)
+    Ok(counted)
 }
 
 // One more point. The vertex is tested first; no edge leads to the first point.
@@ -50,32 +54,32 @@ fn judge_point(
     last: Seen,
     to: Seen,
     tally: Tally,
-) -> Passed
+) -> Result<Tally, Halt>
     requires { Sighted fix at asked last to }
     ensures { step.told result ≡ passing fix asked (last_of begun last.point) to.point tally }
 {
     let point = to.point;
     if same_point(point, fix) {
-        return Passed::Meets(Verdict::OnBorderVertex);
+        return Err(Halt::Meets(Verdict::OnBorderVertex));
     }
     if begun {
         return judge_edge(fix, at, asked, last, to, tally);
     }
-    Passed::On(tally)
+    Ok(tally)
 }
 
 // The answer where the location is on the border.
 pub fn on_border(verdict: Verdict, asked: bool, least: u64) -> Judged
-    ensures { told result ≡ on_border verdict asked least }
+    ensures { judged_as result ≡ on_border verdict asked least }
 {
-    if asked {
-        return Judged::Answered { verdict, least: 0 };
+    Judged {
+        verdict: Some(verdict),
+        least: if asked { 0 } else { least },
     }
-    Judged::Answered { verdict, least }
 }
 
 // The one edge of a stretch that lies to one side of the location: a quarter turn, or none.
-pub fn leap(fix: Point, from: Point, to: Point, tally: Tally) -> Passed
+pub fn leap(fix: Point, from: Point, to: Point, tally: Tally) -> Result<Tally, Halt>
     ensures { step.told result ≡ leapt fix «from» to tally }
 {
     let quarters = (quadrant_of(fix, to) + 4 - quadrant_of(fix, from)) % 4;
@@ -84,59 +88,63 @@ pub fn leap(fix: Point, from: Point, to: Point, tally: Tally) -> Passed
 
 // The answer of a border that was read to its end.
 pub fn closed(asked: bool, tally: Tally) -> Judged
-    ensures { told result ≡ closed_at asked tally }
+    ensures { judged_as result ≡ closed_at asked tally }
 {
+    // Stays tests in a row: of a match on a number the check learns nothing in the arms.
     let winding = tally.winding;
     let least = tally.least;
     if winding == -4 {
-        return Judged::Answered {
-            verdict: Verdict::InZone,
+        return Judged {
+            verdict: Some(Verdict::InZone),
             least,
         };
     }
     if winding == 4 {
-        return Judged::Answered {
-            verdict: Verdict::InExcludedZone,
+        return Judged {
+            verdict: Some(Verdict::InExcludedZone),
             least,
         };
     }
     if winding == 0 {
-        return Judged::Answered {
-            verdict: Verdict::NotInZone,
+        return Judged {
+            verdict: Some(Verdict::NotInZone),
             least,
         };
     }
     on_border(Verdict::OnBorderSegment, asked, least)
 }
 
-// The answer where there is no further point.
-fn ended(next: Next, asked: bool, tally: Tally) -> Judged
-    ensures { told result ≡ ended_at next asked tally }
+// The answer where the next point can't be read.
+fn unread(stop: Stop, least: u64) -> Result<Judged, Fault>
+    ensures { told result ≡ unread_at (N.told {A = Unit {0}} (Err stop)) least }
 {
-    match next {
-        Next::Ended => closed(asked, tally),
-        Next::Refused(number) => Judged::Refused(number),
-        Next::Failed => Judged::Failed { least: tally.least },
-        Next::Point(_) => Judged::Failed { least: tally.least },
+    match stop {
+        Stop::Failed => Ok(Judged {
+            verdict: None,
+            least,
+        }),
+        Stop::TooLong => Err(Fault::LongNumber),
+        Stop::Incomplete => Err(Fault::Incomplete),
+        Stop::OutOfRange => Err(Fault::OutOfRange),
+        Stop::PastEnd => Err(Fault::StringPastEnd),
     }
 }
 
 // The answer of a step that does not go on.
-pub fn stopped(passed: Passed, asked: bool, least: u64) -> Judged
-    ensures { told result ≡ then_on asked least (step.told passed) (λ tally. verdict.refused 13) }
+pub fn stopped(halt: Halt, asked: bool, least: u64) -> Result<Judged, Fault>
+    ensures { told result ≡ then_on asked least (step.told (Err halt)) (closed_at asked) }
 {
-    let Passed::Meets(verdict) = passed else {
-        return Judged::Refused(OUT_OF_RANGE);
-    };
-    on_border(verdict, asked, least)
+    match halt {
+        Halt::Meets(verdict) => Ok(on_border(verdict, asked, least)),
+        Halt::Over => Err(Fault::OutOfRange),
+    }
 }
 
-// How a walk along a border ends: there is no further point, or a step does not go on, or it has passed as many edges as it was to.
+// Why a walk along a border breaks off: the next point can't be read, or a step does not go on.
 #[derive(Clone, Copy)]
-pub(crate) enum Walk {
-    Ended { next: Next, tally: Tally },
-    Stopped { passed: Passed, least: u64 },
-    Enough(Tally),
+pub(crate) enum Break {
+    Unread { stop: Stop, tally: Tally },
+    Halted { halt: Halt, least: u64 },
 }
 
 fn is_done(limited: bool, left: usize) -> bool
@@ -145,28 +153,19 @@ fn is_done(limited: bool, left: usize) -> bool
     limited && left == 0
 }
 
-// Without a limit none are left, and this stays so.
-fn one_less(left: usize) -> usize
-    ensures { result ≡ left - 1 }
-{
-    if left == 0 {
-        return 0;
-    }
-    left - 1
-}
-
 // A field to glide over; none where edges are counted.
-fn open_along(limited: bool, fix: Point, asked: bool, tally: Tally, p: Point) -> Open
+fn open_along(limited: bool, fix: Point, asked: bool, tally: Tally, p: Point) -> Option<Field>
     ensures { OpensUnless limited fix asked tally p result }
 {
     if limited {
-        return Open::Shut;
+        return None;
     }
     open_field(fix, asked, tally, p)
 }
 
 // Along a border, from its start to its end; or, limited, over so many edges from a point of it on. The only loop over a border's points, for the reader's step
-// is then compiled into it.
+// is then compiled into it; it stays a loop, for it ends in four ways and goes on in two.
+// A flag and a number, and no Option: the number goes down from turn to turn while the flag stays.
 fn judge_on(
     file: &[u8],
     encoding: Encoding,
@@ -176,7 +175,7 @@ fn judge_on(
     edges: usize,
     start: Reader,
     tally: Tally,
-) -> Walk
+) -> Result<Tally, Break>
     ensures { WalkedOn file.now encoding fix asked limited edges start tally result }
 {
     let at = spot_of(fix);
@@ -187,30 +186,33 @@ fn judge_on(
     let mut left = edges;
     loop {
         if is_done(limited, left) {
-            return Walk::Enough(tally);
+            return Ok(tally);
         }
-        left = one_less(left);
-        let next = next_point(file, encoding, reader);
-        let Next::Point(later) = next else {
-            return Walk::Ended { next, tally };
+        left = left.saturating_sub(1);
+        let later = match next_point(file, encoding, reader) {
+            Ok(Some(later)) => later,
+            Ok(None) => return Ok(tally),
+            Err(stop) => return Err(Break::Unread { stop, tally }),
         };
         let here = seen_from(fix, at, asked, later.point);
-        let passed = judge_point(fix, at, asked, begun, last, here, tally);
-        let Passed::On(counted) = passed else {
-            return Walk::Stopped {
-                passed,
-                least: tally.least,
-            };
+        let counted = match judge_point(fix, at, asked, begun, last, here, tally) {
+            Ok(counted) => counted,
+            Err(halt) => {
+                return Err(Break::Halted {
+                    halt,
+                    least: tally.least,
+                });
+            }
         };
         begun = true;
         tally = counted;
         // As long as the border stays in such a field, nothing changes.
         match open_along(limited, fix, asked, counted, later.point) {
-            Open::Shut => {
+            None => {
                 reader = later;
                 last = here;
             }
-            Open::About(field) => {
+            Some(field) => {
                 reader = glide_on(file, encoding, field, later);
                 last = seen_from(fix, at, asked, reader.point);
             }
@@ -219,24 +221,24 @@ fn judge_on(
 }
 
 // What a walk along a whole border says.
-fn answer(walk: Walk, asked: bool) -> Judged
+fn answer(walk: Result<Tally, Break>, asked: bool) -> Result<Judged, Fault>
     ensures { told result ≡ judgement_of asked walk }
 {
     match walk {
-        Walk::Ended { next, tally } => ended(next, asked, tally),
-        Walk::Stopped { passed, least } => stopped(passed, asked, least),
-        Walk::Enough(tally) => closed(asked, tally),
+        Ok(tally) => Ok(closed(asked, tally)),
+        Err(Break::Unread { stop, tally }) => unread(stop, tally.least),
+        Err(Break::Halted { halt, least }) => stopped(halt, asked, least),
     }
 }
 
-// The step that a walk over so many edges is.
-fn step_of(walk: Walk) -> Passed
+// The step that a walk over so many edges is. Where the border can't be read on, it goes as far as it was read.
+fn step_of(walk: Result<Tally, Break>) -> Result<Tally, Halt>
     ensures { step.told result ≡ step_of walk }
 {
     match walk {
-        Walk::Ended { next: _, tally } => Passed::On(tally),
-        Walk::Stopped { passed, least: _ } => passed,
-        Walk::Enough(tally) => Passed::On(tally),
+        Ok(tally) => Ok(tally),
+        Err(Break::Unread { stop: _, tally }) => Ok(tally),
+        Err(Break::Halted { halt, least: _ }) => Err(halt),
     }
 }
 
@@ -249,7 +251,7 @@ pub fn pass_edges(
     edges: usize,
     start: Reader,
     tally: Tally,
-) -> Passed
+) -> Result<Tally, Halt>
     ensures { step.told result ≡ passing_first fix asked edges (after start.point) (trace_of file.now encoding start) tally }
 {
     let walk = judge_on(file, encoding, fix, asked, true, edges, start, tally);
@@ -265,7 +267,7 @@ pub fn point_in_polygon(
     lon: FixedLon,
     asked: bool,
     least: u64,
-) -> Judged
+) -> Result<Judged, Fault>
     ensures { told result ≡ judged_at file.now encoding place lat lon asked least }
 {
     let fix = Point { lat, lon };

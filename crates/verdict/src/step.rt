@@ -16,10 +16,9 @@ pub struct Tally {
     pub least: u64,
 }
 
-// A step along the border: on, or the location is on the border, or a number passes its range.
+// Why a step along the border does not go on: the location is on the border, or a number passes its range.
 #[derive(Clone, Copy)]
-pub enum Passed {
-    On(Tally),
+pub enum Halt {
     Meets(Verdict),
     Over,
 }

@@ -1,38 +1,25 @@
 // How often a border winds about a location, in quarter turns.
 ghost use Rattle.std.specs.Prelude.{◌≡◌};
-ghost use Rattle.verdict.specs.Step as step;
-ghost use Rattle.verdict.specs.{Edge.{quadrant_of, spot_of}, Winding.{told, turned, quarter_by, half_turn, turn_at, crossing_of, across_by, clear_of, wound_by}};
+ghost use Rattle.verdict.specs.{Edge.{quadrant_of, spot_of}, Step.{told}, Winding.{turned, quarter_by, half_turn, turn_at, crossing_of, across_by, clear_of, wound_by}};
 
 use crate::edge::{Edge, Seen, Slope, Spot, edge_between, in_box, is_straight, spot_of};
-use crate::step::{Passed, Tally, Verdict};
-use border::place::{FixedLon, Point, fits_i32};
+use crate::step::{Halt, Tally, Verdict};
+use border::place::{FixedLon, Point};
 use numbers::float::cut::to_i32;
 
-// Where an edge crosses two quadrants: the turn, or the location is on the edge, or a bound passes an i32.
-#[derive(Clone, Copy)]
-pub enum Crossing {
-    Turns(i32),
-    OnSegment,
-    Over,
-}
-
-fn turn(tally: Tally, by: i32) -> Passed
-    ensures { step.told result ≡ turned by tally }
+fn turn(tally: Tally, by: i32) -> Result<Tally, Halt>
+    ensures { told result ≡ turned by tally }
 {
-    let sum = (tally.winding as i64) + (by as i64);
-    if fits_i32(sum) {
-        Passed::On(Tally {
-            winding: sum as i32,
-            least: tally.least,
-        })
-    } else {
-        Passed::Over
-    }
+    let winding = tally.winding.checked_add(by).ok_or(Halt::Over)?;
+    Ok(Tally {
+        winding,
+        least: tally.least,
+    })
 }
 
 // One quadrant on, or one back.
-pub(crate) fn quarter(quarters: u8, tally: Tally) -> Passed
-    ensures { step.told result ≡ quarter_by quarters tally }
+pub(crate) fn quarter(quarters: u8, tally: Tally) -> Result<Tally, Halt>
+    ensures { told result ≡ quarter_by quarters tally }
 {
     if quarters == 1 {
         return turn(tally, 1);
@@ -40,7 +27,7 @@ pub(crate) fn quarter(quarters: u8, tally: Tally) -> Passed
     if quarters == 3 {
         return turn(tally, -1);
     }
-    Passed::On(tally)
+    Ok(tally)
 }
 
 // Two quadrants, by the west or by the east.
@@ -54,26 +41,19 @@ fn half_turn(west: bool, quadrant: u8) -> i32
     }
 }
 
-// A crossing within one of the location is on the border. The right bound is worked out only if the left one holds.
-fn turn_at(crossing: FixedLon, fix: FixedLon, quadrant: u8) -> Crossing
+// The turn where an edge crosses two quadrants. A crossing within one of the location is on the border. The right bound is worked out only if the left one holds.
+fn turn_at(crossing: FixedLon, fix: FixedLon, quadrant: u8) -> Result<i32, Halt>
     ensures { told result ≡ turn_at crossing fix quadrant }
 {
-    let met = crossing.0 as i64;
-    let left = (fix.0 as i64) - 1;
-    if !fits_i32(left) {
-        return Crossing::Over;
+    let left = fix.0.checked_sub(1).ok_or(Halt::Over)?;
+    if crossing.0 < left {
+        return Ok(half_turn(true, quadrant));
     }
-    if met < left {
-        return Crossing::Turns(half_turn(true, quadrant));
+    let right = fix.0.checked_add(1).ok_or(Halt::Over)?;
+    if right < crossing.0 {
+        return Ok(half_turn(false, quadrant));
     }
-    let right = (fix.0 as i64) + 1;
-    if !fits_i32(right) {
-        return Crossing::Over;
-    }
-    if right < met {
-        return Crossing::Turns(half_turn(false, quadrant));
-    }
-    Crossing::OnSegment
+    Err(Halt::Meets(Verdict::OnBorderSegment))
 }
 
 // The longitude at which a line has the location's latitude.
@@ -85,36 +65,31 @@ fn crossing_of(fix: Point, at: Spot, line: Slope) -> FixedLon
 }
 
 // An edge that leads across two quadrants; a straight one has the location on it.
-fn cross(fix: Point, at: Spot, edge: Edge, quadrant: u8, tally: Tally) -> Passed
+fn cross(fix: Point, at: Spot, edge: Edge, quadrant: u8, tally: Tally) -> Result<Tally, Halt>
     requires { at ≡ spot_of fix }
-    ensures { step.told result ≡ across_by fix edge quadrant tally }
+    ensures { told result ≡ across_by fix edge quadrant tally }
 {
     let Edge::Sloped(line) = edge else {
-        return Passed::Meets(Verdict::OnBorderSegment);
+        return Err(Halt::Meets(Verdict::OnBorderSegment));
     };
-    match turn_at(crossing_of(fix, at, line), fix.lon, quadrant) {
-        Crossing::Turns(by) => turn(tally, by),
-        Crossing::OnSegment => Passed::Meets(Verdict::OnBorderSegment),
-        Crossing::Over => Passed::Over,
-    }
+    let by = turn_at(crossing_of(fix, at, line), fix.lon, quadrant)?;
+    turn(tally, by)
 }
 
 // A straight edge whose box holds the location has the location on it.
-fn keep_clear(fix: Point, from: Point, to: Point, tally: Tally) -> Passed
-    ensures { step.told result ≡ clear_of fix «from» to tally }
+fn keep_clear(fix: Point, from: Point, to: Point, tally: Tally) -> Result<Tally, Halt>
+    ensures { told result ≡ clear_of fix «from» to tally }
 {
-    if is_straight(from, to) {
-        if in_box(to, fix, from) {
-            return Passed::Meets(Verdict::OnBorderSegment);
-        }
+    if is_straight(from, to) && in_box(to, fix, from) {
+        return Err(Halt::Meets(Verdict::OnBorderSegment));
     }
-    Passed::On(tally)
+    Ok(tally)
 }
 
 // The winding after the edge between two points. Most edges stay in one quadrant.
-pub(crate) fn wound(fix: Point, at: Spot, from: Seen, to: Seen, tally: Tally) -> Passed
+pub(crate) fn wound(fix: Point, at: Spot, from: Seen, to: Seen, tally: Tally) -> Result<Tally, Halt>
     requires { (at ≡ spot_of fix) × («from».quadrant ≡ quadrant_of fix «from».point) × (to.quadrant ≡ quadrant_of fix to.point) }
-    ensures { step.told result ≡ wound_by fix «from».point to.point tally }
+    ensures { told result ≡ wound_by fix «from».point to.point tally }
 {
     let start = from.point;
     let end = to.point;
@@ -126,9 +101,6 @@ pub(crate) fn wound(fix: Point, at: Spot, from: Seen, to: Seen, tally: Tally) ->
         let edge = edge_between(start, spot_of(start), end, spot_of(end));
         return cross(fix, at, edge, to.quadrant, tally);
     }
-    let turned = quarter(quarters, tally);
-    let Passed::On(counted) = turned else {
-        return turned;
-    };
+    let counted = quarter(quarters, tally)?;
     keep_clear(fix, start, end, counted)
 }

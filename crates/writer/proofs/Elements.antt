@@ -1,20 +1,17 @@
 -- The checks, one element at a time. Assumes nothing.
-use Rattle.numbers.proofs.Prelude.{ℕ, suc, eq-eqb, ne_eqb, le-leb, ltb-true, lt-leb, ltb-false, eqb, ℤ, pos, negsuc, ◌-ℤ◌, neg_ℤ, lt_z, le_z, Bool, true, false, ◌&&◌, not, List, ◌≡◌, refl, sym, ap, ◌∙◌}
+use Rattle.numbers.proofs.Prelude.{ℕ, suc, eq-eqb, ne_eqb, le-leb, leb-true, leb, eqb, ℤ, pos, negsuc, ◌-ℤ◌, neg_ℤ, le_z, Bool, true, false, ◌&&◌, not, List, ◌≡◌, refl, sym, ap, ◌∙◌}
 use Rattle.numbers.{proofs.{Prelude.{w32, SFits, of_z, to_z, arith}, Tests.{differ}}, specs.{Answer.{if◌then◌else◌}, Point.{point_of}, Spelling.{signed_form}, declared.point.RawPoint.{RawPoint}}}
-use Rattle.border.specs.Place.{is_still, is_zero}
+use mathlib.Core.Bool.{and-true}
+use Rattle.border.{proofs.Signs.{by_test}, specs.Place.{is_still, is_zero}}
 use Rattle.writer.specs.{Moves.{is_move, turned_back, same_move}, Writer.{near}, inner.Stored.{gap_at, move_at}}
 use Rattle.writer.proofs.Signs.{form_zero, formed, from_zero}
 
 -- ---- coordinates
-pub near_low : (z : ℤ) → lt_z z (negsuc 1073741822) ≡ true → false ≡ near z
+pub near_is : (z : ℤ) → (le_z (negsuc 1073741822) z && le_z z (pos 1073741823)) ≡ near z
 unfolding near
-near_low (pos n) e = differ e
-near_low (negsuc n) e = sym (lt-leb (suc n) 1073741823 (omega (arith, ltb-true 1073741822 n e)))
-
-pub near_rest : (z : ℤ) → lt_z z (negsuc 1073741822) ≡ false → le_z z (pos 1073741823) ≡ near z
-unfolding near
-near_rest (pos n) e = refl
-near_rest (negsuc n) e = sym (le-leb (suc n) 1073741823 (omega (arith, ltb-false 1073741822 n e)))
+near_is (pos n) = refl
+near_is (negsuc n) = and-true (leb n 1073741822) ∙ by_test (leb n 1073741822) (leb (suc n) 1073741823) (λ e. le-leb (suc n) 1073741823 (omega (arith, leb-true n 1073741822 e)))
+    (λ e. le-leb n 1073741822 (omega (arith, leb-true (suc n) 1073741823 e)))
 
 -- ---- a point and the one before it
 module _ (lats lons : List ℤ) (i : ℕ) {r : ℕ} (e : r ≡ signed_form (gap_at lats i)) where

@@ -3,27 +3,27 @@ use Rattle.numbers.proofs.{Lists.{zeros_drop}, Prelude.{ℕ, ◌-◌, ◌^◌, �
 use Rattle.numbers.{proofs.{Prelude.{List, [], ◌∷◌, ◌++◌, flat_map, ◌≡◌, refl, sym, ap, ◌∙◌, arith}, Replies.{demanded}}, specs.{Answer.{if◌then◌else◌}, Lists.{zeros}, Reply.{Reply, given, refused}}}
 use Rattle.numbers.specs.{Reply.{refusal, plain, ◌>>◌}, Spelling.{varint_of}, declared.{point.RawPoint.{RawPoint}, refusal.Refusal.{Refusal}}}
 use Rattle.writer.specs.{Moves.{plain_move_bytes, moves_of}, Pieces.{packed_from}, Writer.{sized, checks, plain_border, packed_border, border_of, Replied, replied, fitted}}
-use Rattle.writer.specs.{declared.{pieces.Check.{Check}, write.{Piece.{Piece}, Written.TheVariants.{Wrote, Refused}}}, inner.Stored.{Stored, Checked}}
+use Rattle.writer.specs.{declared.{pieces.Check.{Check}, write.Piece.{Piece}}, inner.Stored.{Stored, Checked}}
 use Rattle.writer.proofs.{Faults.{Sizes, sizes}, Indexed.{border_length}, Stores.{stored_front, stored_length}}
 
 -- ---- what was stored over zeros, if it fits
 module _ (n : ℕ) (answer : Reply (List ℕ)) where
-  pub refusing : (number detail : ℕ) (out : List ℕ) → answer ≡ refused (refusal number 0 detail) → out ≡ zeros n → replied (Refused number detail) out ≡ fitted n answer
+  pub refusing : (why : Refusal) (out : List ℕ) → answer ≡ refused why → out ≡ zeros n → replied (refused why) out ≡ fitted n answer
   unfolding fitted
-  refusing number detail out is e = ap (replied (Refused number detail)) e ∙ ap (fitted n) (sym is)
+  refusing why out is e = ap (replied (refused why)) e ∙ ap (fitted n) (sym is)
 
   pub finished : (bytes before after : List ℕ) (next : ℕ) (r : Replied) → answer ≡ given bytes → before ≡ zeros n → Stored before 0 bytes after next
-      → r ≡ (if leb next (length after) then replied (Wrote next) after else replied (Refused 24 0) (zeros (length after))) → r ≡ fitted n answer
+      → r ≡ (if leb next (length after) then replied (given next) after else replied (refused (plain 24)) (zeros (length after))) → r ≡ fitted n answer
   unfolding fitted
   finished bytes before after next r is z s e = let size : length before ≡ n = ap length z ∙ length-replicate {A = ℕ} n 0 in
       let size' : length after ≡ n = stored_length s ∙ size in let end : next ≡ length bytes = omega (arith, s.place_after) in
-      e ∙ ap (λ (k : ℕ). if leb k (length after) then replied (Wrote k) after else replied (Refused 24 0) (zeros (length after))) end
-      ∙ ap (λ (k : ℕ). if leb (length bytes) k then replied (Wrote (length bytes)) after else replied (Refused 24 0) (zeros k)) size'
+      e ∙ ap (λ (k : ℕ). if leb k (length after) then replied (given k) after else replied (refused (plain 24)) (zeros (length after))) end
+      ∙ ap (λ (k : ℕ). if leb (length bytes) k then replied (given (length bytes)) after else replied (refused (plain 24)) (zeros k)) size'
       ∙ by_test (leb (length bytes) n) refl size ∙ ap (fitted n) (sym is) where
-        by_test : (t : Bool) → leb (length bytes) n ≡ t → length before ≡ n → (if t then replied (Wrote (length bytes)) after else replied (Refused 24 0)
-            (zeros n)) ≡ (if t then replied (Wrote (length bytes)) (bytes ++ zeros (n - length bytes)) else replied (Refused 24 0) (zeros n))
+        by_test : (t : Bool) → leb (length bytes) n ≡ t → length before ≡ n → (if t then replied (given (length bytes)) after else replied (refused (plain 24))
+            (zeros n)) ≡ (if t then replied (given (length bytes)) (bytes ++ zeros (n - length bytes)) else replied (refused (plain 24)) (zeros n))
         by_test true t size =
-            ap (replied (Wrote (length bytes))) (stored_front before bytes after next s (omega (arith, leb-true (length bytes) n t))
+            ap (replied (given (length bytes))) (stored_front before bytes after next s (omega (arith, leb-true (length bytes) n t))
             ∙ ap (λ (xs : List ℕ). bytes ++ drop (length bytes) xs) z ∙ ap (λ (xs : List ℕ). bytes ++ xs) (zeros_drop (length bytes) n))
         by_test false t size = refl
 

@@ -1,8 +1,9 @@
 -- The moves that a piece stands for, and the numbers of its run, one at a time. Assumes nothing.
-use Rattle.numbers.proofs.{Laws.{case_of}, Prelude.{ℕ, suc, ◌+◌, ◌-◌, ◌≤◌, ◌<◌, eq-eqb, ne_eqb, le-leb, ltb-true, lt-leb, ltb-false, eqb, ltb, leb, ℤ, length, take, drop, get_or, length-drop}}
-use Rattle.numbers.proofs.Prelude.{length-map, List·getD-append, length-take-le, drop-cons, drop-length, get_or-take, get_or-drop, get_or_at, Bool, true, false, ◌&&◌, not, List, [], ◌∷◌, ◌++◌, map, ◌⊎◌}
-use Rattle.numbers.{proofs.Prelude.{inl, inr, ◌≡◌, refl, sym, ap, ◌∙◌, arith}, specs.{Answer.{Answer, if◌then◌else◌}, Point.{point_of}, Varint.{Numeral, told, forward_at}}}
-use Rattle.numbers.specs.declared.{point.RawPoint.{RawPoint}, varint.Varint.{Varint, TheVariants.{Number, Failed, Refused}}}
+use Rattle.numbers.proofs.{Prelude.{ℕ, suc, ◌+◌, ◌-◌, ◌≤◌, ◌<◌, eq-eqb, ne_eqb, le-leb, ltb-true, lt-leb, ltb-false, eqb, ltb, leb, ℤ, length, take, drop, get_or, length-drop}}
+use Rattle.numbers.proofs.Prelude.{length-map, List·getD-append, length-take-le, drop-cons, drop-length, get_or-take, get_or-drop, get_or_at, Bool, true, false, ◌&&◌, not, List, [], ◌∷◌, ◌++◌, map}
+use Rattle.numbers.{proofs.Prelude.{◌≡◌, refl, sym, ap, ◌∙◌, arith}, specs.{Answer.{Answer, if◌then◌else◌}, Point.{point_of}, Varint.{Numeral, told, forward_at}}}
+use Rattle.numbers.specs.declared.{point.RawPoint.{RawPoint}, varint.Stop.{Stop, TheVariants.{Failed, TooLong, Incomplete, OutOfRange, PastEnd}}}
+use Rattle.std.specs.Prelude.{Result, Ok, Err}
 use mathlib.Core.List.{reverse, reverse-cons}
 use lib.ListN.{length-reverse, get_or-map}
 use Rattle.writer.specs.{Moves.{moves_of, turned_back, same_move}, Pieces.{lent_moves, read_and, spells}, declared.write.Piece.{Piece}, inner.Stored.{move_at}}
@@ -89,17 +90,18 @@ module _ (lats lons : List ℤ) (p : Piece) (lats-long : p.first + p.count ≤ l
           ap (spells run place) (drop-cons all j still (omega (arith, lent_length (moves_of lats lons) p inside))) ∙ ap (λ (m : RawPoint). spells run place (m ∷ drop (suc j) all)) e
           ∙ ap (λ (k : ℕ). spells run place (here ∷ drop k all)) n
 
-      module _ (a : Varint) (answer : told a ≡ forward_at run place) where
-        pub unread : (case_of a ≡ 1) ⊎ (case_of a ≡ 2) → false ≡ spells run place (drop j all)
-        unfolding read_and
-        unread none = go a none ∙ ap (λ (x : Answer Numeral). read_and x judged) answer ∙ sym spells_next where
-          go : (a : Varint) → (case_of a ≡ 1) ⊎ (case_of a ≡ 2) → false ≡ read_and (told a) judged
-          go (Number number) (inl e) = absurd (omega arith)
-          go (Number number) (inr e) = absurd (omega arith)
-          go Failed h = refl
-          go (Refused n) h = refl
+      pub unread : (stop : Stop) → told (Err stop) ≡ forward_at run place → false ≡ spells run place (drop j all)
+      unfolding read_and
+      unread stop answer = go stop ∙ ap (λ (x : Answer Numeral). read_and x judged) answer ∙ sym spells_next where
+        go : (stop : Stop) → false ≡ read_and (told (Err stop)) judged
+        go Failed = refl
+        go TooLong = refl
+        go Incomplete = refl
+        go OutOfRange = refl
+        go PastEnd = refl
 
-        module _ (number : Numeral) (is_number : a ≡ Number number) where
+      module _ (a : Result Numeral Stop) (answer : told a ≡ forward_at run place) where
+        module _ (number : Numeral) (is_number : a ≡ Ok number) where
           read : spells run place (drop j all) ≡ judged number
           unfolding read_and
           read = spells_next ∙ ap (λ (x : Answer Numeral). read_and x judged) (sym answer ∙ ap told is_number)

@@ -2,8 +2,7 @@
 use Rattle.std.specs.Prelude.{if◌then◌else◌, ◌&&◌, ◌∷◌, ◌++◌}
 use Rattle.numbers.specs.{Limits.{largest_file}, Lists.{zeros, padded}, Prelude.{ℕ, eqb, ltb, leb, ℤ, nat_abs, length, take, drop, Bool, true, List, []}}
 use Rattle.numbers.specs.{Prelude.{flat_map}, Reply.{Reply, given, refused, refusal, plain, demand, ◌>>◌}, Spelling.{varint_of}, declared.point.RawPoint.{RawPoint}}
-use Rattle.writer.specs.{Limits.{most_points, most_pieces}, Moves.{plain_move_bytes, moves_of, is_move}, Pieces.{good_pieces, packed_from}, declared.write.{Piece.{Piece}, Written.{Written}}}
-use Rattle.writer.specs.declared.write.Written.TheVariants as W
+use Rattle.writer.specs.{Limits.{most_points, most_pieces}, Moves.{plain_move_bytes, moves_of, is_move}, Pieces.{good_pieces, packed_from}, declared.write.Piece.{Piece}}
 
 -- each element of the list is good
 unfoldable pub every : {A : Type 0} → (A → Bool) → List A → Bool
@@ -46,21 +45,13 @@ border_of version lats lons pieces earlier = do
   checks version lats lons earlier
   if eqb version 0 then plain_border (moves_of lats lons) pieces else packed_border (moves_of lats lons) pieces earlier
 
--- ---- the reply, and all of the lent output; no refusal of the writer has a cause
-abbrev pub told : Written → Reply ℕ
-told (W.Wrote length) = given length
-told (W.Refused number detail) = refused (refusal number 0 detail)
-
--- only whether it was refused
-abbrev pub passed : Written → Reply (Unit {0})
-passed r = told r >> given tt
-
+-- ---- the reply, and all of the lent output
 pub record Replied : Type 0 where
   pub reply : Reply ℕ
   pub out : List ℕ
 
-abbrev pub replied : Written → List ℕ → Replied
-replied r out = record { reply = told r; out = out }
+abbrev pub replied : Reply ℕ → List ℕ → Replied
+replied r out = record { reply = r; out = out }
 
 -- 24 where the bytes do not fit; behind them, and on a refusal, all is zero
 unfoldable pub fitted : ℕ → Reply (List ℕ) → Replied

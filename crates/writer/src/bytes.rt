@@ -1,8 +1,8 @@
 // Bytes into a lent buffer. A byte that does not fit is counted and left out: the place is held against the buffer's length once, at the end.
 ghost use mathlib.Core.{Path.{◌≡◌}, List.{◌++◌}};
-ghost use Rattle.std.specs.Prelude.{◌+◌, ◌^◌, ◌<◌, length};
+ghost use Rattle.std.specs.Prelude.{◌+◌, ◌^◌, ◌<◌};
 ghost use Rattle.writer.specs.inner.Stored.{Stored};
-ghost use Rattle.numbers.specs.{Lists.{zeros}, Spelling.{varint_of}};
+ghost use Rattle.numbers.specs.Spelling.{varint_of};
 
 use numbers::write::write_varint;
 
@@ -20,14 +20,4 @@ pub(crate) fn put_two(out: &mut [u8], place: usize, first: u64, second: u64) -> 
 {
     let next = put_varint(out, place, first);
     put_varint(out, next, second)
-}
-
-pub(crate) fn zero_bytes(out: &mut [u8])
-    ensures { out.new ≡ zeros (length out.old) }
-{
-    let mut i = 0;
-    while i < out.len() {
-        out[i] = 0;
-        i += 1;
-    }
 }

@@ -1,31 +1,26 @@
 // The checks of a border: 1, 5 and 19 to 22, each over the whole border.
 ghost use Rattle.std.specs.Prelude.{◌≡◌, ◌<◌, length, drop};
-ghost use Rattle.writer.specs.{Moves.{moves_of, is_move}, Writer.{every, near, sized, checks, passed}};
+ghost use Rattle.writer.specs.{Moves.{moves_of, is_move}, Writer.{every, near, sized, checks}};
 
 use crate::limits::MOST_POINTS;
 use crate::moves::moves_at;
-use crate::write::Written;
+use numbers::fault::Fault;
 use numbers::limits::LARGEST_FILE;
-use numbers::refusal::{AT_ORIGIN, BAD_LISTS, BAD_VERSION, REPEATED, TOO_FAR, TOO_LARGE};
+use numbers::refusal::Refusal;
 
 fn is_near(z: i32) -> bool
     ensures { result ≡ near z }
 {
-    if z < -1073741823 {
-        return false;
-    }
-    z <= 1073741823
+    -1073741823 <= z && z <= 1073741823
 }
 
 fn all_near(list: &[i32]) -> bool
     ensures { result ≡ every near list.now }
 {
-    let mut i = 0;
-    while i < list.len() {
-        if !is_near(list[i]) {
+    for z in list {
+        if !is_near(*z) {
             return false;
         }
-        i += 1;
     }
     true
 }
@@ -35,12 +30,10 @@ fn none_repeated(lats: &[i32], lons: &[i32]) -> bool
     requires { (0 < length lats.now) × (length lons.now ≡ length lats.now) }
     ensures { result ≡ every is_move (drop 1 (moves_of lats.now lons.now)) }
 {
-    let mut i = 1;
-    while i < lats.len() {
+    for i in 1..lats.len() {
         if !moves_at(lats, lons, i) {
             return false;
         }
-        i += 1;
     }
     true
 }
@@ -51,42 +44,38 @@ fn is_sized(lats: &[i32], lons: &[i32]) -> bool
     if lats.len() != lons.len() {
         return false;
     }
-    if lats.len() == 0 {
-        return false;
-    }
-    lats.len() <= MOST_POINTS
+    0 < lats.len() && lats.len() <= MOST_POINTS
 }
 
-pub(crate) fn refused(number: u8, detail: u64) -> Written
-    ensures { result ≡ Written.Refused number detail }
-{
-    Written::Refused { number, detail }
-}
-
-// The first refusal; where all checks hold, nothing is written yet.
-pub(crate) fn border_fault(version: u8, lats: &[i32], lons: &[i32], earlier: &[u8]) -> Written
-    ensures { passed result ≡ checks version lats.now lons.now earlier.now }
+// The first refusal, if there is one.
+pub(crate) fn border_fault(
+    version: u8,
+    lats: &[i32],
+    lons: &[i32],
+    earlier: &[u8],
+) -> Result<(), Refusal>
+    ensures { result ≡ checks version lats.now lons.now earlier.now }
 {
     if LARGEST_FILE < earlier.len() {
-        return refused(TOO_LARGE, 0);
+        return Err(Fault::FileTooLarge.alone());
     }
     if 2 <= version {
-        return refused(BAD_VERSION, version as u64);
+        return Err(Fault::UnknownVersion.with(u64::from(version)));
     }
     if !is_sized(lats, lons) {
-        return refused(BAD_LISTS, 0);
+        return Err(Fault::BadBorder.alone());
     }
     if !all_near(lats) {
-        return refused(TOO_FAR, 0);
+        return Err(Fault::TooFar.alone());
     }
     if !all_near(lons) {
-        return refused(TOO_FAR, 0);
+        return Err(Fault::TooFar.alone());
     }
     if !none_repeated(lats, lons) {
-        return refused(REPEATED, 0);
+        return Err(Fault::RepeatedPoint.alone());
     }
     if !moves_at(lats, lons, 0) {
-        return refused(AT_ORIGIN, 0);
+        return Err(Fault::StartsAtZero.alone());
     }
-    Written::Wrote(0)
+    Ok(())
 }

@@ -44,10 +44,7 @@ pub(crate) fn moves_at(lats: &[i32], lons: &[i32], i: usize) -> bool
     requires { (i < length lats.now) × (i < length lons.now) }
     ensures { result ≡ is_move (move_at lats.now lons.now i) }
 {
-    if gap_form(lats, i) != 0 {
-        return true;
-    }
-    gap_form(lons, i) != 0
+    gap_form(lats, i) != 0 || gap_form(lons, i) != 0
 }
 
 // Whether a number is the border's ith move, negated when the direction is backward.
@@ -83,10 +80,8 @@ pub(crate) fn put_packed(
     ensures { Stored out.old place (flat_map packed_move_bytes (slice from to (moves_of lats.now lons.now))) out.new result }
 {
     let mut next = place;
-    let mut i = from;
-    while i < to {
+    for i in from..to {
         next = put_varint(out, next, move_number(lats, lons, i));
-        i += 1;
     }
     next
 }
@@ -104,10 +99,8 @@ pub(crate) fn put_plain(
     ensures { Stored out.old place (flat_map plain_move_bytes (slice from to (moves_of lats.now lons.now))) out.new result }
 {
     let mut next = place;
-    let mut i = from;
-    while i < to {
+    for i in from..to {
         next = put_two(out, next, gap_form(lats, i), gap_form(lons, i));
-        i += 1;
     }
     next
 }

@@ -8,7 +8,7 @@ use crate::bytes::put_two;
 use crate::limits::MOST_PIECES;
 use crate::moves::is_lent;
 use crate::write::Piece;
-use numbers::varint::{Varint, read_forward};
+use numbers::varint::read_forward;
 
 // Stands for any number of pieces over the most.
 const TOO_MANY: usize = MOST_PIECES + 1;
@@ -40,9 +40,8 @@ fn run_spells(run: &[u8], lats: &[i32], lons: &[i32], piece: Piece) -> bool
     ensures { result ≡ spells run.now 0 (lent_moves (moves_of lats.now lons.now) piece) }
 {
     let mut place = 0;
-    let mut j = 0;
-    while j < piece.count {
-        let Varint::Number(number) = read_forward(run, place) else {
+    for j in 0..piece.count {
+        let Ok(number) = read_forward(run, place) else {
             return false;
         };
         if run.len() < number.place {
@@ -56,7 +55,6 @@ fn run_spells(run: &[u8], lats: &[i32], lons: &[i32], piece: Piece) -> bool
             return false;
         }
         place = number.place;
-        j += 1;
     }
     place == run.len()
 }
@@ -66,10 +64,7 @@ fn clear_before(earlier: &[u8], place: usize) -> bool
     requires { place ≤ length earlier.now }
     ensures { result ≡ clear_before earlier.now place }
 {
-    if place == 0 {
-        return false;
-    }
-    earlier[place - 1] < 128
+    0 < place && earlier[place - 1] < 128
 }
 
 // One piece, by value; moves below `free` are taken.
@@ -156,10 +151,8 @@ pub(crate) fn check_pieces(
     ensures { Checked earlier.now (moves_of lats.now lons.now) [] check → Checked earlier.now (moves_of lats.now lons.now) pieces.now result }
 {
     let mut sofar = check;
-    let mut i = 0;
-    while i < pieces.len() {
-        sofar = check_next(earlier, lats, lons, sofar, pieces[i]);
-        i += 1;
+    for piece in pieces {
+        sofar = check_next(earlier, lats, lons, sofar, *piece);
     }
     sofar
 }
@@ -188,12 +181,9 @@ pub(crate) fn check_words(
 ) -> Check
     ensures { Checked earlier.now (moves_of lats.now lons.now) [] check → Checked earlier.now (moves_of lats.now lons.now) (pieces_of words.now) result }
 {
-    let count = words.len() / 5;
     let mut sofar = check;
-    let mut i = 0;
-    while i < count {
+    for i in 0..words.len() / 5 {
         sofar = check_next(earlier, lats, lons, sofar, piece_at(words, i));
-        i += 1;
     }
     sofar
 }

@@ -1,16 +1,17 @@
 // The border writer: document 01, "The writer".
 ghost use mathlib.Core.{Path.{◌≡◌}, List.{List, [], ◌∷◌, ◌++◌, flat_map}};
-ghost use Rattle.std.specs.Prelude.{◌≤◌, min, if◌then◌else◌};
+ghost use Rattle.std.specs.Prelude.{Ok, Err, ◌≤◌, if◌then◌else◌};
 ghost use lib.{ListN.{length, take}, Dec.{leb}};
-ghost use Rattle.numbers.specs.{Lists.{zeros}, Spelling.{varint_of}};
+ghost use Rattle.numbers.specs.{Reply.{plain}, Lists.{zeros}, Spelling.{varint_of}};
 ghost use Rattle.writer.specs.{Moves.{plain_move_bytes, moves_of}, Pieces.{packed_from, pieces_of}, inner.Stored.{Stored, Checked}, Writer.{border_of, replied, fitted}};
 
-use crate::bytes::{put_two, put_varint, zero_bytes};
-use crate::checks::{border_fault, refused};
+use crate::bytes::{put_two, put_varint};
+use crate::checks::border_fault;
 use crate::limits::MOST_PIECES;
 use crate::moves::{put_packed, put_plain};
 use crate::pieces::{Check, check_pieces, check_words, no_pieces, put_piece};
-use numbers::refusal::{BAD_PIECES, NO_ROOM};
+use numbers::fault::Fault;
+use numbers::refusal::Refusal;
 
 // A run of the earlier data that stands for some of the border's moves; direction 0 is forward, others backward.
 #[derive(Clone, Copy)]
@@ -22,13 +23,6 @@ pub struct Piece {
     pub count: u32,
 }
 
-#[derive(Clone, Copy)]
-pub enum Written {
-    // How many bytes.
-    Wrote(usize),
-    Refused { number: u8, detail: u64 },
-}
-
 // Version 0: count, moves, guard bytes 02 02.
 fn write_plain(out: &mut [u8], lats: &[i32], lons: &[i32]) -> usize
     requires { (length lons.now ≡ length lats.now) × (length lats.now ≤ 65535) }
@@ -37,12 +31,6 @@ fn write_plain(out: &mut [u8], lats: &[i32], lons: &[i32]) -> usize
     let place = put_varint(out, 0, lats.len() as u64);
     let end = put_plain(out, place, lats, lons, 0, lats.len());
     put_two(out, end, 2, 2)
-}
-
-fn least(a: usize, b: usize) -> usize
-    ensures { result ≡ min a b }
-{
-    if a < b { a } else { b }
 }
 
 // Version 1: moves, those of the pieces borrowed, then 00 00.
@@ -58,29 +46,27 @@ fn write_packed(
 {
     let mut place = 0;
     let mut next = 0;
-    let mut j = 0;
-    while j < count {
+    for j in 0..count {
         let piece = kept[j];
         let first = piece.first as usize;
-        let to = least(first, lats.len());
+        let to = first.min(lats.len());
         let here = put_packed(out, place, lats, lons, next, to);
         place = put_piece(out, here, piece);
         next = first + piece.count as usize;
-        j += 1;
     }
     let end = put_packed(out, place, lats, lons, next, lats.len());
     put_two(out, end, 0, 0)
 }
 
 // What was stored is the reply if it fits.
-fn finish(out: &mut [u8], end: usize) -> Written
-    ensures { replied result out.new ≡ (if leb end (length out.old) then replied (Written.Wrote end) out.old else replied (Written.Refused 24 0) (zeros (length out.old))) }
+fn finish(out: &mut [u8], end: usize) -> Result<usize, Refusal>
+    ensures { replied result out.new ≡ (if leb end (length out.old) then replied (Ok end) out.old else replied (Err (plain 24)) (zeros (length out.old))) }
 {
     if out.len() < end {
-        zero_bytes(out);
-        return refused(NO_ROOM, 0);
+        out.fill(0);
+        return Err(Fault::OutputFull.alone());
     }
-    Written::Wrote(end)
+    Ok(end)
 }
 
 // The whole writer, over a checked list of pieces.
@@ -91,27 +77,24 @@ fn write_checked(
     check: Check,
     earlier: &[u8],
     out: &mut [u8],
-) -> Written
+) -> Result<usize, Refusal>
     ensures { (ps : List Piece) → Checked earlier.now (moves_of lats.now lons.now) ps check → replied result out.new ≡ fitted (length out.old) (border_of version lats.now lons.now ps earlier.now) }
 {
-    zero_bytes(out);
-    let fault = border_fault(version, lats, lons, earlier);
-    let Written::Wrote(_) = fault else {
-        return fault;
-    };
+    out.fill(0);
+    border_fault(version, lats, lons, earlier)?;
     let seen = check.seen;
     if version == 0 {
         if seen != 0 {
-            return refused(BAD_PIECES, 0);
+            return Err(Fault::BadPieces.alone());
         }
         let end = write_plain(out, lats, lons);
         return finish(out, end);
     }
     if MOST_PIECES < seen {
-        return refused(BAD_PIECES, MOST_PIECES as u64);
+        return Err(Fault::BadPieces.at(MOST_PIECES));
     }
     if check.good != seen {
-        return refused(BAD_PIECES, check.good as u64);
+        return Err(Fault::BadPieces.at(check.good));
     }
     let kept = check.kept;
     let end = write_packed(out, lats, lons, kept, seen);
@@ -126,7 +109,7 @@ pub fn write_border(
     pieces: &[Piece],
     earlier: &[u8],
     out: &mut [u8],
-) -> Written
+) -> Result<usize, Refusal>
     ensures { replied result out.new ≡ fitted (length out.old) (border_of version lats.now lons.now pieces.now earlier.now) }
 {
     let check = check_pieces(earlier, lats, lons, pieces, no_pieces());
@@ -141,7 +124,7 @@ pub fn write_border_words(
     words: &[u32],
     earlier: &[u8],
     out: &mut [u8],
-) -> Written
+) -> Result<usize, Refusal>
     ensures { replied result out.new ≡ fitted (length out.old) (border_of version lats.now lons.now (pieces_of words.now) earlier.now) }
 {
     let check = check_words(earlier, lats, lons, words, no_pieces());

@@ -1,6 +1,6 @@
 -- Each kind of turn, once its numbers are read: what the code goes by, and whoever writes a border. Assumes nothing.
 use Rattle.numbers.proofs.Prelude.{ℕ, ◌-◌, eq-eqb, ne_eqb, Bool, true, false, List, ◌≡◌}
-use Rattle.numbers.specs.{Answer.{found, failed, refused}, Point.{signed_of, point_of}, Varint.{numeral, reading_of, backward_at}, declared.point.RawPoint.{RawPoint}}
+use Rattle.numbers.specs.{Answer.{found, failed, ◌>>=◌}, Point.{signed_of, point_of}, Varint.{numeral, reading_of, backward_at}, declared.point.RawPoint.{RawPoint}}
 use Rattle.border.specs.{Place.{move_by, moved_by, negated}, Reader.{Reading, gives, again, ends, onward, arrived, closing, advanced, shown_by, plain_move, plain_pair, plain_turn, as_i64, opened}}
 use Rattle.border.specs.{Reader.{reference, marker, lent, forward_from, backward_from, packed_turn, turn_of}, declared.{place.Point.{Point}, reader.{Reader.{Reader}, Run.{Run}}}}
 use Rattle.border.specs.declared.reader.{Run.TheVariants.{Idle, Forward, Backward}, Version.{Version, TheVariants.{Plain, Packed}}}
@@ -36,10 +36,6 @@ module _ (reading : Reading) (f : List ℕ) (base : ℕ) (s : Reader) {value nex
     unfolding reference
     reference_opens o = rw (← read, ← then, ← o)
 
-    pub reference_over : refused 13 ≡ opened base (as_i64 value) (signed_of size) → reference reading base s ≡ refused 13
-    unfolding reference
-    reference_over o = rw (← read, ← then, ← o)
-
     -- version 0: a pair of numbers
     pub pair_read : plain_pair reading s ≡ plain_move (onward s after s.moves Idle) (move_by (signed_of value) (signed_of size))
     unfolding plain_pair
@@ -62,9 +58,9 @@ module _ (reading : Reading) (f : List ℕ) (base : ℕ) (s : Reader) (next end 
     unfolding packed_turn lent
     backward_fails h = rw (← read, eq-eqb value 0 h)
 
-    pub backward_over : (value ≡ 0 → ⊥) → refused 13 ≡ negated (point_of value) → packed_turn (Backward next end) reading f base s ≡ refused 13
+    pub backward_back : (value ≡ 0 → ⊥) → packed_turn (Backward next end) reading f base s ≡ (negated (point_of value) >>= λ back. advanced (onward s s.place s.moves (backward_from later end)) back)
     unfolding packed_turn lent
-    backward_over h o = rw (← read, ne_eqb value 0 h, ← o)
+    backward_back h = rw (← read, ne_eqb value 0 h)
 
     pub backward_move : {back : RawPoint} → (value ≡ 0 → ⊥) → found back ≡ negated (point_of value) → packed_turn (Backward next end) reading f base s ≡ advanced
         (onward s s.place s.moves (backward_from later end)) back
@@ -78,10 +74,6 @@ module _ (s : Reader) (by : RawPoint) where
   unfolding advanced
   advances m = rw (← m)
 
-  pub advance_over : refused 13 ≡ moved_by s.point by → advanced s by ≡ refused 13
-  unfolding advanced
-  advance_over m = rw (← m)
-
   -- version 0: past the last move, and before
   pub pair_closes : s.moves ≡ 0 → plain_move s by ≡ found (shown_by by (closing s))
   unfolding plain_move
@@ -90,10 +82,6 @@ module _ (s : Reader) (by : RawPoint) where
   pub pair_moves : {p : Point} → (s.moves ≡ 0 → ⊥) → found p ≡ moved_by s.point by → plain_move s by ≡ found (shown_by by (arrived (onward s s.place (s.moves - 1) Idle) p))
   unfolding plain_move
   pair_moves h m = rw (ne_eqb s.moves 0 h, ← m)
-
-  pub pair_over : (s.moves ≡ 0 → ⊥) → refused 13 ≡ moved_by s.point by → plain_move s by ≡ refused 13
-  unfolding plain_move
-  pair_over h m = rw (ne_eqb s.moves 0 h, ← m)
 
 -- ---- version 0: the count
 

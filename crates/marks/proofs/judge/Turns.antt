@@ -62,6 +62,13 @@ module _ (words : List ℕ) (at : ℕ) where
   unfolding count_in
   no_room h = simp (lt-leb (word_at words at + groups_of (word_at words at)) ((length words - (at + 1)) / 11) h, and-false)
 
+  pub zero_word : word_at words at ≡ 0 → 0 ≡ count_in words at
+  unfolding count_in
+  zero_word e = go (is_inside words at) where
+    go : (b : Bool) → 0 ≡ (if b then word_at words at else 0)
+    go true = sym e
+    go false = refl
+
   -- a word that says 0 says so
   pub room_for : at < length words → word_at words at + groups_of (word_at words at) ≤ (length words - (at + 1)) / 11 → word_at words at ≡ count_in words at
   unfolding count_in

@@ -69,24 +69,6 @@ fn is_nearest(n: u64, r: u64) -> bool
     n <= square + r
 }
 
-// The whole part of √n, by halving the range that holds it.
-fn halved_root(n: u64) -> u64
-    requires { n < 281474976710656 }
-    ensures { (result * result ≤ n) × (n < (result + 1) * (result + 1)) × (result < 16777216) }
-{
-    let mut low: u64 = 0;
-    let mut high: u64 = 16777216;
-    while low + 1 < high {
-        let middle = (low + high) / 2;
-        if middle * middle <= n {
-            low = middle;
-        } else {
-            high = middle;
-        }
-    }
-    low
-}
-
 fn nearest_root(n: u64) -> u64
     requires { (0 < n) × (n < 281474976710656) }
     ensures { result ≡ nearest_root n }
@@ -95,7 +77,7 @@ fn nearest_root(n: u64) -> u64
     if is_nearest(n, guess) {
         return guess;
     }
-    let low = halved_root(n);
+    let low = n.isqrt();
     if low * low + low < n { low + 1 } else { low }
 }
 

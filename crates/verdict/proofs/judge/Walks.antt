@@ -1,26 +1,24 @@
 -- The loop along a border, turn by turn: from its start to its end, or over so many edges. Assumes nothing.
-use Rattle.numbers.proofs.Prelude.{ℕ, zero, suc, ◌-◌, eqb-true, tag_of, eqb, Bool, true, false, ◌&&◌, List, [], ◌∷◌, ◌≡◌, refl, sym, ap, ◌∙◌, arith, OneOf, miss}
-use Rattle.numbers.{proofs.Tests.{differ}, specs.Answer.{Answer}}
-use Rattle.border.{proofs.Trace.{trace_step, point_trace}, specs.{Trace.{Trace, Given, reaches, point, next_point, trace_then, trace_of}, declared.{place.Point.{Point}, reader.Encoding.{Encoding}}}}
-use Rattle.border.specs.declared.reader.{Next.{Next}, Reader.{Reader}}
+use Rattle.numbers.proofs.Prelude.{ℕ, zero, suc, ◌-◌, eqb-true, eqb, Bool, true, false, ◌&&◌, List, [], ◌∷◌, ◌≡◌, refl, sym, ap, ◌∙◌, arith}
+use Rattle.numbers.{proofs.Tests.{differ}, specs.{Answer.{Answer}, declared.varint.Stop.{Stop, TheVariants.{Failed, TooLong, Incomplete, OutOfRange, PastEnd}}}}
+use Rattle.border.{proofs.Trace.{trace_step, point_trace}, specs.{Trace.{Trace, Given, reaches, ended, point, next_point, trace_then, trace_of}, declared.{place.Point.{Point}, reader.Encoding.{Encoding}}}}
+use Rattle.border.specs.declared.reader.Reader.{Reader}
+use Rattle.std.specs.Prelude.{Ok, Err}
 use Rattle.verdict.specs.{Step.{Step, found, told, ◌>>=◌}, Stretch.{passing_first}, Verdict.{Last, none, after, passing, then_on, judge}, declared.field.Field.{Field}}
-use Rattle.verdict.specs.{declared.{judge.Walk.TheVariants.{Ended, Stopped, Enough}, step.{Passed.{Passed}, Tally.{Tally}}}, inner.{Gliding.{Calm, GlidesTo, within}, Kept.{last_of}}}
+use Rattle.verdict.specs.{declared.{judge.Break.TheVariants.{Unread, Halted}, step.{Halt.{Halt}, Tally.{Tally}}}, inner.{Gliding.{Calm, GlidesTo, within}, Kept.{last_of}}}
 use Rattle.verdict.specs.inner.Walk.{judgement_of, step_of, WalkedOn}
-use Rattle.verdict.proofs.{Gliding.{carried}, judge.Cases.{decides, judge_end}, winding.Cases.{stays}}
-use Rattle.border.specs.inner.Told as R
+use Rattle.verdict.proofs.{Gliding.{carried}, Halts.{stops}, judge.Cases.{decides, judge_unread}}
+use Rattle.numbers.specs.Varint as N
 use Rattle.numbers.specs.Answer as A
-use Rattle.border.specs.declared.reader.Next.TheVariants as N
-use Rattle.border.specs.contracts.reader.Next as Next'
-use Rattle.verdict.specs.contracts.step.Passed as Passed'
 
--- ---- what a `let .. else` leaves
-first_end : (fix : Point) (asked : Bool) (n : ℕ) (last : Last) (next : Next) (rest : Reader → Trace) (t : Tally) → OneOf (1 ∷ 2 ∷ 3 ∷ []) (tag_of Next'.the_type next)
-    → found t ≡ passing_first fix asked (suc n) last (trace_then (R.told next) rest) t
+-- ---- a point that can't be read ends the first edges too
+first_unread : (fix : Point) (asked : Bool) (n : ℕ) (last : Last) (stop : Stop) (rest : Reader → Trace) (t : Tally) → found t ≡ passing_first fix asked (suc n) last (trace_then (N.told (Err stop)) rest) t
 unfolding passing_first trace_then
-first_end fix asked n last (N.Point s) rest t o = absurd (miss (1 ∷ 2 ∷ 3 ∷ []) 0 tt o)
-first_end fix asked n last N.Ended rest t o = refl
-first_end fix asked n last N.Failed rest t o = refl
-first_end fix asked n last (N.Refused k) rest t o = refl
+first_unread fix asked n last Failed rest t = refl
+first_unread fix asked n last TooLong rest t = refl
+first_unread fix asked n last Incomplete rest t = refl
+first_unread fix asked n last OutOfRange rest t = refl
+first_unread fix asked n last PastEnd rest t = refl
 
 module _ (file : List ℕ) (encoding : Encoding) (fix : Point) (asked : Bool) (edges : ℕ) (start : Reader) (tally : Tally) where
   abbrev rest : Reader → Trace
@@ -39,7 +37,7 @@ module _ (file : List ℕ) (encoding : Encoding) (fix : Point) (asked : Bool) (e
     abbrev whole : Step Tally
     whole = passing_first fix asked edges (after start.point) (rest start) tally
 
-    pub along_enough : (limited : Bool) (left : ℕ) → Along limited reader last t left → (limited && eqb left 0) ≡ true → WalkedOn file encoding fix asked limited edges start tally (Enough t)
+    pub along_enough : (limited : Bool) (left : ℕ) → Along limited reader last t left → (limited && eqb left 0) ≡ true → WalkedOn file encoding fix asked limited edges start tally (Ok t)
     unfolding passing_first step_of
     along_enough true left inv done = go left (eqb-true left 0 done) inv where
       go : (n : ℕ) → n ≡ 0 → passing_first fix asked n last (rest reader) t ≡ whole → found t ≡ whole
@@ -52,14 +50,27 @@ module _ (file : List ℕ) (encoding : Encoding) (fix : Point) (asked : Bool) (e
     more zero e = differ (sym e)
     more (suc n) e = let h : n ≡ suc n - 1 = omega arith in ap (λ (k : ℕ). passing_first fix asked (suc k) last (rest reader) t) h
 
-    pub along_ends : (limited : Bool) (left : ℕ) → Along limited reader last t left → (limited && eqb left 0) ≡ false → (next : Next) → R.told next ≡ next_point file encoding reader
-        → OneOf (1 ∷ 2 ∷ 3 ∷ []) (tag_of Next'.the_type next) → WalkedOn file encoding fix asked limited edges start tally (Ended next t)
+    -- where the border has ended, or can't be read on
+    module _ (left : ℕ) {next : Answer Given} (said : next ≡ next_point file encoding reader) where
+      first_left : Along true reader last t left → eqb left 0 ≡ false → passing_first fix asked (suc (left - 1)) last (trace_then next rest) t ≡ whole
+      first_left inv undone =
+          ap (λ (n : Answer Given). passing_first fix asked (suc (left - 1)) last (trace_then n rest) t) said
+          ∙ ap (λ (r : Trace). passing_first fix asked (suc (left - 1)) last r t) (sym (trace_step file encoding reader)) ∙ sym (more left undone) ∙ inv
+
+      judge_left : Along false reader last t left → judge fix asked last t (trace_then next rest) ≡ judge fix asked none tally (rest start)
+      judge_left inv = ap (λ (n : Answer Given). judge fix asked last t (trace_then n rest)) said ∙ ap (judge fix asked last t) (sym (trace_step file encoding reader)) ∙ inv
+
+    pub along_closes : (limited : Bool) (left : ℕ) → Along limited reader last t left → (limited && eqb left 0) ≡ false → A.found ended ≡ next_point file encoding reader
+        → WalkedOn file encoding fix asked limited edges start tally (Ok t)
+    unfolding judgement_of step_of passing_first judge trace_then
+    along_closes true left inv undone said = first_left left said inv undone
+    along_closes false left inv undone said = judge_left left said inv
+
+    pub along_unread : (limited : Bool) (left : ℕ) → Along limited reader last t left → (limited && eqb left 0) ≡ false → (stop : Stop) → N.told (Err stop) ≡ next_point file encoding reader
+        → WalkedOn file encoding fix asked limited edges start tally (Err (Unread stop t))
     unfolding judgement_of step_of
-    along_ends true left inv undone next said o =
-        first_end fix asked (left - 1) last next rest t o ∙ ap (λ (n : Answer Given). passing_first fix asked (suc (left - 1)) last (trace_then n rest) t) said
-        ∙ ap (λ (r : Trace). passing_first fix asked (suc (left - 1)) last r t) (sym (trace_step file encoding reader)) ∙ sym (more left undone) ∙ inv
-    along_ends false left inv undone next said o =
-        judge_end fix asked last t next rest o ∙ ap (λ (n : Answer Given). judge fix asked last t (trace_then n rest)) said ∙ ap (judge fix asked last t) (sym (trace_step file encoding reader)) ∙ inv
+    along_unread true left inv undone stop said = first_unread fix asked (left - 1) last stop rest t ∙ first_left left said inv undone
+    along_unread false left inv undone stop said = judge_unread fix asked last t stop rest ∙ judge_left left said inv
 
     module _ (later : Reader) (said : A.found (reaches later) ≡ next_point file encoding reader) (here : Point) (same : here ≡ later.point) where
       -- the step that is taken, followed by the rest
@@ -75,13 +86,12 @@ module _ (file : List ℕ) (encoding : Encoding) (fix : Point) (asked : Bool) (e
       judged left inv =
           ap (λ (p : Point). judge fix asked last t (point p (rest later))) same ∙ ap (judge fix asked last t) (point_trace file encoding reader later said) ∙ inv
 
-      pub along_stops : (limited : Bool) (left : ℕ) → Along limited reader last t left → (limited && eqb left 0) ≡ false → (p : Passed) → told p ≡ passing fix asked last here t
-          → OneOf (1 ∷ 2 ∷ []) (tag_of Passed'.the_type p) → WalkedOn file encoding fix asked limited edges start tally (Stopped p t.least)
+      pub along_stops : (limited : Bool) (left : ℕ) → Along limited reader last t left → (limited && eqb left 0) ≡ false → (halt : Halt) → told (Err halt) ≡ passing fix asked last here t
+          → WalkedOn file encoding fix asked limited edges start tally (Err (Halted halt t.least))
       unfolding judgement_of step_of
-      along_stops true left inv undone p e o = let go = passing_first fix asked (left - 1) (after here) (rest later) in
-          stays p go o ∙ ap (λ (m : Step Tally). m >>= go) e ∙ stepped left inv undone
-      along_stops false left inv undone p e o = let go : Tally → _ = λ (u : Tally). judge fix asked (after here) u (rest later) in
-          decides p asked t.least go o ∙ ap (λ (m : Step Tally). then_on asked t.least m go) e ∙ judged left inv
+      along_stops true left inv undone halt e = stops (Err halt) e refl (passing_first fix asked (left - 1) (after here) (rest later)) ∙ stepped left inv undone
+      along_stops false left inv undone halt e = let go : Tally → _ = λ (u : Tally). judge fix asked (after here) u (rest later) in
+          decides halt asked t.least _ go ∙ ap (λ (m : Step Tally). then_on asked t.least m go) e ∙ judged left inv
 
       pub along_on : (limited : Bool) (left : ℕ) → Along limited reader last t left → (limited && eqb left 0) ≡ false → (u : Tally) → found u ≡ passing fix asked last here t
           → Along limited later (after here) u (left - 1)

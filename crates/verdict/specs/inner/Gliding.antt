@@ -1,10 +1,10 @@
 -- Points of a border that change nothing about a location. No promise of a public function speaks of it.
 use Rattle.numbers.specs.Prelude.{ℕ, suc, ℤ, pos, negsuc, mag, lt_z, le_z, Bool, true, false, List, w32}
-use Rattle.std.specs.Prelude.{FitsSigned, ◌+◌, ◌*◌, ◌≤◌, ◌+ℤ◌, ◌-ℤ◌, ◌&&◌, ◌||◌, ◌≡◌}
+use Rattle.std.specs.Prelude.{Option, Some, None, FitsSigned, ◌+◌, ◌*◌, ◌≤◌, ◌+ℤ◌, ◌-ℤ◌, ◌&&◌, ◌||◌, ◌≡◌}
 use Rattle.numbers.specs.{Answer.{found}, declared.point.RawPoint.{RawPoint}}
 use Rattle.border.specs.{Encoding.{encoded_by}, Place.{point_at, moved_by}, Trace.{Trace, point, trace_of}, declared.{place.Point.{Point}, reader.{Encoding.{Encoding}, Reader.{Reader}, Run.{Run}}}}
 use Rattle.border.specs.declared.reader.{Run.TheVariants.{Idle, Backward}, Version.TheVariants.{Plain, Packed}}
-use Rattle.verdict.specs.{Verdict.{after, passing}, declared.{field.{Field.{Field}, Open.{Open, TheVariants.{About, Shut}}, Span.{Span}}, glide.Led.{Led, TheVariants.{To, Out}}}}
+use Rattle.verdict.specs.{Verdict.{after, passing}, declared.{field.{Field.{Field}, Span.{Span}}}}
 use Rattle.verdict.specs.declared.{glide.Wide.{Wide}, step.Tally.{Tally}}
 use Rattle.border.specs.Trace as T
 use Rattle.verdict.specs.Step as S
@@ -43,9 +43,9 @@ pub record Narrow (w : Wide) : Type 0 where
   pub lon_fits : FitsSigned w32 w.lon
 
 -- a move leads to a point of the field
-abbrev pub LedTo : Field → Wide → RawPoint → Led → Type 0
-LedTo field p by (To to) = (found (pointed to) ≡ moved_by (pointed p) by) × (within field (pointed to) ≡ true) × Narrow to
-LedTo field p by Out = Unit
+abbrev pub LedTo : Field → Wide → RawPoint → Option Wide → Type 0
+LedTo field p by (Some to) = (found (pointed to) ≡ moved_by (pointed p) by) × (within field (pointed to) ≡ true) × Narrow to
+LedTo field p by None = Unit
 
 -- a trace after a point comes to what is left of it after a later point, and all points on the way lie in the field
 pub data Glides (field : Field) : Point → Trace → Point → Trace → Type 0 where
@@ -85,14 +85,14 @@ pub record Calm (fix : Point) (asked : Bool) (tally : Tally) (field : Field) : T
   pub keeps : (from to : Point) → within field from ≡ true → within field to ≡ true → passing fix asked (after from) to tally ≡ S.found tally
 
 -- the field, if it holds the point
-abbrev pub Held : Field → Point → Open → Type 0
-Held field p (About that) = (that ≡ field) × (within that p ≡ true)
-Held field p Shut = Unit
+abbrev pub Held : Field → Point → Option Field → Type 0
+Held field p (Some that) = (that ≡ field) × (within that p ≡ true)
+Held field p None = Unit
 
 -- a calm field that holds the point, or none
-abbrev pub Opens : Point → Bool → Tally → Point → Open → Type 0
-Opens fix asked tally p (About field) = Calm fix asked tally field × (within field p ≡ true)
-Opens fix asked tally p Shut = Unit
+abbrev pub Opens : Point → Bool → Tally → Point → Option Field → Type 0
+Opens fix asked tally p (Some field) = Calm fix asked tally field × (within field p ≡ true)
+Opens fix asked tally p None = Unit
 
 -- ---- fields far from the fix
 
@@ -134,11 +134,11 @@ pub record FarSpan (x : ℤ) (r : ℕ) (span : Span) : Type 0 where
   pub far : far_from r x span ≡ true
 
 -- a field of two such spans that holds the point, or none
-abbrev pub FarAbout : ℕ → ℕ → ℕ → ℕ → Point → Open → Type 0
-FarAbout y r x q p (About field) = FarSpan (lowered y) r field.lat × FarSpan (lowered x) q field.lon × (within field p ≡ true)
-FarAbout y r x q p Shut = Unit
+abbrev pub FarAbout : ℕ → ℕ → ℕ → ℕ → Point → Option Field → Type 0
+FarAbout y r x q p (Some field) = FarSpan (lowered y) r field.lat × FarSpan (lowered x) q field.lon × (within field p ≡ true)
+FarAbout y r x q p None = Unit
 
 -- a remote field that holds the point and lies inside one quadrant about the fix, or none
-abbrev pub OpensFar : Point → ℕ → Point → Open → Type 0
-OpensFar fix least p (About field) = (aside fix field ≡ true) × Remote fix least field × (within field p ≡ true)
-OpensFar fix least p Shut = Unit
+abbrev pub OpensFar : Point → ℕ → Point → Option Field → Type 0
+OpensFar fix least p (Some field) = (aside fix field ≡ true) × Remote fix least field × (within field p ≡ true)
+OpensFar fix least p None = Unit

@@ -1,9 +1,10 @@
 -- What inner functions of the verdict keep from edge to edge and say to each other. No promise of a public function speaks of it.
 use Rattle.std.specs.Prelude.{if◌then◌else◌, ◌≡◌}
-use Rattle.numbers.specs.Prelude.{Bool}
-use Rattle.verdict.specs.{Edge.{quadrant_of, spot_of}, Verdict.{Judgement, failed, refused, Last, none, after, closed_at}, declared.{edge.{Seen.{Seen}, Spot.{Spot}}, step.Tally.{Tally}}}
-use Rattle.border.specs.declared.{place.Point.{Point}, reader.Next.{Next}}
-use Rattle.border.specs.declared.reader.Next.TheVariants as N
+use Rattle.numbers.specs.Prelude.{ℕ, Bool}
+use Rattle.verdict.specs.{Edge.{quadrant_of, spot_of}, Verdict.{Judgement, failed, refused, Last, none, after}, declared.edge.{Seen.{Seen}, Spot.{Spot}}}
+use Rattle.border.specs.declared.place.Point.{Point}
+use Rattle.numbers.specs.Answer.{Answer}
+use Rattle.numbers.specs.Answer as A
 
 -- a point with its quadrant, and with its floats if the distance is asked for
 unfoldable pub seen_from : Point → Bool → Point → Seen
@@ -18,9 +19,8 @@ pub record Sighted (fix : Point) (at : Spot) (asked : Bool) (last next : Seen) :
 abbrev pub last_of : Bool → Point → Last
 last_of begun p = if begun then after p else none
 
--- a border that gives no further point
-abbrev pub ended_at : Next → Bool → Tally → Judgement
-ended_at N.Ended asked tally = closed_at asked tally
-ended_at N.Failed asked tally = failed tally.least
-ended_at (N.Refused n) asked tally = refused n
-ended_at (N.Point s) asked tally = failed tally.least
+-- a border whose next point can't be read
+abbrev pub unread_at : {A : Type 0} → Answer A → ℕ → Judgement
+unread_at (A.refused n) least = refused n
+unread_at A.failed least = failed least
+unread_at (A.found a) least = failed least

@@ -1,20 +1,15 @@
 -- `border::place::is_still` meets its contract.
-use Rattle.numbers.proofs.Prelude.{rules, eq-eqb, ne_eqb, w32, SFits}
-use Rattle.border.proofs.place.{Whole.{zero_bits}}
-use Rattle.border.specs.Place.{is_still}
+use Rattle.std.proofs.Common.{int_eq}
+use Rattle.numbers.proofs.Prelude.{zero, suc, lt-ltb, le-ltb, ne_eqb, ◌≡◌, ℤ, pos, negsuc, refl, arith}
+use Rattle.border.specs.Place.{is_still, is_zero}
 use Rattle.border.proofs.place.is_still.Goals as goal
 
-pub returns-then-by-eq0 : goal.returns-then-by-eq0
-unfolding is_still
-returns-then-by-eq0 c =
-    let by = c.args.by in
-    let x : SFits w32 by.lat = search rules in
-    let y : SFits w32 by.lon = search rules in
-    rw (← zero_bits by.lat x, eq-eqb _ _ c.if-by-eq0.true) (zero_bits by.lon y)
+zero_is : (z : ℤ) → int_eq z (pos 0) ≡ is_zero z
+zero_is (pos zero) = refl
+zero_is (pos (suc n)) = simp (lt-ltb 0 (suc n) (omega arith), ne_eqb (suc n) 0 (λ e. omega arith)) (rw (le-ltb (suc n) 0 (omega arith)) refl)
+zero_is (negsuc n) = refl
 
-pub returns-else-by-eq0 : goal.returns-else-by-eq0
+pub returns : goal.returns
 unfolding is_still
-returns-else-by-eq0 c =
-    let by = c.args.by in
-    let x : SFits w32 by.lat = search rules in
-    rw (← zero_bits by.lat x, ne_eqb _ _ c.if-by-eq0.false)
+returns c =
+    rw (c.eq.ensures, zero_is c.args.by.lat, zero_is c.args.by.lon)

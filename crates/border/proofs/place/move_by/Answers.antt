@@ -1,92 +1,40 @@
 -- `border::place::move_by` meets its contract.
-use Rattle.numbers.proofs.{Prelude.{rules, ◌+ℤ◌, ◌∙◌, w32, SFits}, write.Gaps.{widened, widens}}
-use mir.Facts.{to_z-of_z}
-use Rattle.border.proofs.{Signs.{narrow, exact_sum}, place.{Ranged.{within, beyond}, Whole.{sum_fits}}}
+use Rattle.numbers.proofs.{Laws.{exits, goes_on}, Prelude.{◌+ℤ◌, ◌∙◌, rules, w32, SFits, to_z-of_z}}
+use Rattle.border.proofs.place.Ranged.{tested, tested_fits}
 use Rattle.border.specs.Place.{moved_by}
 use Rattle.border.proofs.place.move_by.Goals as goal
 
-pub overflow_cast-lat : goal.overflow_cast-lat
-overflow_cast-lat c =
-    let x : SFits w32 c.args.p.lat.0 = search rules in
-    widens x
-
-pub overflow_cast-lat-2 : goal.overflow_cast-lat-2
-overflow_cast-lat-2 c =
-    let y : SFits w32 c.args.by.lat = search rules in
-    widens y
-
-pub overflow_add-lat : goal.overflow_add-lat
-overflow_add-lat c =
-    let x : SFits w32 c.args.p.lat.0 = search rules in
-    let y : SFits w32 c.args.by.lat = search rules in
-    rw (widened x, widened y) (sum_fits x y)
-
-pub returns-then-not-fits_i32 : goal.returns-then-not-fits_i32
+pub returns-in_err-lat : goal.returns-in_err-lat
 unfolding moved_by
-returns-then-not-fits_i32 c =
-    let x : SFits w32 c.args.p.lat.0 = search rules in
-    let y : SFits w32 c.args.by.lat = search rules in
-    let lat = rw (exact_sum x y) at c.fits_i32.ensures in
-    beyond (c.args.p.lat.0 +ℤ c.args.by.lat) lat _ c.if-not-fits_i32.true
+returns-in_err-lat c =
+    let a : SFits w32 c.args.p.lat.0 = search rules in
+    let b : SFits w32 c.args.by.lat = search rules in
+    let lat = rw (to_z-of_z w32 _ a, to_z-of_z w32 _ b) at c.checked_add.ensures in
+    exits c.from_residual.result c.in_err-lat.was (tested (c.args.p.lat.0 +ℤ c.args.by.lat) c.checked_add.result lat c.ok_or.ensures.value) c.from_residual.ensures.1 _
 
-pub overflow_cast-lon : goal.overflow_cast-lon
-overflow_cast-lon c =
-    let u : SFits w32 c.args.p.lon.0 = search rules in
-    widens u
-
-pub overflow_cast-lon-2 : goal.overflow_cast-lon-2
-overflow_cast-lon-2 c =
-    let v : SFits w32 c.args.by.lon = search rules in
-    widens v
-
-pub overflow_add-lon : goal.overflow_add-lon
-overflow_add-lon c =
-    let u : SFits w32 c.args.p.lon.0 = search rules in
-    let v : SFits w32 c.args.by.lon = search rules in
-    rw (widened u, widened v) (sum_fits u v)
-
-pub returns-then-not-fits_i32-2 : goal.returns-then-not-fits_i32-2
+pub returns-in_err-lon : goal.returns-in_err-lon
 unfolding moved_by
-returns-then-not-fits_i32-2 c =
-    let x : SFits w32 c.args.p.lat.0 = search rules in
-    let y : SFits w32 c.args.by.lat = search rules in
-    let lat = rw (exact_sum x y) at c.fits_i32.ensures in
-    let lat-in = c.if-not-fits_i32.false in
-    let u : SFits w32 c.args.p.lon.0 = search rules in
-    let v : SFits w32 c.args.by.lon = search rules in
-    let lon = rw (exact_sum u v) at c.fits_i32-2.ensures in
-    beyond (c.args.p.lon.0 +ℤ c.args.by.lon) lon _ c.if-not-fits_i32-2.true ∙ within (c.args.p.lat.0 +ℤ c.args.by.lat) lat _ lat-in
-
-pub overflow_cast-result : goal.overflow_cast-result
-overflow_cast-result c =
-    let x : SFits w32 c.args.p.lat.0 = search rules in
-    let y : SFits w32 c.args.by.lat = search rules in
-    let lat = rw (exact_sum x y) at c.fits_i32.ensures in
-    let lat-in = c.if-not-fits_i32.false in
-    rw (exact_sum x y) (narrow (c.args.p.lat.0 +ℤ c.args.by.lat) lat lat-in)
-
-pub overflow_cast-result-2 : goal.overflow_cast-result-2
-overflow_cast-result-2 c =
-    let u : SFits w32 c.args.p.lon.0 = search rules in
-    let v : SFits w32 c.args.by.lon = search rules in
-    let lon = rw (exact_sum u v) at c.fits_i32-2.ensures in
-    rw (exact_sum u v) (narrow (c.args.p.lon.0 +ℤ c.args.by.lon) lon c.if-not-fits_i32-2.false)
+returns-in_err-lon c =
+    let a : SFits w32 c.args.p.lat.0 = search rules in
+    let b : SFits w32 c.args.by.lat = search rules in
+    let lat = rw (to_z-of_z w32 _ a, to_z-of_z w32 _ b) at c.checked_add.ensures in
+    let d : SFits w32 c.args.p.lon.0 = search rules in
+    let e : SFits w32 c.args.by.lon = search rules in
+    let lon = rw (to_z-of_z w32 _ d, to_z-of_z w32 _ e) at c.checked_add-2.ensures in
+    exits c.from_residual-in_err-lon.result c.in_err-lon.was (tested (c.args.p.lon.0 +ℤ c.args.by.lon) c.checked_add-2.result lon c.ok_or-2.ensures.value) c.from_residual-in_err-lon.ensures.1 _
+    ∙ goes_on c.ok_or.result (tested (c.args.p.lat.0 +ℤ c.args.by.lat) c.checked_add.result lat c.ok_or.ensures.value) c.in_ok-lat.was _
 
 pub returns : goal.returns
 unfolding moved_by
 returns c =
-    let x : SFits w32 c.args.p.lat.0 = search rules in
-    let y : SFits w32 c.args.by.lat = search rules in
-    let lat = rw (exact_sum x y) at c.fits_i32.ensures in
-    let lat-in = c.if-not-fits_i32.false in
-    let u : SFits w32 c.args.p.lon.0 = search rules in
-    let v : SFits w32 c.args.by.lon = search rules in
-    let lon = rw (exact_sum u v) at c.fits_i32-2.ensures in
-    let lon-in = c.if-not-fits_i32-2.false in
+    let a : SFits w32 c.args.p.lat.0 = search rules in
+    let b : SFits w32 c.args.by.lat = search rules in
+    let lat = rw (to_z-of_z w32 _ a, to_z-of_z w32 _ b) at c.checked_add.ensures in
+    let d : SFits w32 c.args.p.lon.0 = search rules in
+    let e : SFits w32 c.args.by.lon = search rules in
+    let lon = rw (to_z-of_z w32 _ d, to_z-of_z w32 _ e) at c.checked_add-2.ensures in
     rw (
-      exact_sum x y,
-      exact_sum u v,
-      to_z-of_z {w = w32} (narrow (c.args.p.lat.0 +ℤ c.args.by.lat) lat lat-in),
-      to_z-of_z {w = w32} (narrow (c.args.p.lon.0 +ℤ
-          c.args.by.lon) lon lon-in),
-    ) (within (c.args.p.lon.0 +ℤ c.args.by.lon) lon _ lon-in ∙ within (c.args.p.lat.0 +ℤ c.args.by.lat) lat _ lat-in)
+      to_z-of_z w32 _ (tested_fits (c.args.p.lat.0 +ℤ c.args.by.lat) c.checked_add.result lat c.ok_or.ensures.value c.in_ok-lat.was),
+      to_z-of_z w32 _ (tested_fits (c.args.p.lon.0 +ℤ c.args.by.lon) c.checked_add-2.result lon c.ok_or-2.ensures.value c.in_ok-lon.was),
+    ) (goes_on c.ok_or-2.result (tested (c.args.p.lon.0 +ℤ c.args.by.lon) c.checked_add-2.result lon c.ok_or-2.ensures.value) c.in_ok-lon.was _
+    ∙ goes_on c.ok_or.result (tested (c.args.p.lat.0 +ℤ c.args.by.lat) c.checked_add.result lat c.ok_or.ensures.value) c.in_ok-lat.was _)

@@ -1,7 +1,6 @@
 -- `border::reader::moves_left` meets its contract: the tests decide as the definition does.
-use Rattle.numbers.{proofs.{Answers.{found_again}, Laws.{stops}, Prelude.{eq-eqb, ne_eqb, ◌∙◌}}, specs.{Answer.{found}, Varint.{told}}}
+use Rattle.numbers.{proofs.{Laws.{exits}, Prelude.{eq-eqb, ne_eqb}}}
 use Rattle.border.specs.inner.Told.{counted}
-use borrow.Enum.Refused.{opened}
 use Rattle.border.proofs.reader.moves_left.Goals as goal
 
 pub returns-then-reader : goal.returns-then-reader
@@ -9,18 +8,17 @@ unfolding counted
 returns-then-reader c =
     rw c.if-reader.true
 
-pub returns-in_default : goal.returns-in_default
+pub returns-in_err-count : goal.returns-in_err-count
 unfolding counted
-returns-in_default c =
-    rw c.if-reader.false (found_again (told c.read_number-n.result) ∙ stops c.read_number-n.result c.read_number-n.ensures (opened
-    c.in_default.in_default-own.keys2) found _)
+returns-in_err-count c =
+    rw c.if-reader.false (exits c.from_residual.result c.in_err-count.was c.read_number.ensures c.from_residual.ensures.1 _)
 
 pub returns-then-count-eq0 : goal.returns-then-count-eq0
 unfolding counted
 returns-then-count-eq0 c =
-    rw (c.if-reader.false, ← c.read_number-n.ensures, c.in-Number.is, eq-eqb _ _ c.if-count-eq0.true)
+    rw (c.if-reader.false, ← c.read_number.ensures, c.in_ok-count.was, eq-eqb _ _ c.if-count-eq0.true)
 
 pub returns : goal.returns
 unfolding counted
 returns c =
-    rw (c.if-reader.false, ← c.read_number-n.ensures, c.in-Number.is, ne_eqb _ _ c.if-count-eq0.false)
+    rw (c.if-reader.false, ← c.read_number.ensures, c.in_ok-count.was, ne_eqb _ _ c.if-count-eq0.false)

@@ -1,14 +1,12 @@
 -- `marks::judge::answer` meets its contract.
-use Rattle.numbers.proofs.Prelude.{sym, ap, ◌∙◌}
-use Rattle.verdict.{proofs.judge.Cases.{decides}, specs.{Step.{told}, Verdict.{closed_at, then_on}, declared.step.Passed.{Passed}}}
-use borrow.Enum.Refused.{opened}
+use Rattle.verdict.specs.Verdict.{then_on}
 use Rattle.marks.proofs.judge.answer.Goals as goal
 
-pub returns-in_default : goal.returns-in_default
-returns-in_default c =
-    c.stopped.ensures ∙ decides c.args.passed _ _ _ (opened c.in_default.in_default-own.keys2)
-
-pub returns : goal.returns
+pub returns-in-Ok : goal.returns-in-Ok
 unfolding then_on
-returns c =
-    c.closed.ensures ∙ ap (λ (p : Passed). then_on c.args.asked c.args.least (told p) (closed_at c.args.asked)) (sym c.in-On.is)
+returns-in-Ok c =
+    rw c.in-Ok.is c.closed.ensures
+
+pub returns-in-Err : goal.returns-in-Err
+returns-in-Err c =
+    rw c.in-Err.is c.stopped.ensures

@@ -8,12 +8,12 @@ unfolding can_pass
 returns-then-in_box c =
     rw (sym c.in_box.ensures ∙ c.if-in_box.true)
 
-pub returns-then-asked : goal.returns-then-asked
+pub returns-then-not-asked : goal.returns-then-not-asked
 unfolding can_pass
-returns-then-asked c =
-    rw (sym c.in_box.ensures ∙ c.if-in_box.false, c.if-asked.true) c.is_afar.ensures
+returns-then-not-asked c =
+    rw (sym c.in_box.ensures ∙ c.if-in_box.false, c.if-not-asked.true)
 
-pub returns : goal.returns
+pub returns-else-not-asked : goal.returns-else-not-asked
 unfolding can_pass
-returns c =
-    rw (sym c.in_box.ensures ∙ c.if-in_box.false, c.if-asked.false)
+returns-else-not-asked c =
+    rw (sym c.in_box.ensures ∙ c.if-in_box.false, c.if-not-asked.false) c.is_afar.ensures

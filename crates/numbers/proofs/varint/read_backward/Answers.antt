@@ -10,26 +10,22 @@ pub returns-then-last-ge128 : goal.returns-then-last-ge128
 returns-then-last-ge128 c =
     inside _ _ c.if-file-place.false c.if-last-ge128.true
 
-pub loop-start-init : goal.loop-start-init
-loop-start-init c =
+pub loop-before-init : goal.loop-before-init
+loop-before-init c =
     begun _ _ c.if-file-place.false c.if-last-ge128.false
 
-pub returns-then-place-start-gt9 : goal.returns-then-place-start-gt9
-returns-then-place-start-gt9 c =
-    overlong c.loop-start.invariant c.loop-start-test.true c.if-byte-lt128.true c.if-place-start-gt9.true
+pub returns-then-place-before-gt10 : goal.returns-then-place-before-gt10
+returns-then-place-before-gt10 c =
+    overlong c.loop-before.invariant c.loop-before-test.true c.if-byte-lt128.true (omega (arith, c.loop-before-test.true, c.if-place-before-gt10.true))
 
 pub returns-then-byte-lt128 : goal.returns-then-byte-lt128
 returns-then-byte-lt128 c =
-    whole c.loop-start.invariant c.loop-start-test.true c.if-byte-lt128.true c.if-place-start-gt9.false
+    whole c.loop-before.invariant c.loop-before-test.true c.if-byte-lt128.true (omega (arith, c.loop-before-test.true, c.if-place-before-gt10.false))
 
-pub overflow_cast-value-in-loop-start : goal.overflow_cast-value-in-loop-start
-overflow_cast-value-in-loop-start c =
-    omega (arith, c.type_inv.file (c.loop-start.start - 1))
-
-pub loop-start-preserved : goal.loop-start-preserved
-loop-start-preserved c =
-    further c.loop-start.invariant c.loop-start-test.true c.if-byte-lt128.false
+pub loop-before-preserved : goal.loop-before-preserved
+loop-before-preserved c =
+    further c.loop-before.invariant c.loop-before-test.true c.if-byte-lt128.false
 
 pub returns : goal.returns
 returns c =
-    none c.loop-start.invariant c.loop-start-test.false
+    none c.loop-before.invariant c.loop-before-test.false

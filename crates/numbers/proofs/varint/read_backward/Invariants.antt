@@ -2,8 +2,5 @@
 use Rattle.numbers.proofs.{Prelude.{◌-◌, rules, arith}, varint.{Backward.{past, inside}, Descent.{Descent, begun, further, whole, overlong, none}}}
 use Rattle.numbers.proofs.varint.read_backward.Given as goal
 
-abbrev pub invariant-loop-start : goal.invariant-loop-start
-invariant-loop-start l = Descent l.file l.place l.value l.start
-
-abbrev pub decreases-loop-start : goal.decreases-loop-start
-decreases-loop-start l = l.start
+abbrev pub invariant-loop-before : goal.invariant-loop-before
+invariant-loop-before l = Descent l.file l.place l.value l.before

@@ -8,12 +8,12 @@ returns-then-file-place c =
 
 pub returns-then-low-lt128 : goal.returns-then-low-lt128
 returns-then-low-lt128 c =
-    c.found.ensures ∙ read_both _ _ _ (one_byte _ _ c.wide-low.ensures.0 (search rules) c.if-low-lt128.true) (search rules)
+    read_both _ _ _ (one_byte _ _ c.from-low.ensures (search rules) c.if-low-lt128.true) (search rules)
 
 pub returns-then-middle-lt128 : goal.returns-then-middle-lt128
 returns-then-middle-lt128 c =
-    c.found-then-middle-lt128.ensures ∙ read_both _ _ _ (two_bytes _ _ c.wide-low.ensures.0 c.if-low-lt128.false c.wide-middle.ensures.0 (search rules) c.if-middle-lt128.true) (search rules)
+    read_both _ _ _ (two_bytes _ _ c.from-low.ensures c.if-low-lt128.false c.from-middle.ensures (search rules) c.if-middle-lt128.true) (search rules)
 
 pub returns-then-high-lt128 : goal.returns-then-high-lt128
 returns-then-high-lt128 c =
-    c.found-then-high-lt128.ensures ∙ read_both _ _ _ (three_bytes _ _ c.wide-low.ensures.0 c.if-low-lt128.false c.wide-middle.ensures.0 c.if-middle-lt128.false c.wide-high.ensures.0 (search rules) c.if-high-lt128.true) (search rules)
+    read_both _ _ _ (three_bytes _ _ c.from-low.ensures c.if-low-lt128.false c.from-middle.ensures c.if-middle-lt128.false c.from-high.ensures (search rules) c.if-high-lt128.true) (search rules)

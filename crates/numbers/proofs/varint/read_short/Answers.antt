@@ -4,7 +4,7 @@ use Rattle.numbers.proofs.varint.read_short.Goals as goal
 
 pub read_on-requires : goal.read_on-requires
 read_on-requires c =
-    let on = on_so c.go_on.ensures c.if-go_on.true in record { room = c.requires; low_is = c.wide-low.ensures.0; low_on = on.0; middle_is = c.wide-middle.ensures.0; middle_on = on.1 }
+    let on = on_so c.go_on.ensures c.if-go_on.true in record { room = c.requires; low_is = c.from-low.ensures; low_on = on.0; middle_is = c.from-middle.ensures; middle_on = on.1 }
 
 pub returns-then-go_on : goal.returns-then-go_on
 returns-then-go_on c =
@@ -12,16 +12,16 @@ returns-then-go_on c =
 
 pub returns-then-closes : goal.returns-then-closes
 returns-then-closes c =
-    let last = closed_so c.closes.ensures c.if-closes.true in one_short (c.args.file.now) c.args.place c.requires c.wide-low.ensures.0 last.1 last.0
+    let last = closed_so c.closes.ensures c.if-closes.true in one_short (c.args.file.now) c.args.place c.requires c.from-low.ensures last.1 last.0
 
 pub returns-then-low-lt128 : goal.returns-then-low-lt128
 returns-then-low-lt128 c =
-    let last = c.if-low-lt128.true in one_none (c.args.file.now) c.args.place c.requires c.wide-low.ensures.0 last (closed_not c.closes.ensures c.if-closes.false last)
+    let last = c.if-low-lt128.true in one_none (c.args.file.now) c.args.place c.requires c.from-low.ensures last (closed_not c.closes.ensures c.if-closes.false last)
 
 pub returns-then-closes-2 : goal.returns-then-closes-2
 returns-then-closes-2 c =
-    let last = closed_so c.closes-2.ensures c.if-closes-2.true in two_short (c.args.file.now) c.args.place c.requires c.wide-low.ensures.0 c.if-low-lt128.false c.wide-middle.ensures.0 last.1 last.0
+    let last = closed_so c.closes-2.ensures c.if-closes-2.true in two_short (c.args.file.now) c.args.place c.requires c.from-low.ensures c.if-low-lt128.false c.from-middle.ensures last.1 last.0
 
 pub returns : goal.returns
 returns c =
-    let more = c.if-low-lt128.false in let last = on_not c.go_on.ensures c.if-go_on.false more in two_none (c.args.file.now) c.args.place c.requires c.wide-low.ensures.0 more c.wide-middle.ensures.0 last (closed_not c.closes-2.ensures c.if-closes-2.false last)
+    let more = c.if-low-lt128.false in let last = on_not c.go_on.ensures c.if-go_on.false more in two_none (c.args.file.now) c.args.place c.requires c.from-low.ensures more c.from-middle.ensures last (closed_not c.closes-2.ensures c.if-closes-2.false last)

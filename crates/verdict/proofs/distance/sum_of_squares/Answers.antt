@@ -8,4 +8,4 @@ pub returns : goal.returns
 returns c =
     let y = rw (to_z-of_z {w = w64} c.ranges.lat) at c.square.ensures in
     let x = rw (to_z-of_z {w = w64} c.ranges.lon) at c.square-2.ensures in
-    c.wrapping_add_u64.ensures.value ∙ fourfold _ _ ∙ rw (y, x)
+    fourfold _ _ ∙ rw (y, x)

@@ -1,95 +1,58 @@
 -- `verdict::distance::to_vertex` meets its contract: what its calls ensure; the squares of two i32 fit.
-use Rattle.numbers.proofs.{Prelude.{rules, ◌-ℤ◌, ap, w32, SFits}, write.Gaps.{widened, widens}}
+use Rattle.numbers.proofs.{Prelude.{rules, ◌-ℤ◌, ◌≡◌, ap, ◌∙◌, w32, SFits, to_z-of_z}, write.Gaps.{widened}}
 use Rattle.std.proofs.Common.{◌*ℤ◌}
-use Rattle.verdict.proofs.{Checks.{checked_found, checked_over, checked_fits}, Squares.{i32_squared}}
-use Rattle.border.proofs.{Signs.{narrow, exact_difference}, place.Whole.{difference_fits}}
+use Rattle.verdict.proofs.{Checks.{checked_fits}, Halts.{exits, goes_on, tested, tested_fits}, Squares.{i32_squared}}
 use Rattle.verdict.specs.{Distance.{squared, to_vertex}, Step.{found}}
 use Rattle.verdict.proofs.distance.to_vertex.Goals as goal
 
-pub overflow_cast-lat : goal.overflow_cast-lat
-overflow_cast-lat c =
-    let x : SFits w32 c.args.to.lat.0 = search rules in
-    widens x
-
-pub overflow_cast-lat-2 : goal.overflow_cast-lat-2
-overflow_cast-lat-2 c =
-    let x : SFits w32 c.args.fix.lat.0 = search rules in
-    widens x
-
-pub overflow_sub-lat : goal.overflow_sub-lat
-overflow_sub-lat c =
-    let x : SFits w32 c.args.to.lat.0 = search rules in
-    let y : SFits w32 c.args.fix.lat.0 = search rules in
-    rw (widened x, widened y) (difference_fits x y)
-
-pub returns-then-not-fits_i32 : goal.returns-then-not-fits_i32
+pub returns-in_err-lat : goal.returns-in_err-lat
 unfolding to_vertex
-returns-then-not-fits_i32 c =
+returns-in_err-lat c =
     let x : SFits w32 c.args.to.lat.0 = search rules in
     let y : SFits w32 c.args.fix.lat.0 = search rules in
-    let lat = rw (exact_difference x y) at c.fits_i32.ensures in
-    rw (checked_over 31 (c.args.to.lat.0 -ℤ c.args.fix.lat.0) lat c.if-not-fits_i32.true)
+    let lat = rw (to_z-of_z w32 _ x, to_z-of_z w32 _ y) at c.checked_sub.ensures in
+    exits c.from_residual.result c.in_err-lat.was (tested (c.args.to.lat.0 -ℤ c.args.fix.lat.0) c.checked_sub.result lat c.ok_or.ensures.value) c.from_residual.ensures.1 _
 
-pub overflow_cast-lon : goal.overflow_cast-lon
-overflow_cast-lon c =
-    let x : SFits w32 c.args.to.lon.0 = search rules in
-    widens x
-
-pub overflow_cast-lon-2 : goal.overflow_cast-lon-2
-overflow_cast-lon-2 c =
-    let x : SFits w32 c.args.fix.lon.0 = search rules in
-    widens x
-
-pub overflow_sub-lon : goal.overflow_sub-lon
-overflow_sub-lon c =
+pub returns-in_err-lon : goal.returns-in_err-lon
+unfolding to_vertex
+returns-in_err-lon c =
+    let x : SFits w32 c.args.to.lat.0 = search rules in
+    let y : SFits w32 c.args.fix.lat.0 = search rules in
+    let lat = rw (to_z-of_z w32 _ x, to_z-of_z w32 _ y) at c.checked_sub.ensures in
     let u : SFits w32 c.args.to.lon.0 = search rules in
     let v : SFits w32 c.args.fix.lon.0 = search rules in
-    rw (widened u, widened v) (difference_fits u v)
-
-pub returns-then-not-fits_i32-2 : goal.returns-then-not-fits_i32-2
-unfolding to_vertex
-returns-then-not-fits_i32-2 c =
-    let x : SFits w32 c.args.to.lat.0 = search rules in
-    let y : SFits w32 c.args.fix.lat.0 = search rules in
-    let lat = rw (exact_difference x y) at c.fits_i32.ensures in
-    let u : SFits w32 c.args.to.lon.0 = search rules in
-    let v : SFits w32 c.args.fix.lon.0 = search rules in
-    let lon = rw (exact_difference u v) at c.fits_i32-2.ensures in
-    rw (
-      checked_found 31 (c.args.to.lat.0 -ℤ c.args.fix.lat.0) lat c.if-not-fits_i32.false,
-      checked_over 31 (c.args.to.lon.0 -ℤ c.args.fix.lon.0) lon
-          c.if-not-fits_i32-2.true,
-    )
+    let lon = rw (to_z-of_z w32 _ u, to_z-of_z w32 _ v) at c.checked_sub-2.ensures in
+    exits c.from_residual-in_err-lon.result c.in_err-lon.was (tested (c.args.to.lon.0 -ℤ c.args.fix.lon.0) c.checked_sub-2.result lon c.ok_or-2.ensures.value) c.from_residual-in_err-lon.ensures.1 _
+    ∙ goes_on c.ok_or.result (tested (c.args.to.lat.0 -ℤ c.args.fix.lat.0) c.checked_sub.result lat c.ok_or.ensures.value) c.in_ok-lat.was _
 
 pub sum_of_squares-requires : goal.sum_of_squares-requires
 sum_of_squares-requires c =
     let x : SFits w32 c.args.to.lat.0 = search rules in
     let y : SFits w32 c.args.fix.lat.0 = search rules in
-    let lat = rw (exact_difference x y) at c.fits_i32.ensures in
+    let lat = rw (to_z-of_z w32 _ x, to_z-of_z w32 _ y) at c.checked_sub.ensures in
     let u : SFits w32 c.args.to.lon.0 = search rules in
     let v : SFits w32 c.args.fix.lon.0 = search rules in
-    let lon = rw (exact_difference u v) at c.fits_i32-2.ensures in
-    let f = i32_squared (c.args.to.lat.0 -ℤ c.args.fix.lat.0) (narrow (c.args.to.lat.0 -ℤ c.args.fix.lat.0) lat c.if-not-fits_i32.false) in
-    let g = i32_squared (c.args.to.lon.0 -ℤ c.args.fix.lon.0) (narrow (c.args.to.lon.0 -ℤ c.args.fix.lon.0) lon c.if-not-fits_i32-2.false) in
-    rw (exact_difference x y, exact_difference u v) (f, g)
+    let lon = rw (to_z-of_z w32 _ u, to_z-of_z w32 _ v) at c.checked_sub-2.ensures in
+    let north = tested_fits (c.args.to.lat.0 -ℤ c.args.fix.lat.0) c.checked_sub.result lat c.ok_or.ensures.value c.in_ok-lat.was in
+    let east = tested_fits (c.args.to.lon.0 -ℤ c.args.fix.lon.0) c.checked_sub-2.result lon c.ok_or-2.ensures.value c.in_ok-lon.was in
+    rw (widened north, widened east) (i32_squared c.in_ok-lat.lat north, i32_squared c.in_ok-lon.lon east)
 
 pub returns : goal.returns
 unfolding squared to_vertex
 returns c =
     let x : SFits w32 c.args.to.lat.0 = search rules in
     let y : SFits w32 c.args.fix.lat.0 = search rules in
-    let lat = rw (exact_difference x y) at c.fits_i32.ensures in
+    let lat = rw (to_z-of_z w32 _ x, to_z-of_z w32 _ y) at c.checked_sub.ensures in
     let u : SFits w32 c.args.to.lon.0 = search rules in
     let v : SFits w32 c.args.fix.lon.0 = search rules in
-    let lon = rw (exact_difference u v) at c.fits_i32-2.ensures in
-    let f = i32_squared (c.args.to.lat.0 -ℤ c.args.fix.lat.0) (narrow (c.args.to.lat.0 -ℤ c.args.fix.lat.0) lat c.if-not-fits_i32.false) in
-    let g = i32_squared (c.args.to.lon.0 -ℤ c.args.fix.lon.0) (narrow (c.args.to.lon.0 -ℤ c.args.fix.lon.0) lon c.if-not-fits_i32-2.false) in
-    rw (
-      checked_found 31 (c.args.to.lat.0 -ℤ c.args.fix.lat.0) lat c.if-not-fits_i32.false,
-      checked_found 31 (c.args.to.lon.0 -ℤ c.args.fix.lon.0) lon
-          c.if-not-fits_i32-2.false,
-      checked_fits 63 ((c.args.to.lat.0 -ℤ c.args.fix.lat.0) *ℤ (c.args.to.lat.0 -ℤ c.args.fix.lat.0)) f,
-      checked_fits 63
-          ((c.args.to.lon.0 -ℤ c.args.fix.lon.0) *ℤ (c.args.to.lon.0 -ℤ c.args.fix.lon.0)) g,
-    ) (ap found (rw (exact_difference x y, exact_difference u v) at
-    c.sum_of_squares.ensures))
+    let lon = rw (to_z-of_z w32 _ u, to_z-of_z w32 _ v) at c.checked_sub-2.ensures in
+    let north = tested_fits (c.args.to.lat.0 -ℤ c.args.fix.lat.0) c.checked_sub.result lat c.ok_or.ensures.value c.in_ok-lat.was in
+    let east = tested_fits (c.args.to.lon.0 -ℤ c.args.fix.lon.0) c.checked_sub-2.result lon c.ok_or-2.ensures.value c.in_ok-lon.was in
+    let f = i32_squared c.in_ok-lat.lat north in
+    let g = i32_squared c.in_ok-lon.lon east in
+    let here : found c.sum_of_squares.result ≡ squared c.in_ok-lat.lat c.in_ok-lon.lon = rw (
+      checked_fits 63 (c.in_ok-lat.lat *ℤ c.in_ok-lat.lat) f,
+      checked_fits 63 (c.in_ok-lon.lon *ℤ c.in_ok-lon.lon) g,
+    ) (ap found (rw (widened north, widened east) at c.sum_of_squares.ensures)) in
+    here ∙ goes_on c.ok_or-2.result (tested (c.args.to.lon.0 -ℤ c.args.fix.lon.0) c.checked_sub-2.result lon c.ok_or-2.ensures.value) c.in_ok-lon.was (squared c.in_ok-lat.lat)
+    ∙ goes_on c.ok_or.result (tested (c.args.to.lat.0 -ℤ c.args.fix.lat.0) c.checked_sub.result lat c.ok_or.ensures.value) c.in_ok-lat.was _

@@ -7,7 +7,7 @@ unfolding seen_from
 returns-then-asked c =
     rw (c.if-asked.true, c.quadrant_of-quadrant.ensures, c.spot_of.ensures)
 
-pub returns : goal.returns
+pub returns-else-asked : goal.returns-else-asked
 unfolding seen_from
-returns c =
+returns-else-asked c =
     rw (c.if-asked.false, c.quadrant_of-quadrant.ensures, c.requires)

@@ -21,9 +21,9 @@ returns-then-lies_in c =
     let first = rw (widened lat) at c.lies_in.ensures.0 in
     rw (← first, c.if-lies_in.true) (rw (widened lon) at c.lies_in-then-lies_in.ensures.0)
 
-pub returns : goal.returns
+pub returns-else-lies_in : goal.returns-else-lies_in
 unfolding within
-returns c =
+returns-else-lies_in c =
     let lat : SFits w32 c.args.p.lat.0 = search rules in
     let first = rw (widened lat) at c.lies_in.ensures.0 in
     rw (← first, c.if-lies_in.false)

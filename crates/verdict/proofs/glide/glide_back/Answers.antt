@@ -61,11 +61,11 @@ returns-in_default-lead c =
 
 pub loop-number-smaller : goal.loop-number-smaller
 loop-number-smaller c =
-    less_below c.args.file.now c.args.field c.args.end c.loop-number.place (rw c.in-Number.is at c.read_backward-n.ensures)
+    less_below c.args.file.now c.args.field c.args.end c.loop-number.place (rw c.in-Ok.is at c.read_backward.ensures)
 
 pub loop-number-preserved : goal.loop-number-preserved
 loop-number-preserved c =
-    let led = rw c.in-To.is at c.lead.ensures in
-    let number = rw c.in-Number.is at c.read_backward-n.ensures in
-    let negated = rw (c.in-By.is, c.decode_point.ensures) at c.negate.ensures in
+    let led = rw c.in-Some.is at c.lead.ensures in
+    let number = rw c.in-Ok.is at c.read_backward.ensures in
+    let negated = rw (c.in-Ok-negate.is, c.decode_point.ensures) at c.negate.ensures in
     (back_on c.args.file.now c.args.field c.args.end c.loop-number.invariant.0 number c.if-number-eq0.false c.if-number-end.false negated led.0 led.1, led.2)

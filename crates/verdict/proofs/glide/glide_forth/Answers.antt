@@ -16,8 +16,8 @@ pub loop-place-init : goal.loop-place-init
 loop-place-init c =
     (forth_stays _ _ _ _ _, c.widen-point.ensures.1)
 
-pub read_move-n-requires : goal.read_move-n-requires
-read_move-n-requires c =
+pub read_move-requires : goal.read_move-requires
+read_move-requires c =
     omega (arith, c.loop-place-test.true, c.fours_end-end.ensures)
 
 pub glided_at-requires : goal.glided_at-requires
@@ -50,15 +50,15 @@ returns-in_default-lead c =
 
 pub loop-place-smaller : goal.loop-place-smaller
 loop-place-smaller c =
-    let n = c.in-Number.is in
-    let read = rw n at c.read_move-n.ensures in
+    let n = c.in-Ok.is in
+    let read = rw n at c.read_move.ensures in
     less_left c.args.file.now c.args.strict c.args.field c.loop-place.place read
 
 pub loop-place-preserved : goal.loop-place-preserved
 loop-place-preserved c =
-    let n = c.in-Number.is in
-    let read = rw n at c.read_move-n.ensures in
-    let led = rw (c.in-To.is, c.decode_point.ensures) at c.lead.ensures in
+    let n = c.in-Ok.is in
+    let read = rw n at c.read_move.ensures in
+    let led = rw (c.in-Some.is, c.decode_point.ensures) at c.lead.ensures in
     (forth_on c.args.file.now c.args.strict c.args.field c.loop-place.invariant.0 read c.if-number-eq0.false led.0 led.1, led.2)
 
 pub glided_at-requires-2 : goal.glided_at-requires-2

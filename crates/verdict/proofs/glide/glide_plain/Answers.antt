@@ -25,13 +25,13 @@ pub returns-in_default : goal.returns-in_default
 returns-in_default c =
     left c.widen-point.ensures.0 c.loop-moves.invariant.0 c.counted_at.ensures
 
-pub counted_at-requires-in_default-m : goal.counted_at-requires-in_default-m
-counted_at-requires-in_default-m c =
+pub counted_at-requires-in_default-read_number : goal.counted_at-requires-in_default-read_number
+counted_at-requires-in_default-read_number c =
     c.loop-moves.invariant.1
 
-pub returns-in_default-m : goal.returns-in_default-m
-returns-in_default-m c =
-    left c.widen-point.ensures.0 c.loop-moves.invariant.0 c.counted_at-in_default-m.ensures
+pub returns-in_default-read_number : goal.returns-in_default-read_number
+returns-in_default-read_number c =
+    left c.widen-point.ensures.0 c.loop-moves.invariant.0 c.counted_at-in_default-read_number.ensures
 
 pub counted_at-requires-then-is_still : goal.counted_at-requires-then-is_still
 counted_at-requires-then-is_still c =
@@ -59,12 +59,12 @@ loop-moves-smaller c =
 
 pub loop-moves-preserved : goal.loop-moves-preserved
 loop-moves-preserved c =
-    let lat = rw c.in-Number.is at c.read_number-n.ensures in
-    let lon = rw c.in-Number-m.is at c.read_number-m.ensures in
+    let lat = rw c.in-Ok.is at c.read_number.ensures in
+    let lon = rw c.in-Ok-read_number.is at c.read_number-in-loop-moves.ensures in
     let north = to_z-of_z w32 _ (sfits_of c.signed.type_inv) ∙ c.signed.ensures in
     let east = to_z-of_z w32 _ (sfits_of c.signed-in-loop-moves.type_inv) ∙ c.signed-in-loop-moves.ensures in
     let stirs = rw (north, east) at (sym c.is_still.ensures ∙ c.if-is_still.false) in
-    let led = rw (c.in-To.is, north, east) at c.lead.ensures in
+    let led = rw (c.in-Some.is, north, east) at c.lead.ensures in
     let left_over = c.loop-moves-test.true in
     (plain_on c.args.file.now c.args.strict c.args.field c.loop-moves.invariant.0 lat lon left_over stirs led.0 led.1, led.2)
 

@@ -2,17 +2,17 @@
 use Rattle.verdict.specs.inner.Walk.{judgement_of}
 use Rattle.verdict.proofs.judge.answer.Goals as goal
 
-pub returns-in-Ended : goal.returns-in-Ended
+pub returns-in-Ok : goal.returns-in-Ok
 unfolding judgement_of
-returns-in-Ended c =
-    rw c.in-Ended.is c.ended.ensures
+returns-in-Ok c =
+    rw c.in-Ok.is c.closed.ensures
 
-pub returns-in-Stopped : goal.returns-in-Stopped
+pub returns-in-Err-Unread : goal.returns-in-Err-Unread
 unfolding judgement_of
-returns-in-Stopped c =
-    rw c.in-Stopped.is c.stopped.ensures
+returns-in-Err-Unread c =
+    rw (c.in-Err-Unread.is, rw c.in-Err-Unread.is at c.in-Err-Unread.field-0-is) c.unread.ensures
 
-pub returns-in-Enough : goal.returns-in-Enough
+pub returns-in-Err-Halted : goal.returns-in-Err-Halted
 unfolding judgement_of
-returns-in-Enough c =
-    rw c.in-Enough.is c.closed.ensures
+returns-in-Err-Halted c =
+    rw (c.in-Err-Halted.is, rw c.in-Err-Halted.is at c.in-Err-Halted.field-0-is) c.stopped.ensures

@@ -1,17 +1,17 @@
 -- `verdict::judge::judge_edge` meets its contract: what its calls ensure, in the order of the definition.
-use Rattle.verdict.proofs.{Kept.{quadrant_kept, spot_kept}, winding.Cases.{stays}}
+use Rattle.verdict.proofs.{Kept.{quadrant_kept, spot_kept}, Halts.{exits, goes_on}}
+use Rattle.numbers.proofs.Prelude.{true, false, ◌∙◌}
 use Rattle.verdict.specs.{Distance.{measured}, Verdict.{along}}
-use borrow.Enum.Refused.{opened}
 use Rattle.verdict.proofs.judge.judge_edge.Goals as goal
 
-pub wound-turned-requires : goal.wound-turned-requires
-wound-turned-requires c =
+pub wound-requires : goal.wound-requires
+wound-requires c =
     (c.requires.fixed, quadrant_kept _ _ c.requires.left, quadrant_kept _ _ c.requires.reached)
 
-pub returns-in_default : goal.returns-in_default
+pub returns-in_err-counted : goal.returns-in_err-counted
 unfolding along
-returns-in_default c =
-    rw (← c.wound-turned.ensures) (stays c.wound-turned.result _ (opened c.in_default.in_default-own.keys2))
+returns-in_err-counted c =
+    exits c.from_residual.result c.in_err-counted.was c.wound.ensures c.from_residual.ensures.1 _
 
 pub measure-requires : goal.measure-requires
 measure-requires c =
@@ -20,9 +20,9 @@ measure-requires c =
 pub returns-then-asked : goal.returns-then-asked
 unfolding along
 returns-then-asked c =
-    rw (← c.wound-turned.ensures, c.in-On.is, c.if-asked.true) c.measure.ensures
+    rw c.if-asked.true (c.measure.ensures ∙ goes_on c.wound.result c.wound.ensures c.in_ok-counted.was (measured true c.args.fix c.args.from.point c.args.to.point))
 
 pub returns : goal.returns
 unfolding along measured
 returns c =
-    rw (← c.wound-turned.ensures, c.in-On.is, c.if-asked.false)
+    rw c.if-asked.false (goes_on c.wound.result c.wound.ensures c.in_ok-counted.was (measured false c.args.fix c.args.from.point c.args.to.point))

@@ -5,6 +5,6 @@ pub returns-then-asked : goal.returns-then-asked
 returns-then-asked c =
     rw c.if-asked.true
 
-pub returns : goal.returns
-returns c =
+pub returns-else-asked : goal.returns-else-asked
+returns-else-asked c =
     rw c.if-asked.false

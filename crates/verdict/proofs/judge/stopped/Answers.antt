@@ -1,14 +1,13 @@
--- `verdict::judge::stopped` meets its contract: past the `else` the step meets the border.
-use Rattle.verdict.proofs.judge.{Cases.{unmet}}
+-- `verdict::judge::stopped` meets its contract.
 use Rattle.verdict.specs.Verdict.{then_on}
-use borrow.Enum.Refused.{opened}
 use Rattle.verdict.proofs.judge.stopped.Goals as goal
 
-pub returns-in_default : goal.returns-in_default
-returns-in_default c =
-    unmet c.args.passed _ _ (opened c.in_default.in_default-own.keys2)
-
-pub returns : goal.returns
+pub returns-in-Meets : goal.returns-in-Meets
 unfolding then_on
-returns c =
+returns-in-Meets c =
     rw c.in-Meets.is c.on_border.ensures
+
+pub returns-in-Over : goal.returns-in-Over
+unfolding then_on
+returns-in-Over c =
+    rw c.in-Over.is

@@ -1,49 +1,20 @@
 -- `verdict::winding::turn` meets its contract: the exact sum, where it is in the range of an i32.
-use Rattle.numbers.proofs.{Prelude.{rules, ◌+ℤ◌, w32, SFits}, write.Gaps.{widened, widens}}
-use Rattle.std.proofs.Common.{to_z-of_z}
-use Rattle.verdict.proofs.{Checks.{checked_found, checked_over}}
-use Rattle.border.proofs.{Signs.{narrow, exact_sum}, place.Whole.{sum_fits}}
+use Rattle.numbers.proofs.Prelude.{rules, ◌+ℤ◌, w32, SFits, to_z-of_z}
+use Rattle.verdict.proofs.{Halts.{exits, goes_on, tested, tested_fits}}
 use Rattle.verdict.specs.Winding.{turned}
 use Rattle.verdict.proofs.winding.turn.Goals as goal
 
-pub overflow_cast-sum : goal.overflow_cast-sum
-overflow_cast-sum c =
-    let b = c.ranges.by in
-    let w : SFits w32 c.args.tally.winding = search rules in
-    widens w
-
-pub overflow_cast-sum-2 : goal.overflow_cast-sum-2
-overflow_cast-sum-2 c =
-    widens c.ranges.by
-
-pub overflow_add-sum : goal.overflow_add-sum
-overflow_add-sum c =
-    let b = c.ranges.by in
-    let w : SFits w32 c.args.tally.winding = search rules in
-    rw (widened w, widened b) (sum_fits w b)
-
-pub overflow_cast-result : goal.overflow_cast-result
-overflow_cast-result c =
-    let b = c.ranges.by in
-    let w : SFits w32 c.args.tally.winding = search rules in
-    let sum = c.args.tally.winding +ℤ c.args.by in
-    let e = rw (exact_sum w b) at c.fits_i32.ensures in
-    rw (exact_sum w b) (narrow sum e c.if-fits_i32.true)
-
-pub returns-then-fits_i32 : goal.returns-then-fits_i32
+pub returns-in_err-winding : goal.returns-in_err-winding
 unfolding turned
-returns-then-fits_i32 c =
-    let b = c.ranges.by in
+returns-in_err-winding c =
     let w : SFits w32 c.args.tally.winding = search rules in
-    let sum = c.args.tally.winding +ℤ c.args.by in
-    let e = rw (exact_sum w b) at c.fits_i32.ensures in
-    rw (exact_sum w b, to_z-of_z {w = w32} (narrow sum e c.if-fits_i32.true), checked_found 31 sum e c.if-fits_i32.true)
+    let sum = rw (to_z-of_z w32 _ w, to_z-of_z w32 _ c.ranges.by) at c.checked_add.ensures in
+    exits c.from_residual.result c.in_err-winding.was (tested (c.args.tally.winding +ℤ c.args.by) c.checked_add.result sum c.ok_or.ensures.value) c.from_residual.ensures.1 _
 
-pub returns-else-fits_i32 : goal.returns-else-fits_i32
+pub returns : goal.returns
 unfolding turned
-returns-else-fits_i32 c =
-    let b = c.ranges.by in
+returns c =
     let w : SFits w32 c.args.tally.winding = search rules in
-    let sum = c.args.tally.winding +ℤ c.args.by in
-    let e = rw (exact_sum w b) at c.fits_i32.ensures in
-    rw (checked_over 31 sum e c.if-fits_i32.false)
+    let sum = rw (to_z-of_z w32 _ w, to_z-of_z w32 _ c.ranges.by) at c.checked_add.ensures in
+    rw (to_z-of_z w32 _ (tested_fits (c.args.tally.winding +ℤ c.args.by) c.checked_add.result sum c.ok_or.ensures.value c.in_ok-winding.was))
+    (goes_on c.ok_or.result (tested (c.args.tally.winding +ℤ c.args.by) c.checked_add.result sum c.ok_or.ensures.value) c.in_ok-winding.was _)

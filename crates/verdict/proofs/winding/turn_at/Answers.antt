@@ -1,98 +1,79 @@
 -- `verdict::winding::turn_at` meets its contract: the bounds that fit, and the tests against them, decide as the definition does.
-use Rattle.numbers.proofs.{Prelude.{rules, pos, ◌+ℤ◌, ◌-ℤ◌, ◌≡◌, w32, SFits, of_z, to_z}, write.Gaps.{widened, widens}}
-use Rattle.verdict.proofs.{Checks.{checked_found, checked_over}}
-use Rattle.border.proofs.{Signs.{exact_sum, exact_difference}, place.Whole.{sum_fits, difference_fits}}
-use Rattle.verdict.specs.Winding.{turn_at}
+use Rattle.numbers.proofs.{Prelude.{ℕ, ℤ, pos, ◌+ℤ◌, ◌-ℤ◌, lt_z, true, false, rules, ◌≡◌, ◌∙◌, w32, SFits, of_z, to_z, to_z-of_z}}
+use Rattle.std.specs.Prelude.{Result, Ok, if◌then◌else◌}
+use Rattle.border.specs.declared.place.FixedLon.{FixedLon}
+use Rattle.verdict.proofs.{Halts.{exits, goes_on, tested, tested_fits}}
+use Rattle.verdict.specs.{Step.{Step, found, meets, ◌>>=◌, checked, told}, Winding.{half_turn, turn_at}, declared.step.{Halt.{Halt}, Verdict.TheVariants.{OnBorderSegment}}}
 use Rattle.verdict.proofs.winding.turn_at.Goals as goal
 
-one : SFits w32 (pos 1)
-one = search rules
+module _ (crossing fix : FixedLon) (q : ℕ) where
+  -- what follows the right bound, and the left one
+  abbrev behind : ℤ → Step ℤ
+  behind right = if lt_z right crossing.0 then found (half_turn false q) else meets OnBorderSegment
 
-pub overflow_cast-met : goal.overflow_cast-met
-overflow_cast-met c =
-    let y : SFits w32 c.args.crossing.0 = search rules in
-    widens y
+  abbrev before : ℤ → Step ℤ
+  before left = if lt_z crossing.0 left then found (half_turn true q) else (checked 31 (fix.0 +ℤ pos 1) >>= behind)
 
-pub overflow_cast-left : goal.overflow_cast-left
-overflow_cast-left c =
-    let x : SFits w32 c.args.fix.0 = search rules in
-    widens x
+  bounded : {r : Result ℤ Halt} {left : ℤ} → told r ≡ checked 31 (fix.0 -ℤ pos 1) → r ≡ Ok left → before left ≡ turn_at crossing fix q
+  unfolding turn_at
+  bounded {r} h is = goes_on r h is before
 
-pub overflow_sub-left : goal.overflow_sub-left
-overflow_sub-left c =
-    let x : SFits w32 c.args.fix.0 = search rules in
-    rw (widened x) (difference_fits x one)
-
-pub returns-then-not-fits_i32 : goal.returns-then-not-fits_i32
+pub returns-in_err-left : goal.returns-in_err-left
 unfolding turn_at
-returns-then-not-fits_i32 c =
+returns-in_err-left c =
     let x : SFits w32 c.args.fix.0 = search rules in
-    let y : SFits w32 c.args.crossing.0 = search rules in
-    let left = rw (exact_difference x one) at c.fits_i32.ensures in
-    rw (checked_over 31 (c.args.fix.0 -ℤ pos 1) left c.if-not-fits_i32.true)
+    let left = rw (to_z-of_z w32 _ x) at c.checked_sub.ensures in
+    exits c.from_residual.result c.in_err-left.was (tested (c.args.fix.0 -ℤ pos 1) c.checked_sub.result left c.ok_or.ensures.value) c.from_residual.ensures.1
+    (before c.args.crossing c.args.fix c.args.quadrant)
 
-pub returns-then-met-left : goal.returns-then-met-left
-unfolding turn_at
-returns-then-met-left c =
+pub returns-then-crossing-left : goal.returns-then-crossing-left
+returns-then-crossing-left c =
     let x : SFits w32 c.args.fix.0 = search rules in
     let y : SFits w32 c.args.crossing.0 = search rules in
-    let left = rw (exact_difference x one) at c.fits_i32.ensures in
+    let left = rw (to_z-of_z w32 _ x) at c.checked_sub.ensures in
+    let fits = tested_fits (c.args.fix.0 -ℤ pos 1) c.checked_sub.result left c.ok_or.ensures.value c.in_ok-left.was in
     let r : to_z w32 (of_z w32 c.half_turn.result) ≡ c.half_turn.result = search rules in
-    rw (checked_found 31 (c.args.fix.0 -ℤ pos 1) left c.if-not-fits_i32.false, rw (widened y, exact_difference x one) at c.if-met-left.true, r, c.half_turn.ensures)
+    let here = rw (to_z-of_z w32 _ y, to_z-of_z w32 _ fits) at c.if-crossing-left.true in
+    rw (r, c.half_turn.ensures) (rw here at (bounded c.args.crossing c.args.fix c.args.quadrant (tested (c.args.fix.0 -ℤ pos 1) c.checked_sub.result left c.ok_or.ensures.value)
+    c.in_ok-left.was))
 
-pub overflow_cast-right : goal.overflow_cast-right
-overflow_cast-right c =
-    let x : SFits w32 c.args.fix.0 = search rules in
-    widens x
-
-pub overflow_add-right : goal.overflow_add-right
-overflow_add-right c =
-    let x : SFits w32 c.args.fix.0 = search rules in
-    rw (widened x) (sum_fits x one)
-
-pub returns-then-not-fits_i32-2 : goal.returns-then-not-fits_i32-2
-unfolding turn_at
-returns-then-not-fits_i32-2 c =
+pub returns-in_err-right : goal.returns-in_err-right
+returns-in_err-right c =
     let x : SFits w32 c.args.fix.0 = search rules in
     let y : SFits w32 c.args.crossing.0 = search rules in
-    let left = rw (exact_difference x one) at c.fits_i32.ensures in
-    let right = rw (exact_sum x one) at c.fits_i32-2.ensures in
-    rw (
-      checked_found 31 (c.args.fix.0 -ℤ pos 1) left c.if-not-fits_i32.false,
-      rw (widened y, exact_difference x one) at c.if-met-left.false,
-      checked_over 31
-          (c.args.fix.0 +ℤ pos 1) right c.if-not-fits_i32-2.true,
-    )
+    let left = rw (to_z-of_z w32 _ x) at c.checked_sub.ensures in
+    let fits = tested_fits (c.args.fix.0 -ℤ pos 1) c.checked_sub.result left c.ok_or.ensures.value c.in_ok-left.was in
+    let here = rw (to_z-of_z w32 _ y, to_z-of_z w32 _ fits) at c.if-crossing-left.false in
+    let right = rw (to_z-of_z w32 _ x) at c.checked_add.ensures in
+    exits c.from_residual-in_err-right.result c.in_err-right.was (tested (c.args.fix.0 +ℤ pos 1) c.checked_add.result right c.ok_or-2.ensures.value)
+    c.from_residual-in_err-right.ensures.1 (behind c.args.crossing c.args.fix c.args.quadrant)
+    ∙ (rw here at (bounded c.args.crossing c.args.fix c.args.quadrant (tested (c.args.fix.0 -ℤ pos 1) c.checked_sub.result left c.ok_or.ensures.value) c.in_ok-left.was))
 
-pub returns-then-right-met : goal.returns-then-right-met
-unfolding turn_at
-returns-then-right-met c =
+pub returns-then-right-crossing : goal.returns-then-right-crossing
+returns-then-right-crossing c =
     let x : SFits w32 c.args.fix.0 = search rules in
     let y : SFits w32 c.args.crossing.0 = search rules in
-    let left = rw (exact_difference x one) at c.fits_i32.ensures in
-    let right = rw (exact_sum x one) at c.fits_i32-2.ensures in
-    let r : to_z w32 (of_z w32 c.half_turn-then-right-met.result) ≡ c.half_turn-then-right-met.result = search rules in
-    rw (
-      checked_found 31 (c.args.fix.0 -ℤ pos 1) left c.if-not-fits_i32.false,
-      rw (widened y, exact_difference x one) at c.if-met-left.false,
-      checked_found 31
-          (c.args.fix.0 +ℤ pos 1) right c.if-not-fits_i32-2.false,
-      rw (widened y, exact_sum x one) at c.if-right-met.true,
-      r,
-      c.half_turn-then-right-met.ensures,
-    )
+    let left = rw (to_z-of_z w32 _ x) at c.checked_sub.ensures in
+    let fits = tested_fits (c.args.fix.0 -ℤ pos 1) c.checked_sub.result left c.ok_or.ensures.value c.in_ok-left.was in
+    let here = rw (to_z-of_z w32 _ y, to_z-of_z w32 _ fits) at c.if-crossing-left.false in
+    let right = rw (to_z-of_z w32 _ x) at c.checked_add.ensures in
+    let held = tested_fits (c.args.fix.0 +ℤ pos 1) c.checked_add.result right c.ok_or-2.ensures.value c.in_ok-right.was in
+    let there = rw (to_z-of_z w32 _ y, to_z-of_z w32 _ held) at c.if-right-crossing.true in
+    let r : to_z w32 (of_z w32 c.half_turn-then-right-crossing.result) ≡ c.half_turn-then-right-crossing.result = search rules in
+    rw (r, c.half_turn-then-right-crossing.ensures) ((rw there at (goes_on c.ok_or-2.result (tested (c.args.fix.0 +ℤ pos 1) c.checked_add.result right c.ok_or-2.ensures.value)
+    c.in_ok-right.was (behind c.args.crossing c.args.fix c.args.quadrant)))
+    ∙ (rw here at (bounded c.args.crossing c.args.fix c.args.quadrant (tested (c.args.fix.0 -ℤ pos 1) c.checked_sub.result left c.ok_or.ensures.value) c.in_ok-left.was)))
 
 pub returns : goal.returns
-unfolding turn_at
 returns c =
     let x : SFits w32 c.args.fix.0 = search rules in
     let y : SFits w32 c.args.crossing.0 = search rules in
-    let left = rw (exact_difference x one) at c.fits_i32.ensures in
-    let right = rw (exact_sum x one) at c.fits_i32-2.ensures in
-    rw (
-      checked_found 31 (c.args.fix.0 -ℤ pos 1) left c.if-not-fits_i32.false,
-      rw (widened y, exact_difference x one) at c.if-met-left.false,
-      checked_found 31
-          (c.args.fix.0 +ℤ pos 1) right c.if-not-fits_i32-2.false,
-      rw (widened y, exact_sum x one) at c.if-right-met.false,
-    )
+    let left = rw (to_z-of_z w32 _ x) at c.checked_sub.ensures in
+    let fits = tested_fits (c.args.fix.0 -ℤ pos 1) c.checked_sub.result left c.ok_or.ensures.value c.in_ok-left.was in
+    let here = rw (to_z-of_z w32 _ y, to_z-of_z w32 _ fits) at c.if-crossing-left.false in
+    let right = rw (to_z-of_z w32 _ x) at c.checked_add.ensures in
+    let held = tested_fits (c.args.fix.0 +ℤ pos 1) c.checked_add.result right c.ok_or-2.ensures.value c.in_ok-right.was in
+    let there = rw (to_z-of_z w32 _ y, to_z-of_z w32 _ held) at c.if-right-crossing.false in
+    (rw there at (goes_on c.ok_or-2.result (tested (c.args.fix.0 +ℤ pos 1) c.checked_add.result right c.ok_or-2.ensures.value) c.in_ok-right.was
+    (behind c.args.crossing c.args.fix c.args.quadrant)))
+    ∙ (rw here at (bounded c.args.crossing c.args.fix c.args.quadrant (tested (c.args.fix.0 -ℤ pos 1) c.checked_sub.result left c.ok_or.ensures.value) c.in_ok-left.was))

@@ -1,8 +1,7 @@
 -- `verdict::winding::wound` meets its contract: what its calls ensure, by how many quadrants the edge leads on.
-use Rattle.numbers.proofs.Prelude.{◌+◌, ◌-◌, ◌%◌, eq-eqb, ne_eqb, ◌≡◌, arith}
-use Rattle.verdict.proofs.{Kept.{quadrant_small}, winding.{Cases.{stays}}}
+use Rattle.numbers.proofs.Prelude.{◌+◌, ◌-◌, ◌%◌, eq-eqb, ne_eqb, ◌≡◌, ◌∙◌, arith}
+use Rattle.verdict.proofs.{Halts.{exits, goes_on}, Kept.{quadrant_small}}
 use Rattle.verdict.specs.Winding.{quarter_by, wound_by}
-use borrow.Enum.Refused.{opened}
 use Rattle.verdict.proofs.winding.wound.Goals as goal
 
 pub returns-then-to-from : goal.returns-then-to-from
@@ -24,13 +23,12 @@ unfolding wound_by
 returns-then-quarters-eq2 c =
     rw (← c.requires.1, ← c.requires.2, eq-eqb _ _ c.if-quarters-eq2.true) (rw c.edge_between-edge.ensures at c.cross.ensures)
 
-pub returns-in_default : goal.returns-in_default
+pub returns-in_err-counted : goal.returns-in_err-counted
 unfolding wound_by
-returns-in_default c =
-    rw (← c.requires.1, ← c.requires.2, ne_eqb _ _ c.if-quarters-eq2.false, ← c.quarter-turned.ensures) (stays c.quarter-turned.result _ (opened
-    c.in_default.in_default-own.keys2))
+returns-in_err-counted c =
+    rw (← c.requires.1, ← c.requires.2, ne_eqb _ _ c.if-quarters-eq2.false) (exits c.from_residual.result c.in_err-counted.was c.quarter.ensures c.from_residual.ensures.1 _)
 
 pub returns : goal.returns
 unfolding wound_by
 returns c =
-    rw (← c.requires.1, ← c.requires.2, ne_eqb _ _ c.if-quarters-eq2.false, ← c.quarter-turned.ensures, c.in-On.is) c.keep_clear-2.ensures
+    rw (← c.requires.1, ← c.requires.2, ne_eqb _ _ c.if-quarters-eq2.false) (c.keep_clear-2.ensures ∙ goes_on c.quarter.result c.quarter.ensures c.in_ok-counted.was _)

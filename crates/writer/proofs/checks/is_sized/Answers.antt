@@ -8,12 +8,12 @@ unfolding sized
 returns-then-lats-lons c =
     rw (ne_eqb _ _ c.if-lats-lons.true)
 
-pub returns-then-lats-eq0 : goal.returns-then-lats-eq0
+pub returns-then-lats-gt0 : goal.returns-then-lats-gt0
 unfolding sized
-returns-then-lats-eq0 c =
-    rw (eq-eqb _ _ c.if-lats-lons.false, le-ltb 0 (length c.args.lats.now) (omega (arith, c.if-lats-eq0.true)))
+returns-then-lats-gt0 c =
+    rw (eq-eqb _ _ c.if-lats-lons.false, lt-ltb 0 (length c.args.lats.now) c.if-lats-gt0.true)
 
-pub returns : goal.returns
+pub returns-else-lats-gt0 : goal.returns-else-lats-gt0
 unfolding sized
-returns c =
-    rw (eq-eqb _ _ c.if-lats-lons.false, lt-ltb 0 (length c.args.lats.now) (omega (arith, c.if-lats-eq0.false)))
+returns-else-lats-gt0 c =
+    rw (eq-eqb _ _ c.if-lats-lons.false, le-ltb 0 (length c.args.lats.now) c.if-lats-gt0.false)

@@ -5,6 +5,3 @@ use Rattle.writer.proofs.checks.none_repeated.Given as goal
 
 abbrev pub invariant-loop-i : goal.invariant-loop-i
 invariant-loop-i l = (1 ≤ l.i) × (every is_move (drop l.i (moves_of l.lats l.lons)) ≡ every is_move (drop 1 (moves_of l.lats l.lons)))
-
-abbrev pub decreases-loop-i : goal.decreases-loop-i
-decreases-loop-i l = length l.lats - l.i

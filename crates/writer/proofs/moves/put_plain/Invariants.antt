@@ -7,6 +7,3 @@ use Rattle.writer.proofs.moves.put_plain.Given as goal
 abbrev pub invariant-loop-i : goal.invariant-loop-i
 invariant-loop-i l =
     Left l.initial.out l.place (flat_map plain_move_bytes (slice l.from l.to (moves_of l.lats l.lons))) l.out l.next (flat_map plain_move_bytes (slice l.i l.to (moves_of l.lats l.lons)))
-
-abbrev pub decreases-loop-i : goal.decreases-loop-i
-decreases-loop-i l = l.to - l.i

@@ -1,10 +1,7 @@
 -- `writer::pieces::check_words` meets its contract.
-use Rattle.numbers.proofs.Prelude.{◌-◌, ◌≤◌, []}
+use Rattle.numbers.proofs.Prelude.{◌/◌, ◌≤◌, length, []}
 use Rattle.writer.specs.{Moves.{moves_of}, Pieces.{first_pieces}, inner.Stored.{Checked}}
 use Rattle.writer.proofs.pieces.check_words.Given as goal
 
 abbrev pub invariant-loop-i : goal.invariant-loop-i
-invariant-loop-i l = (l.i ≤ l.count) × (Checked l.earlier (moves_of l.lats l.lons) [] l.initial.sofar → Checked l.earlier (moves_of l.lats l.lons) (first_pieces l.i l.words) l.sofar)
-
-abbrev pub decreases-loop-i : goal.decreases-loop-i
-decreases-loop-i l = l.count - l.i
+invariant-loop-i l = (l.i ≤ length l.words / 5) × (Checked l.earlier (moves_of l.lats l.lons) [] l.initial.sofar → Checked l.earlier (moves_of l.lats l.lons) (first_pieces l.i l.words) l.sofar)

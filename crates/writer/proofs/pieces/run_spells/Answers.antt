@@ -1,7 +1,6 @@
 -- `writer::pieces::run_spells` meets its contract.
 use Rattle.numbers.proofs.Prelude.{refl, ◌∙◌, arith}
 use Rattle.writer.proofs.{Spelling.{unread, cut_off, of_zero, of_other, of_same, spells_end, index_inside}}
-use borrow.Enum.Refused.{opened}
 use Rattle.writer.proofs.pieces.run_spells.Goals as goal
 
 pub loop-j-init : goal.loop-j-init
@@ -10,16 +9,15 @@ loop-j-init c =
 
 pub returns-in_default : goal.returns-in_default
 returns-in_default c =
-    unread _ _ _ c.requires.0 c.requires.1 _ _ _ c.loop-j-test.true c.read_forward.result c.read_forward.ensures (opened c.in_default.in_default-own.keys2)
-    ∙ c.loop-j.invariant.1
+    unread _ _ _ c.requires.0 c.requires.1 _ _ _ c.loop-j-test.true c.in_default.field-0 (rw c.in_default.is at c.read_forward.ensures) ∙ c.loop-j.invariant.1
 
 pub returns-then-run-number : goal.returns-then-run-number
 returns-then-run-number c =
-    cut_off _ _ _ c.requires.0 c.requires.1 _ _ _ c.loop-j-test.true _ c.read_forward.ensures _ c.in-Number.is c.if-run-number.true ∙ c.loop-j.invariant.1
+    cut_off _ _ _ c.requires.0 c.requires.1 _ _ _ c.loop-j-test.true _ c.read_forward.ensures _ c.in-Ok.is c.if-run-number.true ∙ c.loop-j.invariant.1
 
 pub returns-then-number-eq0 : goal.returns-then-number-eq0
 returns-then-number-eq0 c =
-    of_zero _ _ _ c.requires.0 c.requires.1 _ _ _ c.loop-j-test.true _ c.read_forward.ensures _ c.in-Number.is c.if-run-number.false c.if-number-eq0.true
+    of_zero _ _ _ c.requires.0 c.requires.1 _ _ _ c.loop-j-test.true _ c.read_forward.ensures _ c.in-Ok.is c.if-run-number.false c.if-number-eq0.true
     ∙ c.loop-j.invariant.1
 
 pub index_of-index-requires : goal.index_of-index-requires
@@ -33,13 +31,13 @@ is_lent-requires c =
 
 pub returns-then-not-is_lent : goal.returns-then-not-is_lent
 returns-then-not-is_lent c =
-    of_other _ _ _ c.requires.0 c.requires.1 _ _ _ c.loop-j-test.true _ c.read_forward.ensures _ c.in-Number.is c.if-run-number.false c.if-number-eq0.false
+    of_other _ _ _ c.requires.0 c.requires.1 _ _ _ c.loop-j-test.true _ c.read_forward.ensures _ c.in-Ok.is c.if-run-number.false c.if-number-eq0.false
     c.index_of-index.ensures c.is_lent.ensures c.if-not-is_lent.true ∙ c.loop-j.invariant.1
 
 pub loop-j-preserved : goal.loop-j-preserved
 loop-j-preserved c = (
   omega arith,
-  of_same _ _ _ c.requires.0 c.requires.1 _ _ _ c.loop-j-test.true _ c.read_forward.ensures _ c.in-Number.is c.if-run-number.false
+  of_same _ _ _ c.requires.0 c.requires.1 _ _ _ c.loop-j-test.true _ c.read_forward.ensures _ c.in-Ok.is c.if-run-number.false
       c.if-number-eq0.false c.index_of-index.ensures c.is_lent.ensures c.if-not-is_lent.false ∙ c.loop-j.invariant.1,
 )
 

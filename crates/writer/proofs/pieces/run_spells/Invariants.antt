@@ -5,6 +5,3 @@ use Rattle.writer.proofs.pieces.run_spells.Given as goal
 
 abbrev pub invariant-loop-j : goal.invariant-loop-j
 invariant-loop-j l = (l.j ≤ l.piece.count) × (spells l.run l.place (drop l.j (lent_moves (moves_of l.lats l.lons) l.piece)) ≡ spells l.run 0 (lent_moves (moves_of l.lats l.lons) l.piece))
-
-abbrev pub decreases-loop-j : goal.decreases-loop-j
-decreases-loop-j l = l.piece.count - l.j

@@ -24,7 +24,7 @@ put_packed-here-requires c =
       size =
           search rules;
     } in
-    own_asked known c.loop-j.invariant c.loop-j-test.true c.least-to.ensures
+    own_asked known c.loop-j.invariant c.loop-j-test.true c.min-to.ensures
 
 pub put_piece-place-requires : goal.put_piece-place-requires
 put_piece-place-requires c =
@@ -35,11 +35,7 @@ put_piece-place-requires c =
       size =
           search rules;
     } in
-    piece_room known c.loop-j.invariant c.loop-j-test.true c.least-to.ensures c.put_packed-here.ensures
-
-pub overflow_add-j : goal.overflow_add-j
-overflow_add-j c =
-    omega (arith, c.loop-j.invariant.upto, c.requires.2)
+    piece_room known c.loop-j.invariant c.loop-j-test.true c.min-to.ensures c.put_packed-here.ensures
 
 pub loop-j-preserved : goal.loop-j-preserved
 loop-j-preserved c =
@@ -50,7 +46,7 @@ loop-j-preserved c =
       size =
           search rules;
     } in
-    again known c.loop-j.invariant c.loop-j-test.true c.least-to.ensures c.put_packed-here.ensures c.put_piece-place.ensures
+    again known c.loop-j.invariant c.loop-j-test.true c.min-to.ensures c.put_packed-here.ensures c.put_piece-place.ensures
 
 pub put_packed-end-requires : goal.put_packed-end-requires
 put_packed-end-requires c =

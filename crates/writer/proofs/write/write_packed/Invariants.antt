@@ -6,6 +6,3 @@ use Rattle.writer.proofs.write.write_packed.Given as goal
 
 abbrev pub invariant-loop-j : goal.invariant-loop-j
 invariant-loop-j l = Packing l.initial.out (moves_of l.lats l.lons) l.kept l.count l.j l.next l.out l.place
-
-abbrev pub decreases-loop-j : goal.decreases-loop-j
-decreases-loop-j l = l.count - l.j

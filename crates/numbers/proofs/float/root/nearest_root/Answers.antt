@@ -14,10 +14,10 @@ returns-then-is_nearest c =
 
 pub returns-then-low-n : goal.returns-then-low-n
 returns-then-low-n c =
-    let halved : nearest_root c.args.n ≡ cond (ltb (c.halved_root-low.result * c.halved_root-low.result + c.halved_root-low.result) c.args.n) (suc c.halved_root-low.result) c.halved_root-low.result = by_root c.args.n c.halved_root-low.result c.requires.1 (c.halved_root-low.ensures.0, c.halved_root-low.ensures.1) in
-    let r = c.halved_root-low.result in add-one r ∙ sym (halved ∙ ap (λ (b : Bool). cond b (suc r) r) (lt-ltb (r * r + r) _ c.if-low-n.true))
+    let halved : nearest_root c.args.n ≡ cond (ltb (c.isqrt-low.result * c.isqrt-low.result + c.isqrt-low.result) c.args.n) (suc c.isqrt-low.result) c.isqrt-low.result = by_root c.args.n c.isqrt-low.result c.requires.1 (c.isqrt-low.ensures.square_le, c.isqrt-low.ensures.next_square_gt) in
+    let r = c.isqrt-low.result in add-one r ∙ sym (halved ∙ ap (λ (b : Bool). cond b (suc r) r) (lt-ltb (r * r + r) _ c.if-low-n.true))
 
 pub returns-else-low-n : goal.returns-else-low-n
 returns-else-low-n c =
-    let halved : nearest_root c.args.n ≡ cond (ltb (c.halved_root-low.result * c.halved_root-low.result + c.halved_root-low.result) c.args.n) (suc c.halved_root-low.result) c.halved_root-low.result = by_root c.args.n c.halved_root-low.result c.requires.1 (c.halved_root-low.ensures.0, c.halved_root-low.ensures.1) in
-    let r = c.halved_root-low.result in sym (halved ∙ ap (λ (b : Bool). cond b (suc r) r) (le-ltb (r * r + r) _ c.if-low-n.false))
+    let halved : nearest_root c.args.n ≡ cond (ltb (c.isqrt-low.result * c.isqrt-low.result + c.isqrt-low.result) c.args.n) (suc c.isqrt-low.result) c.isqrt-low.result = by_root c.args.n c.isqrt-low.result c.requires.1 (c.isqrt-low.ensures.square_le, c.isqrt-low.ensures.next_square_gt) in
+    let r = c.isqrt-low.result in sym (halved ∙ ap (λ (b : Bool). cond b (suc r) r) (le-ltb (r * r + r) _ c.if-low-n.false))

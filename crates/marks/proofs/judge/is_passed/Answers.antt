@@ -1,8 +1,0 @@
--- `marks::judge::is_passed` meets its contract.
-use Rattle.numbers.proofs.Prelude.{◌∙◌}
-use Rattle.marks.specs.Judging.{can_pass}
-use Rattle.marks.proofs.judge.is_passed.Goals as goal
-
-pub returns : goal.returns
-returns c =
-    c.can_pass.ensures ∙ (λ i. can_pass c.args.fix c.args.asked c.args.least (c.point_at-low.ensures i) (c.point_at-high.ensures i))
