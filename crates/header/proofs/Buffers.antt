@@ -1,8 +1,8 @@
 -- Laws on what a loop or a call has written into a lent buffer. Assumes nothing.
 use Rattle.numbers.proofs.Prelude.{ℕ, zero, suc, ◌+◌, ◌-◌, ◌≤◌, ◌<◌, length, take, drop, get_or, set, length-append, length-drop, length-replicate, drop_of_length-le, length-take-le, drop-cons}
-use Rattle.numbers.proofs.Prelude.{drop-length, take_all, take-suc, take-length, List, [], ◌∷◌, ◌++◌, map, append-nil, ◌≡◌, refl, sym, ap, ◌∙◌, le_refl, le_of_lt, add-one, arith}
+use Rattle.numbers.proofs.Prelude.{take_all, take-suc, take-length, List, [], ◌∷◌, ◌++◌, map, append-nil, ◌≡◌, refl, sym, ap, ◌∙◌, le_refl, le_of_lt, add-one, arith}
 use Rattle.numbers.specs.Lists.{zeros, over}
-use lib.{ListN.{get_or-replicate}, Seq.{set_at, append_snoc}}
+use lib.{Seq.{set_at, append_snoc}}
 
 -- an element of a list whose elements are taken one by one
 pub map_at : (f : ℕ → ℕ) (l : List ℕ) (i : ℕ) → i < length l → get_or (map f l) i 0 ≡ f (get_or l i 0)
@@ -23,37 +23,6 @@ copied_length s d i hs hd = simp (length-append, length-take-le i s hs, length-d
 
 pub copied_all : (s d : List ℕ) (i : ℕ) → i ≤ length s → length s ≤ i → take i s ++ drop i d ≡ over s d
 copied_all s d i le ge = let e : i ≡ length s = omega arith in rw (e, take-length)
-
--- ---- zeros: the same, with zeros for s
-abbrev pub zeroed : ℕ → List ℕ → List ℕ
-zeroed i d = take i (zeros (length d)) ++ drop i d
-
-module _ (d : List ℕ) (i : ℕ) where
-  zeroed_suc : i < length d → set (zeroed i d) i 0 ≡ zeroed (i + 1) d
-  zeroed_suc h = ap (set (zeroed i d) i) (sym (get_or-replicate (length d) i 0 0 h)) ∙ copied_suc (zeros (length d)) d i (rw length-replicate h) h
-
-  zeroed_length : i ≤ length d → length (zeroed i d) ≡ length d
-  zeroed_length h = copied_length (zeros (length d)) d i (rw length-replicate h) h
-
-  zeroed_all : i ≤ length d → length d ≤ i → zeroed i d ≡ zeros (length d)
-  zeroed_all le ge =
-      copied_all (zeros (length d)) d i (rw length-replicate le) (rw length-replicate ge) ∙ ap (λ (r : List ℕ). zeros (length d) ++ r)
-      (ap (λ (k : ℕ). drop k d) (length-replicate (length d) 0) ∙ drop-length d) ∙ append-nil (zeros (length d))
-
--- a loop that zeroes a buffer: before each turn i zeros stand over the front
-pub record Zeroing (d now : List ℕ) (i : ℕ) : Type 0 where
-  pub inside : i ≤ length d
-  pub is : now ≡ zeroed i d
-
-module _ {d now : List ℕ} {i : ℕ} (z : Zeroing d now i) where
-  pub zeroing_length : length now ≡ length d
-  zeroing_length = ap length z.is ∙ zeroed_length d i z.inside
-
-  pub zeroing_on : i < length now → Zeroing d (set now i 0) (i + 1)
-  zeroing_on h = let more : i < length d = omega (arith, zeroing_length) in record { inside = omega arith; is = rw z.is (zeroed_suc d i more) }
-
-  pub zeroing_done : length now ≤ i → now ≡ zeros (length d)
-  zeroing_done h = z.is ∙ zeroed_all d i z.inside (omega (arith, zeroing_length))
 
 pub of_length : (xs : List ℕ) (n : ℕ) → xs ≡ zeros n → length xs ≡ n
 of_length xs n e = ap length e ∙ length-replicate n 0

@@ -1,7 +1,7 @@
 -- A file that has a header: from what each part of it was read, and what its three sizes say. Assumes nothing.
 use Rattle.numbers.proofs.Prelude.{ℕ, ◌+◌, ◌%◌, ◌^◌, ◌≤◌, ◌<◌, leb-true, ltb-true, eqb-true, eqb, ltb, leb, length, Bool, List, ◌≡◌, refl, ap, arith}
 use Rattle.numbers.{proofs.Replies.{given_from, given_one, demanded}, specs.{Answer.{found}, Reply.{given, refusal, plain}, Varint.{Numeral, reading_of}}}
-use Rattle.header.proofs.header.Sizes.{given_found}
+use Rattle.header.proofs.Strings.{given_found}
 use Rattle.header.specs.{Header.{preamble_of, Texts, texts_of, size_at, sections_from, sections_at, contents_by, head_by}, declared.header.{Head.{Head}, Preamble.{Preamble}, Sections.{Sections}}}
 
 pub record ReadFrom (strict : Bool) (file : List ℕ) (head : Head) : Type 0 where

@@ -1,12 +1,11 @@
 -- Strings: where a remote one stands, and how the bytes of one go out. Assumes nothing.
-use Rattle.numbers.proofs.{Answers.{not_failed, All}, Laws.{Read}, Prelude.{ℕ, ◌+◌, ◌-◌, ◌%◌, ◌^◌, ◌≤◌, leb-true, ltb-true, tag_of, declared, eqb, ltb, leb, length, take, drop, length-drop}}
+use Rattle.numbers.proofs.{Answers.{not_failed, All}, Laws.{Read}, Prelude.{ℕ, ◌+◌, ◌-◌, ◌%◌, ◌^◌, ◌≤◌, leb-true, ltb-true, eqb, ltb, leb, length, take, drop, length-drop}}
 use Rattle.numbers.{proofs.{Prelude.{length-take-le, Bool, true, false, List, map, ◌≡◌, refl, sym, ap, ◌∙◌, arith}, Readings.{reading_read}}, specs.Answer.{Answer, found, failed, refused}}
-use Rattle.numbers.specs.{Answer.{if◌then◌else◌, ◌>>=◌}, Reply.{given, refusal}, Varint.{Numeral, reading_of}}
+use Rattle.numbers.specs.{Answer.{if◌then◌else◌, ◌>>=◌}, Reply.{given, refusal, ◌or_else◌}, Varint.{Numeral, reading_of}}
 use native.Mathlib.Nat.{add-mod-mod}
-use Rattle.header.specs.{Text.{within, remote_at, string_at, bytes_of, or_blamed, text_at}, Utf8.{unmasked, is_utf8}, declared.text.{Blame.{Blame}, String.{String}, Text.{Text}}}
+use Rattle.header.specs.{Text.{within, remote_at, string_at, bytes_of, or_blamed, text_at}, Utf8.{unmasked, is_utf8}, declared.text.{Blame.{Blame}, Text.{Text}}}
 use Rattle.numbers.specs.Reply as R
-use Rattle.header.specs.declared.text.String.TheVariants as S
-use Rattle.header.specs.contracts.text.String as N
+use Rattle.numbers.specs.{declared.refusal.Refusal.{Refusal}}
 
 pub away : (metadata value : ℕ) → 256 ≤ value → (metadata + (value - 256) % 2 ^ 32) % 2 ^ 32 ≡ (metadata + value - 256) % 2 ^ 32
 away metadata value h = let e : metadata + (value - 256) ≡ metadata + value - 256 = omega arith in
@@ -87,8 +86,14 @@ module _ (file : List ℕ) (text : Text) where
   part_length l = let n : text.start + text.size - text.start ≡ text.size = omega arith in
       ap (λ (k : ℕ). length (take k (drop text.start file))) n ∙ length-take-le text.size (drop text.start file) (rw length-drop (omega (arith, l.inside)))
 
--- what a `match` shows of a string that was not found
-pub is_failed : (s : String) → tag_of (declared N.enum) s ≡ 1 → s ≡ S.Failed
-is_failed (S.Text text) is = absurd (omega (arith, is))
-is_failed S.Failed is = refl
-is_failed (S.Refused number) is = absurd (omega (arith, is))
+-- what was given was found
+pub given_found : {A : Type 0} {a : A} (why : Refusal) (answer : Answer A) → given a ≡ (answer or_else why) → found a ≡ answer
+given_found why (found a) e = cc
+given_found why failed e = let z : ◌≡◌ {A = ℕ} 0 1 = cc in absurd (omega arith)
+given_found why (refused number) e = let z : ◌≡◌ {A = ℕ} 0 1 = cc in absurd (omega arith)
+
+-- a string that was not found, as its blame has it
+pub blamed : (file : List ℕ) (blame : Blame) (answer : Answer Text) {why : Refusal} → R.refused why ≡ (answer or_else refusal blame.number 1 blame.detail) → R.refused why ≡ or_blamed file blame answer
+blamed file blame (found text) e = let z : ◌≡◌ {A = ℕ} 0 1 = cc in absurd (omega arith)
+blamed file blame failed e = e
+blamed file blame (refused number) e = e

@@ -1,8 +1,7 @@
 -- Strings as they go out, and what a lent text then holds.
 use Rattle.std.specs.Prelude.{◌/◌, ◌%◌, ◌∷◌}
 use Rattle.numbers.specs.{Lists.{over}, Prelude.{ℕ, leb, length, Bool, List}, Reply.{Reply, given, refused, plain, demand, ◌>>=◌, ◌>>◌}}
-use Rattle.header.specs.{Text.{bytes_of, text_at}, declared.field.{Sent.{Sent}, Written.{Written}}}
-use Rattle.header.specs.declared.field.Written.TheVariants as W
+use Rattle.header.specs.{Text.{bytes_of, text_at}, declared.field.{Sent.{Sent}}}
 
 -- its length in two bytes, the high one first, and its bytes
 abbrev pub entry : List ℕ → List ℕ
@@ -24,11 +23,7 @@ field_at strict file metadata place tag room = do
   demand (leb (length (field tag (bytes_of file text))) room) (plain 18)
   given (record { bytes = field tag (bytes_of file text); next = text.next })
 
--- what the code tells of it
-abbrev pub told_field : Written → Reply Sent
-told_field (W.Field sent) = given sent
-told_field (W.Refused why) = refused why
-
+-- how much of the text it took
 abbrev pub sent_of : Reply Field → Reply Sent
 sent_of (given field) = given (record { size = length field.bytes; next = field.next })
 sent_of (refused why) = refused why

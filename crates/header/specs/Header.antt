@@ -1,14 +1,8 @@
 -- The header, in document 01's order, its numbers read strictly or not.
 use Rattle.std.specs.Prelude.{if◌then◌else◌, ◌+◌, ◌*◌, ◌%◌, ◌^◌, ◌||◌, ◌++◌}
 use Rattle.numbers.specs.{Limits.{largest_file}, Prelude.{ℕ, zero, suc, eqb, ltb, leb, length, get_or, Bool, true, false, List, []}}
-use Rattle.numbers.specs.{Reply.{Reply, given, refused, refusal, plain, demand, ◌or_else◌, ◌>>=◌, ◌>>◌}, Varint.{Numeral, reading_of}, declared.varint.Varint.{Varint}}
-use Rattle.header.specs.{Field.{entry}, Text.{stopped_of, text_at, bytes_of}, declared.header.{Head.{Head}, Headed.{Headed}, PlaceAnswer.{PlaceAnswer}, Preamble.{Preamble}}}
-use Rattle.header.specs.declared.{header.{PreambleAnswer.{PreambleAnswer}, Sections.{Sections}, SectionsAnswer.{SectionsAnswer}, SizeAnswer.{SizeAnswer}}, text.Blame.{Blame}}
-use Rattle.header.specs.declared.header.PreambleAnswer.TheVariants as B
-use Rattle.header.specs.declared.header.SectionsAnswer.TheVariants as P
-use Rattle.header.specs.declared.header.Headed.TheVariants as H
-use Rattle.header.specs.declared.header.PlaceAnswer.TheVariants as A
-use Rattle.header.specs.declared.header.SizeAnswer.TheVariants as Z
+use Rattle.numbers.specs.{Reply.{Reply, given, refusal, plain, demand, ◌or_else◌, ◌>>=◌, ◌>>◌}, Varint.{Numeral, reading_of}}
+use Rattle.header.specs.{Field.{entry}, Text.{text_at, bytes_of}, declared.header.{Head.{Head}, Preamble.{Preamble}, Sections.{Sections}}, declared.text.Blame.{Blame}}
 
 -- ---- refusals 1 to 5
 -- the three bytes as one number, the first highest
@@ -103,31 +97,6 @@ head_of = head_by false
 abbrev pub head_strictly : List ℕ → Reply Head
 head_strictly = head_by true
 
--- ---- the code's answers
-abbrev pub told_preamble : PreambleAnswer → Reply Preamble
-told_preamble (B.Preamble preamble) = given preamble
-told_preamble (B.Refused why) = refused why
-
 -- the place after names and notice
 abbrev pub place_after : Bool → List ℕ → ℕ → Reply ℕ
 place_after strict file names = texts_of strict file names >>= λ texts. given texts.place
-
-abbrev pub told_place : PlaceAnswer → Reply ℕ
-told_place (A.Place place) = given place
-told_place (A.Refused why) = refused why
-
--- the refusal of a size that was not read
-abbrev pub unread_of : Varint → ℕ → Reply Numeral
-unread_of answer number = stopped_of answer or_else plain number
-
-abbrev pub told_size : SizeAnswer → Reply Numeral
-told_size (Z.Number number) = given number
-told_size (Z.Refused why) = refused why
-
-abbrev pub told_sections : SectionsAnswer → Reply Sections
-told_sections (P.Sections sections) = given sections
-told_sections (P.Refused why) = refused why
-
-abbrev pub told_head : Headed → Reply Head
-told_head (H.Head head) = given head
-told_head (H.Refused why) = refused why

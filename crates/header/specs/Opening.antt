@@ -1,9 +1,7 @@
 -- Opening: the reply and the whole lent text.
-use Rattle.std.specs.Prelude.{◌≤◌, ◌<◌, ◌≡◌}
+use Rattle.std.specs.Prelude.{◌≤◌, ◌<◌, ◌≡◌, Option, Some, None}
 use Rattle.numbers.specs.{Lists.{zeros, padded}, Prelude.{ℕ, leb, length, Bool, true, false, List}, Reply.{Reply, given, refused, plain, demand, ◌>>=◌, ◌>>◌}}
-use Rattle.header.specs.{Header.{Texts, Contents, contents_by}, declared.opening.{Opened.{Opened}, Opening.{Opening}, Wrote.{Wrote}}}
-use Rattle.header.specs.declared.opening.Opened.TheVariants as O
-use Rattle.header.specs.declared.opening.Wrote.TheVariants as W
+use Rattle.header.specs.{Header.{Texts, Contents, contents_by}, declared.opening.{Opening.{Opening}}}
 
 -- the header with names and notice; 18 last, where these have no room
 unfoldable pub fitting_of : Bool → List ℕ → ℕ → Reply Contents
@@ -42,17 +40,12 @@ opened_of = opened_by false
 abbrev pub opened_strictly : List ℕ → ℕ → Replied
 opened_strictly = opened_by true
 
--- ---- the code's answers
-abbrev pub told_opened : Opened → Reply Opening
-told_opened (O.Opening opening) = given opening
-told_opened (O.Refused why) = refused why
-
-abbrev pub replied : Opened → List ℕ → Replied
-replied r text = record { reply = told_opened r; text = text }
+abbrev pub replied : Reply Opening → List ℕ → Replied
+replied r text = record { reply = r; text = text }
 
 -- what the writing of names and notice leaves, where they can be read
-abbrev pub Filled : Reply Texts → ℕ → Wrote → List ℕ → Type 0
+abbrev pub Filled : Reply Texts → ℕ → Option ℕ → List ℕ → Type 0
 Filled (given texts) room r text =
-    (length texts.bytes ≤ room → (r ≡ W.Used (length texts.bytes)) × (text ≡ padded room texts.bytes))
-    × (room < length texts.bytes → r ≡ W.NoRoom)
+    (length texts.bytes ≤ room → (r ≡ Some (length texts.bytes)) × (text ≡ padded room texts.bytes))
+    × (room < length texts.bytes → r ≡ None)
 Filled (refused why) room r text = Unit {0}

@@ -1,11 +1,9 @@
 -- Strings of the file, as document 01 has them, their numbers read strictly or not.
 use Rattle.std.specs.Prelude.{if◌then◌else◌, ◌+◌, ◌-◌, ◌%◌, ◌^◌}
 use Rattle.numbers.specs.{Answer.{Answer, found, failed, refused, ◌>>=◌}, Prelude.{ℕ, eqb, ltb, leb, length, take, drop, Bool, List, map}}
-use Rattle.numbers.specs.{Reply.{Reply, given, encoding, not_utf8, refusal, plain}, Varint.{told, reading_of}, declared.varint.Varint.{Varint}}
-use Rattle.header.specs.{Utf8.{unmasked, is_utf8}, declared.text.{Blame.{Blame}, Read.{Read}, String.{String}, Text.{Text}}}
+use Rattle.numbers.specs.{Reply.{Reply, given, encoding, not_utf8, refusal, plain}, Varint.{reading_of}}
+use Rattle.header.specs.{Utf8.{unmasked, is_utf8}, declared.text.{Blame.{Blame}, Text.{Text}}}
 use Rattle.numbers.specs.Reply as R
-use Rattle.header.specs.declared.text.String.TheVariants as S
-use Rattle.header.specs.declared.text.Read.TheVariants as T
 
 -- 14 where a byte is past the end; an empty string has none, and counts as standing at 0
 unfoldable pub within : List ℕ → Text → Answer Text
@@ -39,17 +37,3 @@ or_blamed file blame (refused number) = R.refused (plain number)
 -- the string at a place, which must be UTF-8
 unfoldable pub text_at : Bool → List ℕ → ℕ → ℕ → Blame → Reply Text
 text_at strict file metadata place blame = or_blamed file blame (string_at strict file metadata place)
-
--- ---- the code's answers
-abbrev pub told_text : String → Answer Text
-told_text (S.Text text) = found text
-told_text S.Failed = failed
-told_text (S.Refused number) = refused number
-
-abbrev pub told_read : Read → Reply Text
-told_read (T.Text text) = given text
-told_read (T.Refused why) = R.refused why
-
--- an answer that is no number, with nothing to follow it
-abbrev pub stopped_of : {A : Type 0} → Varint → Answer A
-stopped_of answer = told answer >>= λ number. failed

@@ -2,8 +2,8 @@
 use Rattle.std.specs.Prelude.{if◌then◌else◌, ◌-◌, ◌&&◌, ◌∷◌, ◌++◌, ◌≡◌}
 use Rattle.numbers.specs.Prelude.{ℕ, eqb, leb, replicate, Bool, true, false, List, []}
 use Rattle.std.specs.Int.Bits.{bit_xor}
-use Rattle.header.specs.declared.utf8.{Due.{Due}, Step.{Step}}
-use Rattle.header.specs.declared.utf8.Step.TheVariants as S
+use Rattle.header.specs.declared.utf8.{Due.{Due}}
+use Rattle.std.specs.Prelude.{Option, Some, None}
 
 -- each byte is stored XOR 0x80
 abbrev pub unmasked : ℕ → ℕ
@@ -113,6 +113,6 @@ is_utf8 bytes = goes_on bytes (due [])
 abbrev pub pending_of : Due → Pending
 pending_of d = if eqb d.left 0 then due [] else due ((d.low – d.high) ∷ replicate (d.left - 1) tail)
 
-abbrev pub told_step : Step → Pending
-told_step (S.Due d) = pending_of d
-told_step S.Wrong = wrong
+abbrev pub told_step : Option Due → Pending
+told_step (Some d) = pending_of d
+told_step None = wrong

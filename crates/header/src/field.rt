@@ -2,11 +2,11 @@
 ghost use mathlib.Core.{Path.{◌≡◌}, List.{map}};
 ghost use Rattle.std.specs.Prelude.{◌+◌, ◌≤◌, ◌<◌, length};
 ghost use Rattle.numbers.specs.Lists.{zeros, over};
-ghost use Rattle.header.specs.{Utf8.{unmasked}, Field.{entry, field, field_at, told_field, sent_of, text_after}};
+ghost use Rattle.header.specs.{Utf8.{unmasked}, Field.{entry, field, field_at, sent_of, text_after}};
 
-use crate::codes::{BAD_FIELD, TEXT_FULL};
-use crate::text::{Blame, Read, read_text};
-use numbers::refusal::{Refusal, plain};
+use crate::text::{Blame, read_text};
+use numbers::fault::Fault;
+use numbers::refusal::Refusal;
 
 // A field that went out: how many bytes of the text it took, and the place to read on from.
 #[derive(Clone, Copy)]
@@ -15,20 +15,10 @@ pub struct Sent {
     pub next: usize,
 }
 
-#[derive(Clone, Copy)]
-pub enum Written {
-    Field(Sent),
-    Refused(Refusal),
-}
-
 pub fn zero(text: &mut [u8])
     ensures { text.new ≡ zeros (length text.old) }
 {
-    let mut i = 0;
-    while i < text.len() {
-        text[i] = 0;
-        i += 1;
-    }
+    text.fill(0);
 }
 
 // Stored bytes over the front of a text, each taken XOR 0x80.
@@ -36,10 +26,8 @@ pub fn unmask(text: &mut [u8], stored: &[u8])
     requires { length stored.now ≤ length text.old }
     ensures { text.new ≡ over (map unmasked stored.now) text.old }
 {
-    let mut i = 0;
-    while i < stored.len() {
-        text[i] = stored[i] ^ 0x80;
-        i += 1;
+    for (i, byte) in stored.iter().enumerate() {
+        text[i] = *byte ^ 0x80;
     }
 }
 
@@ -71,25 +59,22 @@ pub fn write_field(
     strict: bool,
     metadata: u32,
     place: usize,
-) -> Written
-    ensures { (told_field result ≡ sent_of (field_at strict file.now metadata place tag (length text.old)))
+) -> Result<Sent, Refusal>
+    ensures { (result ≡ sent_of (field_at strict file.now metadata place tag (length text.old)))
         × (text.new ≡ text_after (field_at strict file.now metadata place tag (length text.old)) text.old) }
 {
     let blame = Blame {
-        number: BAD_FIELD,
+        number: Fault::BadField as u8,
         detail: 0,
     };
-    let string = match read_text(file, strict, metadata, place, blame) {
-        Read::Text(string) => string,
-        Read::Refused(why) => return Written::Refused(why),
-    };
+    let string = read_text(file, strict, metadata, place, blame)?;
     let start = string.start;
     let size = string.size;
     if text.len() < size + 3 {
-        return Written::Refused(plain(TEXT_FULL));
+        return Err(Fault::TextFull.alone());
     }
     put_field(text, tag, &file[start..start + size]);
-    Written::Field(Sent {
+    Ok(Sent {
         size: size + 3,
         next: string.next,
     })

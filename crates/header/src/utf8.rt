@@ -1,5 +1,5 @@
 // UTF-8 as RFC 3629 has it, over bytes that are stored XOR 0x80.
-ghost use mathlib.Core.{Path.{◌≡◌}, List.{map}};
+ghost use Rattle.std.specs.Prelude.{◌≡◌, map, Some};
 ghost use Rattle.header.specs.Utf8.{pending_of, told_step, begun_by, followed, is_utf8, unmasked};
 
 // What a character that has begun still lacks: so many bytes, the first of them in a range, the others tails.
@@ -10,20 +10,14 @@ struct Due {
     left: u8,
 }
 
-#[derive(Clone, Copy)]
-enum Step {
-    Due(Due),
-    // No character has this byte here.
-    Wrong,
-}
-
-fn wants(low: u8, high: u8, left: u8) -> Step
-    ensures { result ≡ Step.Due (record { low = low; high = high; left = left }) }
+fn wants(low: u8, high: u8, left: u8) -> Option<Due>
+    ensures { result ≡ Some (record { low = low; high = high; left = left }) }
 {
-    Step::Due(Due { low, high, left })
+    Some(Due { low, high, left })
 }
 
-fn begin(first: u8) -> Step
+// What a character that begins with this byte lacks, if one does.
+fn begin(first: u8) -> Option<Due>
     ensures { told_step result ≡ begun_by first }
 {
     match first {
@@ -36,21 +30,19 @@ fn begin(first: u8) -> Step
         0xF0 => wants(0x90, 0xBF, 3),
         0xF1..=0xF3 => wants(0x80, 0xBF, 3),
         0xF4 => wants(0x80, 0x8F, 3),
-        _ => Step::Wrong,
+        _ => None,
     }
 }
 
-fn follow(pending: Due, byte: u8) -> Step
+// What is lacking after one more byte, if a character can have it here.
+fn follow(pending: Due, byte: u8) -> Option<Due>
     ensures { told_step result ≡ followed (pending_of pending) byte }
 {
     if pending.left == 0 {
         return begin(byte);
     }
-    if byte < pending.low {
-        return Step::Wrong;
-    }
-    if pending.high < byte {
-        return Step::Wrong;
+    if byte < pending.low || pending.high < byte {
+        return None;
     }
     wants(0x80, 0xBF, pending.left - 1)
 }
@@ -64,14 +56,11 @@ pub fn is_utf8(stored: &[u8]) -> bool
         high: 0xBF,
         left: 0,
     };
-    let mut i = 0;
-    while i < stored.len() {
-        let step = follow(pending, stored[i] ^ 0x80);
-        let Step::Due(next) = step else {
+    for byte in stored {
+        let Some(next) = follow(pending, *byte ^ 0x80) else {
             return false;
         };
         pending = next;
-        i += 1;
     }
     pending.left == 0
 }

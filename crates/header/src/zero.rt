@@ -7,11 +7,7 @@ use crate::field::zero;
 pub fn zero_words(hits: &mut [u32])
     ensures { hits.new ≡ zeros (length hits.old) }
 {
-    let mut i = 0;
-    while i < hits.len() {
-        hits[i] = 0;
-        i += 1;
-    }
+    hits.fill(0);
 }
 
 pub fn zero_both(hits: &mut [u32], text: &mut [u8])

@@ -1,3 +1,4 @@
 mod Searching
 pub mod SoFar
 pub mod Turns
+pub mod Stopping

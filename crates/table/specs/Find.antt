@@ -2,10 +2,9 @@
 use Rattle.std.specs.Prelude.{◌/◌, ◌&&◌, ◌≡◌}
 use Rattle.numbers.specs.Prelude.{ℕ, leb, Float, fin, pos, length, Bool, false, List}
 use Rattle.numbers.specs.{Float.{fixed_point}, Lists.{zeros, padded}, Reply.{Reply, given, refused, plain, demand, ◌>>=◌, ◌>>◌}}
-use Rattle.table.specs.{Hits.{width, words}, Merge.{merged}, Search.{searched}, declared.{find.{Found.{Found}, Matches.{Matches}}, hits.Hit.{Hit}, location.Location.{Location}}}
+use Rattle.table.specs.{Hits.{width, words}, Merge.{merged}, Search.{searched}, declared.{find.{Matches.{Matches}}, hits.Hit.{Hit}, location.Location.{Location}}}
 use Rattle.header.specs.declared.header.Head.{Head}
 use Rattle.border.specs.declared.place.Point.{Point}
-use Rattle.table.specs.declared.find.Found.TheVariants as F
 use Rattle.table.specs.Search as S
 
 -- 90 and 180 as floats
@@ -59,10 +58,6 @@ unfoldable pub found_with : List ℕ → Head → Location → Bool → ℕ → 
 found_with file head location asked n = finding_of n (matched_with file head location asked (n / width))
 
 -- ---- the code's answer, and the lent words
-abbrev pub told_found : Found → Reply Matches
-told_found (F.Matches m) = given m
-told_found (F.Refused why) = refused why
-
 pub record Matching (n : ℕ) (ws : List ℕ) (found : Matched) (m : Matches) : Type 0 where
   pub said : m ≡ record { count = length found.matches; mark = found.mark; least = found.least }
   pub kept : ws ≡ padded n (words found.matches)

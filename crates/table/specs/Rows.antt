@@ -1,10 +1,9 @@
 -- A table is a trace of rows, as a border is one of points: each entry with its place, its number and the sums up to it, and how the table ends.
 use Rattle.std.specs.Prelude.{if◌then◌else◌, ◌+◌, ◌-◌, ◌%◌, ◌^◌, ◌∷◌}
 use Rattle.numbers.specs.{Answer.{Answer, found, ◌>>=◌}, Point.{low32, half_of}, Prelude.{ℕ, zero, suc, ltb, List, []}, Varint.{Numeral, reading_of}}
-use Rattle.table.specs.{Table.{entry_by}, declared.{rows.{Cursor.{Cursor}, Reading.{Reading}, Row.{Row}}, table.Entry.{Entry}}}
+use Rattle.table.specs.{Table.{entry_by}, declared.{rows.{Cursor.{Cursor}, Row.{Row}}, table.Entry.{Entry}}}
 use Rattle.header.specs.declared.header.Head.{Head}
 use Rattle.numbers.specs.Answer as A
-use Rattle.table.specs.declared.rows.Reading.TheVariants as R
 
 -- the row of an entry: the metadata id moves by its signed number and the border's place by its number, modulo 2 ^ 32
 abbrev pub row_of : Cursor → Entry → Row
@@ -61,9 +60,3 @@ module _ (read : ℕ → Answer Numeral) where
 -- the rows of a file's table, which ends where the metadata begins
 unfoldable pub rows_in : List ℕ → Head → Rows
 rows_in file head = rows_from (reading_of head.strict file) head.sections.metadata (start_at head.sections.table)
-
--- ---- the code's answers
-abbrev pub told_reading : Reading → Answer Row
-told_reading (R.Row r) = found r
-told_reading R.Failed = A.failed
-told_reading (R.Refused n) = A.refused n

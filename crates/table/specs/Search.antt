@@ -4,12 +4,11 @@ use Rattle.numbers.specs.{Lists.{padded}, Prelude.{ℕ, eqb, ltb, length, Bool, 
 use Rattle.border.specs.{Encoding.{version_of, encoded_by}, declared.place.Point.{Point}}
 use Rattle.verdict.specs.{Verdict.{Judgement, reached, judged_at}, declared.step.Verdict.{Verdict, TheVariants.{NotInZone, InZone, InExcludedZone, OnBorderVertex, OnBorderSegment}}}
 use Rattle.table.specs.{Hits.{hit_of, words, Real}, Rest.{rest_mark}, Rows.{Rows, row, table_end, unreadable, rows_in}, Table.{is_above, holds}, declared.{hits.Hit.{Hit}, rows.Row.{Row}}}
-use Rattle.table.specs.declared.search.{Ended.{Ended}, Searched.{Searched}, Turn.{Turn, TheVariants.{On, Met, Stopped, Refused}}}
+use Rattle.table.specs.declared.search.{Ended.{Ended}, Turn.{Turn, TheVariants.{On, Met, Stopped, Refused}}}
 use Rattle.header.specs.declared.header.Head.{Head}
 use Rattle.verdict.specs.Verdict as J
 use Rattle.numbers.specs.Reply as R
 use Rattle.table.specs.Rows as T
-use Rattle.table.specs.declared.search.Searched.TheVariants as S
 
 -- a hit's kind, in `ZoneMatchKind` order; a location that is not in the zone is no hit
 abbrev pub kind_of : Verdict → ℕ
@@ -79,11 +78,7 @@ searched_rows file head fix asked room rows = seek (judge_in file head fix asked
 unfoldable pub searched : List ℕ → Head → Point → Bool → ℕ → Reply Found
 searched file head fix asked room = searched_rows file head fix asked room (rows_in file head)
 
--- ---- the code's answers
-abbrev pub told_searched : Searched → Reply Ended
-told_searched (S.Ended e) = given e
-told_searched (S.Refused why) = R.refused why
-
+-- ---- the code's answer
 -- the hits stand in so many words, zeros after them
 pub record Sought (n : ℕ) (ws : List ℕ) (found : Found) (ended : Ended) : Type 0 where
   pub said : ended ≡ record { count = length found.hits; mark = found.mark; least = found.least }

@@ -1,9 +1,8 @@
 -- The box table, as document 01 has it: an entry is six numbers, all read before any is tested.
-use Rattle.numbers.specs.{Answer.{Answer, found, failed, refused, ◌>>=◌}, Point.{signed_of}, Prelude.{ℕ, lt_z, Bool}, Varint.{Numeral}}
+use Rattle.numbers.specs.{Answer.{Answer, found, ◌>>=◌}, Point.{signed_of}, Prelude.{ℕ, lt_z, Bool}, Varint.{Numeral}}
 use Rattle.border.specs.{Box.{Box}, declared.place.Point.{Point}}
-use Rattle.table.specs.declared.table.{Bounds.{Bounds}, Entered.{Entered}, Entry.{Entry}}
+use Rattle.table.specs.declared.table.{Bounded.{Bounded}, Bounds.{Bounds}, Entry.{Entry}}
 use Rattle.border.specs.Box as B
-use Rattle.table.specs.declared.table.Entered.TheVariants as E
 
 -- lower latitude, lower longitude, upper latitude, upper longitude, each a signed number
 abbrev pub bounds_of : ℕ → ℕ → ℕ → ℕ → Bounds
@@ -23,6 +22,15 @@ module _ (read : ℕ → Answer Numeral) where
     metadata ← read place
     polygon ← read metadata.place
     found (record { bounds = bounds; metadata = metadata.value; polygon = polygon.value; next = polygon.place })
+
+  -- the four bounds of the box at a place, and where they end
+  unfoldable pub bounded_by : ℕ → Answer Bounded
+  bounded_by place = do
+    a ← read place
+    b ← read a.place
+    c ← read b.place
+    d ← read c.place
+    found (record { bounds = bounds_of a.value b.value c.value d.value; next = d.place })
 
   unfoldable pub entry_by : ℕ → Answer Entry
   unfolding steps_by
@@ -45,9 +53,3 @@ box_in bounds = record { low = record { lat = bounds.min_lat; lon = bounds.min_l
 -- the box holds the location
 abbrev pub holds : Bounds → Point → Bool
 holds bounds fix = B.holds (box_in bounds) fix
-
--- ---- the code's answers
-abbrev pub told_entered : Entered → Answer Entry
-told_entered (E.Entry entry) = found entry
-told_entered E.Failed = failed
-told_entered (E.Refused n) = refused n

@@ -1,12 +1,4 @@
-// Document 01's numbers, by name: the refusals of a search, end marks, kinds of hits. No other file of this crate has one of them bare.
-
-// Refusals. Those of a header are in `header`.
-pub const BAD_PRECISION: u8 = 16;
-
-pub const HITS_FULL: u8 = 17;
-
-// Among rows that are given as words: a number that has no record (request Q-11).
-pub const NO_RECORD: u8 = 36;
+// Document 01's numbers, by name: end marks and kinds of hits. No other file of this crate has one of them bare.
 
 // End marks.
 pub const WHOLE: u8 = 1;

@@ -1,17 +1,17 @@
 // What both lookups do in a file whose header was read: its precision is looked at, its table searched, and the hits merged.
 ghost use Rattle.std.specs.Prelude.{◌≡◌, ◌/◌, length};
 ghost use Rattle.numbers.specs.Lists.{zeros};
-ghost use Rattle.table.specs.{Hits.{width}, inner.Agreeing.{Agrees}, Find.{fix_of, is_precision, matched_with, found_with, finding, told_found, Matching}};
+ghost use Rattle.table.specs.{Hits.{width}, inner.Agreeing.{Agrees}, Find.{fix_of, is_precision, matched_with, found_with, finding, Matching}};
 
-use crate::codes::BAD_PRECISION;
 use crate::location::Location;
 use crate::merge::merge_front;
-use crate::search::{Searched, search};
+use crate::search::search;
 use border::place::{FixedLat, FixedLon, Point};
 use header::header::Head;
 use header::zero::zero_words;
+use numbers::fault::Fault;
 use numbers::float::fixed::to_fixed;
-use numbers::refusal::{Refusal, plain};
+use numbers::refusal::Refusal;
 
 // The number of matches, the end mark and the least squared distance.
 #[derive(Clone, Copy)]
@@ -19,12 +19,6 @@ pub struct Matches {
     pub count: usize,
     pub mark: u8,
     pub least: u64,
-}
-
-#[derive(Clone, Copy)]
-pub enum Found {
-    Matches(Matches),
-    Refused(Refusal),
 }
 
 pub fn fix_of(location: Location, precision: u8) -> Point
@@ -49,23 +43,20 @@ pub(crate) fn matches_in(
     location: Location,
     asked: bool,
     hits: &mut [u32],
-) -> Found
+) -> Result<Matches, Refusal>
     requires { hits.old ≡ zeros (length hits.old) }
     ensures { Agrees (Matching (length hits.old) hits.new)
-        (matched_with file.now head location asked (length hits.old / width)) (told_found result) }
+        (matched_with file.now head location asked (length hits.old / width)) result }
 {
     let preamble = head.preamble;
     let precision = preamble.precision;
     if !is_precision(precision) {
-        return Found::Refused(plain(BAD_PRECISION));
+        return Err(Fault::BadPrecision.alone());
     }
     let fix = fix_of(location, precision);
-    let ended = match search(file, head, fix, asked, hits) {
-        Searched::Ended(ended) => ended,
-        Searched::Refused(why) => return Found::Refused(why),
-    };
+    let ended = search(file, head, fix, asked, hits)?;
     let count = merge_front(hits, ended.count);
-    Found::Matches(Matches {
+    Ok(Matches {
         count,
         mark: ended.mark,
         least: ended.least,
@@ -73,16 +64,19 @@ pub(crate) fn matches_in(
 }
 
 // The matches at a location, in a file whose header was read; any header is taken.
-pub fn find_in(file: &[u8], head: Head, location: Location, asked: bool, hits: &mut [u32]) -> Found
-    ensures { finding (told_found result) hits.new ≡ found_with file.now head location asked (length hits.old) }
+pub fn find_in(
+    file: &[u8],
+    head: Head,
+    location: Location,
+    asked: bool,
+    hits: &mut [u32],
+) -> Result<Matches, Refusal>
+    ensures { finding result hits.new ≡ found_with file.now head location asked (length hits.old) }
 {
     zero_words(hits);
-    let matches = match matches_in(file, head, location, asked, hits) {
-        Found::Matches(matches) => matches,
-        Found::Refused(why) => {
-            zero_words(hits);
-            return Found::Refused(why);
-        }
-    };
-    Found::Matches(matches)
+    let found = matches_in(file, head, location, asked, hits);
+    if found.is_err() {
+        zero_words(hits);
+    }
+    found
 }

@@ -1,21 +1,22 @@
 // The search of rows that are given as words: records of seven words, and the numbers of those to look at. Every row is looked at: none stops the search.
 ghost use Rattle.std.specs.Prelude.{◌≡◌, ◌*◌, ◌/◌, ◌^◌, ◌<◌, length};
 ghost use Rattle.numbers.specs.Lists.{zeros};
-ghost use Rattle.table.specs.{Find.{finding, told_found, Matching}, GivenRows.{box_at, row_at, searched_listed, matched_listed, found_listed}, Hits.{width}};
-ghost use Rattle.table.specs.{inner.Agreeing.{Agrees}, Search.{row_turn, judge_in, told_searched, Sought}};
+ghost use Rattle.table.specs.{Find.{finding, Matching}, GivenRows.{box_at, row_at, searched_listed, matched_listed, found_listed}, Hits.{width}};
+ghost use Rattle.table.specs.{inner.Agreeing.{Agrees}, Search.{row_turn, judge_in, Sought}};
 
-use crate::codes::{BAD_PRECISION, HITS_FULL, NO_RECORD, WHOLE};
-use crate::find::{Found, Matches, fix_of, is_precision};
+use crate::codes::WHOLE;
+use crate::find::{Matches, fix_of, is_precision};
 use crate::hits::{put_hit, room};
 use crate::location::Location;
 use crate::merge::merge_front;
 use crate::rows::Row;
-use crate::search::{Searched, Turn, end_with, judge, judged};
+use crate::search::{Ended, Turn, end_with, judge, judged};
 use crate::table::{Bounds, bounds_of, holds};
 use border::place::Point;
 use header::header::Head;
 use header::zero::zero_words;
-use numbers::refusal::plain;
+use numbers::fault::Fault;
+use numbers::refusal::{Refusal, plain};
 
 // How many words a record has.
 pub(crate) const RECORD: usize = 7;
@@ -93,10 +94,10 @@ fn search_listed(
     records: &[u32],
     numbers: &[u32],
     hits: &mut [u32],
-) -> Searched
+) -> Result<Ended, Refusal>
     requires { hits.old ≡ zeros (length hits.old) }
     ensures { Agrees (Sought (length hits.old) hits.new)
-        (searched_listed file.now head fix asked records.now numbers.now (length hits.old / width)) (told_searched result) }
+        (searched_listed file.now head fix asked records.now numbers.now (length hits.old / width)) result }
 {
     let room = room(hits);
     let rows = records.len() / RECORD;
@@ -107,21 +108,21 @@ fn search_listed(
         let k = wide(numbers[i]);
         i += 1;
         if rows <= k {
-            return Searched::Refused(plain(NO_RECORD));
+            return Err(Fault::OtherIndex.alone());
         }
         let turn = on_record(file, head, fix, asked, records, k, least);
         match turn {
             Turn::On(closer) => least = closer,
             Turn::Met { hit, least: closer } => {
                 if room <= count {
-                    return Searched::Refused(plain(HITS_FULL));
+                    return Err(Fault::HitsFull.alone());
                 }
                 put_hit(hits, count, hit);
                 count += 1;
                 least = closer;
             }
             Turn::Stopped { mark, least: last } => return end_with(count, mark, last),
-            Turn::Refused(number) => return Searched::Refused(plain(number)),
+            Turn::Refused(number) => return Err(plain(number)),
         }
     }
     end_with(count, WHOLE, least)
@@ -136,23 +137,20 @@ fn matches_listed(
     records: &[u32],
     numbers: &[u32],
     hits: &mut [u32],
-) -> Found
+) -> Result<Matches, Refusal>
     requires { hits.old ≡ zeros (length hits.old) }
     ensures { Agrees (Matching (length hits.old) hits.new)
-        (matched_listed file.now head location asked records.now numbers.now (length hits.old / width)) (told_found result) }
+        (matched_listed file.now head location asked records.now numbers.now (length hits.old / width)) result }
 {
     let preamble = head.preamble;
     let precision = preamble.precision;
     if !is_precision(precision) {
-        return Found::Refused(plain(BAD_PRECISION));
+        return Err(Fault::BadPrecision.alone());
     }
     let fix = fix_of(location, precision);
-    let ended = match search_listed(file, head, fix, asked, records, numbers, hits) {
-        Searched::Ended(ended) => ended,
-        Searched::Refused(why) => return Found::Refused(why),
-    };
+    let ended = search_listed(file, head, fix, asked, records, numbers, hits)?;
     let count = merge_front(hits, ended.count);
-    Found::Matches(Matches {
+    Ok(Matches {
         count,
         mark: ended.mark,
         least: ended.least,
@@ -169,17 +167,14 @@ pub fn find_listed(
     records: &[u32],
     numbers: &[u32],
     hits: &mut [u32],
-) -> Found
-    ensures { finding (told_found result) hits.new
+) -> Result<Matches, Refusal>
+    ensures { finding result hits.new
         ≡ found_listed file.now head location asked records.now numbers.now (length hits.old) }
 {
     zero_words(hits);
-    let matches = match matches_listed(file, head, location, asked, records, numbers, hits) {
-        Found::Matches(matches) => matches,
-        Found::Refused(why) => {
-            zero_words(hits);
-            return Found::Refused(why);
-        }
-    };
-    Found::Matches(matches)
+    let found = matches_listed(file, head, location, asked, records, numbers, hits);
+    if found.is_err() {
+        zero_words(hits);
+    }
+    found
 }

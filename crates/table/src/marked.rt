@@ -2,24 +2,25 @@
 // not carry it.
 ghost use Rattle.std.specs.Prelude.{◌≡◌, ◌/◌, ◌^◌, ◌<◌, length};
 ghost use Rattle.numbers.specs.Lists.{zeros};
-ghost use Rattle.table.specs.{Find.{finding, told_found, Matching}, Hits.{width}, inner.Agreeing.{Agrees}, Search.{row_turn, told_searched, Sought}};
+ghost use Rattle.table.specs.{Find.{finding, Matching}, Hits.{width}, inner.Agreeing.{Agrees}, Search.{row_turn, Sought}};
 ghost use Rattle.table.specs.MarkedRows.{encoding_in, mark_for, judge_marked, judge_numbered, row_numbered, searched_marked, matched_marked, found_marked};
 ghost use Rattle.verdict.specs.Verdict.{told};
 
-use crate::codes::{BAD_PRECISION, HITS_FULL, NO_RECORD, WHOLE};
-use crate::find::{Found, Matches, fix_of, is_precision};
+use crate::codes::WHOLE;
+use crate::find::{Matches, fix_of, is_precision};
 use crate::hits::{put_hit, room};
 use crate::listed::{RECORD, box_at, row_at, wide};
 use crate::location::Location;
 use crate::merge::merge_front;
-use crate::search::{Searched, Turn, end_with, judge, judged, version_of};
+use crate::search::{Ended, Turn, end_with, judge, judged, version_of};
 use crate::table::holds;
 use border::place::Point;
 use border::reader::Encoding;
 use header::header::Head;
 use header::zero::zero_words;
 use marks::judge::judge_by;
-use numbers::refusal::plain;
+use numbers::fault::Fault;
+use numbers::refusal::{Refusal, plain};
 use verdict::judge::Judged;
 
 pub fn encoding_of(head: Head) -> Encoding
@@ -55,7 +56,7 @@ fn judge_marked(
     k: usize,
     polygon: u32,
     least: u64,
-) -> Judged
+) -> Result<Judged, Fault>
     ensures { told result ≡ judge_marked file.now head fix asked marks.now k polygon least }
 {
     let at = mark_for(marks, k);
@@ -99,10 +100,10 @@ fn search_marked(
     numbers: &[u32],
     marks: &[u32],
     hits: &mut [u32],
-) -> Searched
+) -> Result<Ended, Refusal>
     requires { hits.old ≡ zeros (length hits.old) }
     ensures { Agrees (Sought (length hits.old) hits.new)
-        (searched_marked file.now head fix asked records.now numbers.now marks.now (length hits.old / width)) (told_searched result) }
+        (searched_marked file.now head fix asked records.now numbers.now marks.now (length hits.old / width)) result }
 {
     let room = room(hits);
     let rows = records.len() / RECORD;
@@ -113,21 +114,21 @@ fn search_marked(
         let k = wide(numbers[i]);
         i += 1;
         if rows <= k {
-            return Searched::Refused(plain(NO_RECORD));
+            return Err(Fault::OtherIndex.alone());
         }
         let turn = on_marked(file, head, fix, asked, records, marks, k, least);
         match turn {
             Turn::On(closer) => least = closer,
             Turn::Met { hit, least: closer } => {
                 if room <= count {
-                    return Searched::Refused(plain(HITS_FULL));
+                    return Err(Fault::HitsFull.alone());
                 }
                 put_hit(hits, count, hit);
                 count += 1;
                 least = closer;
             }
             Turn::Stopped { mark, least: last } => return end_with(count, mark, last),
-            Turn::Refused(number) => return Searched::Refused(plain(number)),
+            Turn::Refused(number) => return Err(plain(number)),
         }
     }
     end_with(count, WHOLE, least)
@@ -143,23 +144,20 @@ fn matches_marked(
     numbers: &[u32],
     marks: &[u32],
     hits: &mut [u32],
-) -> Found
+) -> Result<Matches, Refusal>
     requires { hits.old ≡ zeros (length hits.old) }
     ensures { Agrees (Matching (length hits.old) hits.new)
-        (matched_marked file.now head location asked records.now numbers.now marks.now (length hits.old / width)) (told_found result) }
+        (matched_marked file.now head location asked records.now numbers.now marks.now (length hits.old / width)) result }
 {
     let preamble = head.preamble;
     let precision = preamble.precision;
     if !is_precision(precision) {
-        return Found::Refused(plain(BAD_PRECISION));
+        return Err(Fault::BadPrecision.alone());
     }
     let fix = fix_of(location, precision);
-    let ended = match search_marked(file, head, fix, asked, records, numbers, marks, hits) {
-        Searched::Ended(ended) => ended,
-        Searched::Refused(why) => return Found::Refused(why),
-    };
+    let ended = search_marked(file, head, fix, asked, records, numbers, marks, hits)?;
     let count = merge_front(hits, ended.count);
-    Found::Matches(Matches {
+    Ok(Matches {
         count,
         mark: ended.mark,
         least: ended.least,
@@ -177,17 +175,14 @@ pub fn find_marked(
     numbers: &[u32],
     marks: &[u32],
     hits: &mut [u32],
-) -> Found
-    ensures { finding (told_found result) hits.new
+) -> Result<Matches, Refusal>
+    ensures { finding result hits.new
         ≡ found_marked file.now head location asked records.now numbers.now marks.now (length hits.old) }
 {
     zero_words(hits);
-    let matches = match matches_marked(file, head, location, asked, records, numbers, marks, hits) {
-        Found::Matches(matches) => matches,
-        Found::Refused(why) => {
-            zero_words(hits);
-            return Found::Refused(why);
-        }
-    };
-    Found::Matches(matches)
+    let found = matches_marked(file, head, location, asked, records, numbers, marks, hits);
+    if found.is_err() {
+        zero_words(hits);
+    }
+    found
 }

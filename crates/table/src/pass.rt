@@ -1,11 +1,11 @@
 // The rows that a search passes over: plainly read, not above the location, and not holding it. A reader of the search may skip this
 // file: it only hurries. Any other row is left to the search.
 ghost use mathlib.Core.{Path.{◌≡◌}, Bool.{true, false}};
-ghost use Rattle.std.specs.Prelude.{◌+◌, ◌<◌, ◌≤◌, length};
+ghost use Rattle.std.specs.Prelude.{Some, ◌+◌, ◌<◌, ◌≤◌, length};
 ghost use Rattle.table.specs.{inner.Passing.{Shortly, Paired, Lons, MissedAt, AboveAt, Passing, PassedOver, Skipping, SkippedOver}, Table.{holds}};
 
 use crate::rows::{Cursor, after, row_of};
-use crate::table::{Bounds, Entry, bounds_of, is_above, lat_below, lon_between};
+use crate::table::{Bounded, Bounds, Entry, bounds_of, is_above, lat_below, lon_between};
 use crate::usual::{bounds_at, is_over, is_under};
 use border::place::{FixedLon, Point};
 use numbers::point::signed;
@@ -17,55 +17,20 @@ const LONGEST: usize = 18;
 // Where the steps of an entry stand, behind four bounds of three bytes each.
 const STEPS: usize = 12;
 
-// A number of at most three bytes.
-#[derive(Clone, Copy)]
-pub(crate) enum Short {
-    Is(Number),
-    Other,
-}
-
-// Two such numbers, one behind the other.
-#[derive(Clone, Copy)]
-pub(crate) enum Pair {
-    Are(Number, Number),
-    Other,
-}
-
-// A box by its bounds, and where they end.
-#[derive(Clone, Copy)]
-pub(crate) enum Bounded {
-    By { bounds: Bounds, next: usize },
-    Other,
-}
-
-// What a row does to a search that only passes over.
-#[derive(Clone, Copy)]
-pub(crate) enum Pass {
-    On(Cursor),
-    Stop,
-}
-
-// What an entry does to the rest of a table that is only skipped.
-#[derive(Clone, Copy)]
-pub(crate) enum Skip {
-    On(usize),
-    Stop,
-}
-
 fn wide(byte: u8) -> u64
     ensures { (result ≡ byte) × (result < 256) }
 {
     byte as u64
 }
 
-fn is(value: u64, place: usize) -> Short
-    ensures { result ≡ Short.Is (record { value = value; place = place }) }
+fn is(value: u64, place: usize) -> Option<Number>
+    ensures { result ≡ Some (record { value = value; place = place }) }
 {
-    Short::Is(Number { value, place })
+    Some(Number { value, place })
 }
 
-// For this file alone, where the table is not near the file's end.
-fn short_at(file: &[u8], place: usize) -> Short
+// A number of at most three bytes. For this file alone, where the table is not near the file's end.
+fn short_at(file: &[u8], place: usize) -> Option<Number>
     requires { place + 2 < length file.now }
     ensures { Shortly file.now place result }
 {
@@ -81,22 +46,17 @@ fn short_at(file: &[u8], place: usize) -> Short
     if high < 128 {
         return is(low % 128 + 128 * (middle % 128 + 128 * high), place + 3);
     }
-    Short::Other
+    None
 }
 
-fn pair_at(file: &[u8], place: usize) -> Pair
+// Two such numbers, one behind the other.
+fn pair_at(file: &[u8], place: usize) -> Option<(Number, Number)>
     requires { place + 5 < length file.now }
     ensures { Paired file.now place result }
 {
-    let one = short_at(file, place);
-    let Short::Is(first) = one else {
-        return Pair::Other;
-    };
-    let other = short_at(file, first.place);
-    let Short::Is(second) = other else {
-        return Pair::Other;
-    };
-    Pair::Are(first, second)
+    let first = short_at(file, place)?;
+    let second = short_at(file, first.place)?;
+    Some((first, second))
 }
 
 // Whether a box that is not above the location may hold it. Its longitudes stand at two places and are worked out only where its upper latitude does not decide.
@@ -107,12 +67,10 @@ fn may_hold(file: &[u8], bounds: Bounds, fix: Point, west: usize, east: usize) -
     if lat_below(bounds.max_lat, fix.lat) {
         return false;
     }
-    let first = short_at(file, west);
-    let Short::Is(low) = first else {
+    let Some(low) = short_at(file, west) else {
         return true;
     };
-    let second = short_at(file, east);
-    let Short::Is(high) = second else {
+    let Some(high) = short_at(file, east) else {
         return true;
     };
     lon_between(
@@ -123,106 +81,81 @@ fn may_hold(file: &[u8], bounds: Bounds, fix: Point, west: usize, east: usize) -
 }
 
 // The box at a place, if it is neither above the location nor holds it.
-fn missed_at(file: &[u8], fix: Point, place: usize) -> Bounded
+fn missed_at(file: &[u8], fix: Point, place: usize) -> Option<Bounded>
     requires { place + 17 < length file.now }
     ensures { MissedAt file.now fix place result }
 {
     if is_under(file, place, fix) {
         let bounds = bounds_at(file, place);
-        return Bounded::By {
+        return Some(Bounded {
             bounds,
             next: place + STEPS,
-        };
+        });
     }
-    let lower = pair_at(file, place);
-    let Pair::Are(south, west) = lower else {
-        return Bounded::Other;
-    };
-    let upper = pair_at(file, west.place);
-    let Pair::Are(north, east) = upper else {
-        return Bounded::Other;
-    };
+    let (south, west) = pair_at(file, place)?;
+    let (north, east) = pair_at(file, west.place)?;
     let bounds = bounds_of(south.value, west.value, north.value, east.value);
     if is_above(bounds, fix) {
-        return Bounded::Other;
+        return None;
     }
     if may_hold(file, bounds, fix, south.place, north.place) {
-        return Bounded::Other;
+        return None;
     }
-    Bounded::By {
+    Some(Bounded {
         bounds,
         next: east.place,
-    }
+    })
 }
 
 // The box at a place, if it is above the location.
-fn above_at(file: &[u8], fix: Point, place: usize) -> Bounded
+fn above_at(file: &[u8], fix: Point, place: usize) -> Option<Bounded>
     requires { place + 17 < length file.now }
     ensures { AboveAt file.now fix place result }
 {
     if is_over(file, place, fix) {
         let bounds = bounds_at(file, place);
-        return Bounded::By {
+        return Some(Bounded {
             bounds,
             next: place + STEPS,
-        };
+        });
     }
-    let lower = pair_at(file, place);
-    let Pair::Are(south, west) = lower else {
-        return Bounded::Other;
-    };
-    let upper = pair_at(file, west.place);
-    let Pair::Are(north, east) = upper else {
-        return Bounded::Other;
-    };
+    let (south, west) = pair_at(file, place)?;
+    let (north, east) = pair_at(file, west.place)?;
     let bounds = bounds_of(south.value, west.value, north.value, east.value);
     if is_above(bounds, fix) {
-        return Bounded::By {
+        return Some(Bounded {
             bounds,
             next: east.place,
-        };
+        });
     }
-    Bounded::Other
+    None
 }
 
 // The turn of the row at a cursor.
-fn pass_row(file: &[u8], fix: Point, at: Cursor) -> Pass
+fn pass_row(file: &[u8], fix: Point, at: Cursor) -> Option<Cursor>
     requires { at.place + 17 < length file.now }
     ensures { Passing file.now fix at result }
 {
-    let missed = missed_at(file, fix, at.place);
-    let Bounded::By { bounds, next } = missed else {
-        return Pass::Stop;
-    };
-    let steps = pair_at(file, next);
-    let Pair::Are(metadata, polygon) = steps else {
-        return Pass::Stop;
-    };
+    let missed = missed_at(file, fix, at.place)?;
+    let (metadata, polygon) = pair_at(file, missed.next)?;
     let entry = Entry {
-        bounds,
+        bounds: missed.bounds,
         metadata: metadata.value,
         polygon: polygon.value,
         next: polygon.place,
     };
     let row = row_of(at, entry);
-    Pass::On(after(row))
+    Some(after(row))
 }
 
 // The same where the search has stopped: where the entry at a place ends, if it is above the location.
-fn skip_row(file: &[u8], fix: Point, place: usize) -> Skip
+fn skip_row(file: &[u8], fix: Point, place: usize) -> Option<usize>
     requires { place + 17 < length file.now }
     ensures { Skipping file.now fix place result }
 {
-    let above = above_at(file, fix, place);
-    let Bounded::By { bounds: _, next } = above else {
-        return Skip::Stop;
-    };
-    let steps = pair_at(file, next);
-    let Pair::Are(_, polygon) = steps else {
-        return Skip::Stop;
-    };
-    let end = polygon.place;
-    Skip::On(end)
+    let above = above_at(file, fix, place)?;
+    let (_, polygon) = pair_at(file, above.next)?;
+    Some(polygon.place)
 }
 
 fn lesser(a: usize, b: usize) -> usize
@@ -241,8 +174,7 @@ pub(crate) fn pass_over(file: &[u8], end: usize, fix: Point, start: Cursor) -> C
     let stop = lesser(end, file.len() - LONGEST + 1);
     let mut at = start;
     while at.place < stop {
-        let passed = pass_row(file, fix, at);
-        let Pass::On(next) = passed else {
+        let Some(next) = pass_row(file, fix, at) else {
             return at;
         };
         at = next;
@@ -260,8 +192,7 @@ pub(crate) fn skip_over(file: &[u8], end: usize, fix: Point, start: usize) -> us
     let stop = lesser(end, file.len() - LONGEST + 1);
     let mut place = start;
     while place < stop {
-        let skipped = skip_row(file, fix, place);
-        let Skip::On(next) = skipped else {
+        let Some(next) = skip_row(file, fix, place) else {
             return place;
         };
         if end < next {

@@ -5,10 +5,10 @@ ghost use Rattle.table.specs.{Rows.{rows_from, start_at}, Rest.{rest_mark, five_
 
 use crate::codes::{OUT_OF_ORDER, UNREADABLE, WHOLE};
 use crate::pass::skip_over;
-use crate::table::{bounds_of, holds, lat_below};
+use crate::table::{bounded_at, holds, lat_below};
 use border::place::{FixedLat, Point};
 use numbers::point::signed;
-use numbers::varint::{NOWHERE, Varint, number_end, read_number};
+use numbers::varint::{NOWHERE, number_end, read_number};
 
 // Where the fifth of five numbers ends, or NOWHERE.
 fn past_five(file: &[u8], strict: bool, place: usize) -> usize
@@ -31,26 +31,10 @@ fn past_five(file: &[u8], strict: bool, place: usize) -> usize
 fn held_at(file: &[u8], strict: bool, place: usize, fix: Point) -> bool
     ensures { result ≡ is_held (held_by (reading_of strict file.now) place fix) }
 {
-    let first = read_number(file, place, strict);
-    let Varint::Number(min_lat) = first else {
-        return false;
-    };
-    let second = read_number(file, min_lat.place, strict);
-    let Varint::Number(min_lon) = second else {
-        return false;
-    };
-    let third = read_number(file, min_lon.place, strict);
-    let Varint::Number(max_lat) = third else {
-        return false;
-    };
-    let fourth = read_number(file, max_lat.place, strict);
-    let Varint::Number(max_lon) = fourth else {
-        return false;
-    };
-    holds(
-        bounds_of(min_lat.value, min_lon.value, max_lat.value, max_lon.value),
-        fix,
-    )
+    match bounded_at(file, place, strict) {
+        Ok(bounded) => holds(bounded.bounds, fix),
+        Err(_) => false,
+    }
 }
 
 // The mark of a search that stopped at a row which ends at a place. In a table that is in order each row is above the location, so that
@@ -64,8 +48,7 @@ pub(crate) fn rest_mark(file: &[u8], strict: bool, end: usize, fix: Point, from:
     }
     let mut place = skip_over(file, end, fix, from);
     while place < end {
-        let first = read_number(file, place, strict);
-        let Varint::Number(min_lat) = first else {
+        let Ok(min_lat) = read_number(file, place, strict) else {
             return UNREADABLE;
         };
         let next = past_five(file, strict, min_lat.place);

@@ -1,9 +1,10 @@
 // The rows of the box table: each entry with its place, its number and the sums of metadata id and border place up to it.
 ghost use Rattle.std.specs.Prelude.{◌≡◌, ◌+◌, ◌%◌, ◌^◌};
-ghost use Rattle.numbers.specs.{Point.{low32, half_of}, Varint.{reading_of}};
-ghost use Rattle.table.specs.Rows.{row_of, after, start_at, row_by, told_reading};
+ghost use Rattle.numbers.specs.{Point.{low32, half_of}, Varint.{told, reading_of}};
+ghost use Rattle.table.specs.Rows.{row_of, after, start_at, row_by};
 
-use crate::table::{Bounds, Entered, Entry, entry_at};
+use crate::table::{Bounds, Entry, entry_at};
+use numbers::varint::Stop;
 use std::num::{wrapping_add_u32, wrapping_sub_u32};
 
 // Where the table is read on: the next entry's place and number, and the sums before it.
@@ -26,13 +27,6 @@ pub struct Row {
     pub bounds: Bounds,
     // Where the next entry begins.
     pub next: usize,
-}
-
-#[derive(Clone, Copy)]
-pub enum Reading {
-    Row(Row),
-    Failed,
-    Refused(u8),
 }
 
 // The metadata id after a signed step, modulo 2^32: half the number, back if it is odd.
@@ -87,13 +81,9 @@ pub fn start_at(place: usize) -> Cursor
 }
 
 // The row at a cursor.
-pub fn row_at(file: &[u8], at: Cursor, strict: bool) -> Reading
-    ensures { told_reading result ≡ row_by (reading_of strict file.now) at }
+pub fn row_at(file: &[u8], at: Cursor, strict: bool) -> Result<Row, Stop>
+    ensures { told result ≡ row_by (reading_of strict file.now) at }
 {
-    let entered = entry_at(file, at.place, strict);
-    match entered {
-        Entered::Entry(entry) => Reading::Row(row_of(at, entry)),
-        Entered::Failed => Reading::Failed,
-        Entered::Refused(number) => Reading::Refused(number),
-    }
+    let entry = entry_at(file, at.place, strict)?;
+    Ok(row_of(at, entry))
 }

@@ -1,21 +1,20 @@
 // The search: row by row from the table's start, until the table ends, a row stops it, or a fault is met.
-ghost use Rattle.std.specs.Prelude.{◌≡◌, ◌/◌, length};
+ghost use Rattle.std.specs.Prelude.{◌≡◌, ◌/◌, length, Ok};
 ghost use Rattle.border.specs.Encoding.{version_of};
 ghost use Rattle.verdict.specs.Verdict.{told};
 ghost use Rattle.numbers.specs.Lists.{zeros};
-ghost use Rattle.table.specs.{Hits.{width}, inner.Agreeing.{Agrees}, Search.{kind_of, judged_turn, row_turn, judge_in, searched, told_searched, Sought}};
+ghost use Rattle.table.specs.{Hits.{width}, inner.Agreeing.{Agrees}, Search.{kind_of, judged_turn, row_turn, judge_in, searched, Sought}};
 
-use crate::codes::{
-    BROKEN, EXCLUDED, HITS_FULL, IN_ZONE, NO_KIND, ON_SEGMENT, ON_VERTEX, UNREADABLE, WHOLE,
-};
+use crate::codes::{BROKEN, EXCLUDED, IN_ZONE, NO_KIND, ON_SEGMENT, ON_VERTEX, UNREADABLE, WHOLE};
 use crate::hits::{Hit, put_hit, room};
 use crate::pass::pass_over;
 use crate::rest::rest_mark;
 use crate::rows::{Row, after, row_of, start_at};
-use crate::table::{Entered, entry_at, holds, is_above};
+use crate::table::{entry_at, holds, is_above};
 use border::place::Point;
 use border::reader::{Encoding, Version};
 use header::header::Head;
+use numbers::fault::Fault;
 use numbers::refusal::{Refusal, plain};
 use std::num::wrapping_add_u32;
 use verdict::judge::{Judged, point_in_polygon};
@@ -36,12 +35,6 @@ pub struct Ended {
     pub count: usize,
     pub mark: u8,
     pub least: u64,
-}
-
-#[derive(Clone, Copy)]
-pub enum Searched {
-    Ended(Ended),
-    Refused(Refusal),
 }
 
 fn kind_of(verdict: Verdict) -> u32
@@ -67,29 +60,31 @@ pub(crate) fn version_of(byte: u8) -> Version
 }
 
 // The turn of a row whose border was judged.
-pub(crate) fn judged(row: Row, judgement: Judged) -> Turn
+pub(crate) fn judged(row: Row, judgement: Result<Judged, Fault>) -> Turn
     ensures { result ≡ judged_turn row (told judgement) }
 {
-    match judgement {
-        Judged::Answered { verdict, least } => {
-            let kind = kind_of(verdict);
-            if kind == NO_KIND {
-                return Turn::On(least);
-            }
-            let hit = Hit {
-                polygon: row.id,
-                metadata: row.metadata,
-                kind,
-                place: (row.place % 0x1_0000_0000) as u32,
-            };
-            Turn::Met { hit, least }
-        }
-        Judged::Failed { least } => Turn::Stopped {
+    let judged = match judgement {
+        Ok(judged) => judged,
+        Err(fault) => return Turn::Refused(fault.number()),
+    };
+    let least = judged.least;
+    let Some(verdict) = judged.verdict else {
+        return Turn::Stopped {
             mark: BROKEN,
             least,
-        },
-        Judged::Refused(number) => Turn::Refused(number),
+        };
+    };
+    let kind = kind_of(verdict);
+    if kind == NO_KIND {
+        return Turn::On(least);
     }
+    let hit = Hit {
+        polygon: row.id,
+        metadata: row.metadata,
+        kind,
+        place: (row.place % 0x1_0000_0000) as u32,
+    };
+    Turn::Met { hit, least }
 }
 
 // The judging of the border at a place of the data.
@@ -100,7 +95,7 @@ pub(crate) fn judge(
     asked: bool,
     polygon: u32,
     least: u64,
-) -> Judged
+) -> Result<Judged, Fault>
     ensures { told result ≡ judge_in file.now head fix asked polygon least }
 {
     let preamble = head.preamble;
@@ -125,17 +120,23 @@ pub fn on_row(file: &[u8], head: Head, fix: Point, asked: bool, row: Row, least:
     Turn::On(least)
 }
 
-pub(crate) fn end_with(count: usize, mark: u8, least: u64) -> Searched
-    ensures { result ≡ Searched.Ended (record { count = count; mark = mark; least = least }) }
+pub(crate) fn end_with(count: usize, mark: u8, least: u64) -> Result<Ended, Refusal>
+    ensures { result ≡ Ok (record { count = count; mark = mark; least = least }) }
 {
-    Searched::Ended(Ended { count, mark, least })
+    Ok(Ended { count, mark, least })
 }
 
 // The hits go into the lent words, in the order in which they are met.
-pub(crate) fn search(file: &[u8], head: Head, fix: Point, asked: bool, hits: &mut [u32]) -> Searched
+pub(crate) fn search(
+    file: &[u8],
+    head: Head,
+    fix: Point,
+    asked: bool,
+    hits: &mut [u32],
+) -> Result<Ended, Refusal>
     requires { hits.old ≡ zeros (length hits.old) }
     ensures { Agrees (Sought (length hits.old) hits.new)
-        (searched file.now head fix asked (length hits.old / width)) (told_searched result) }
+        (searched file.now head fix asked (length hits.old / width)) result }
 {
     let sections = head.sections;
     let end = sections.metadata as usize;
@@ -146,9 +147,13 @@ pub(crate) fn search(file: &[u8], head: Head, fix: Point, asked: bool, hits: &mu
     let mut at = pass_over(file, end, fix, start);
     while at.place < end {
         let entry = match entry_at(file, at.place, head.strict) {
-            Entered::Entry(entry) => entry,
-            Entered::Failed => return end_with(count, UNREADABLE, least),
-            Entered::Refused(number) => return Searched::Refused(plain(number)),
+            Ok(entry) => entry,
+            Err(stop) => {
+                let Some(why) = stop.refusal() else {
+                    return end_with(count, UNREADABLE, least);
+                };
+                return Err(why);
+            }
         };
         if is_above(entry.bounds, fix) {
             return end_with(
@@ -165,14 +170,14 @@ pub(crate) fn search(file: &[u8], head: Head, fix: Point, asked: bool, hits: &mu
             Turn::On(closer) => least = closer,
             Turn::Met { hit, least: closer } => {
                 if room <= count {
-                    return Searched::Refused(plain(HITS_FULL));
+                    return Err(Fault::HitsFull.alone());
                 }
                 put_hit(hits, count, hit);
                 count += 1;
                 least = closer;
             }
             Turn::Stopped { mark, least: last } => return end_with(count, mark, last),
-            Turn::Refused(number) => return Searched::Refused(plain(number)),
+            Turn::Refused(number) => return Err(plain(number)),
         }
     }
     end_with(count, WHOLE, least)

@@ -1,13 +1,12 @@
 // The box table: each entry's bounds, and the steps of its metadata id and of its border's place.
 ghost use Rattle.std.specs.Prelude.{◌≡◌, int_le, int_lt};
-ghost use Rattle.numbers.specs.Varint.{reading_of};
-ghost use Rattle.table.specs.Table.{told_entered, entry_by, steps_by, bounds_of, is_above, holds};
+ghost use Rattle.numbers.specs.Varint.{told, reading_of};
+ghost use Rattle.table.specs.Table.{bounded_by, entry_by, steps_by, bounds_of, is_above, holds};
 ghost use Rattle.border.specs.Box.{between};
-ghost use Rattle.header.specs.Text.{stopped_of};
 
 use border::place::{FixedLat, FixedLon, Point};
 use numbers::point::signed;
-use numbers::varint::{Varint, read_number};
+use numbers::varint::{Stop, read_number};
 
 #[derive(Clone, Copy)]
 pub struct Bounds {
@@ -15,6 +14,13 @@ pub struct Bounds {
     pub min_lon: FixedLon,
     pub max_lat: FixedLat,
     pub max_lon: FixedLon,
+}
+
+// A box, and where its bounds end.
+#[derive(Clone, Copy)]
+pub(crate) struct Bounded {
+    pub(crate) bounds: Bounds,
+    pub(crate) next: usize,
 }
 
 #[derive(Clone, Copy)]
@@ -27,37 +33,13 @@ pub struct Entry {
     pub next: usize,
 }
 
-#[derive(Clone, Copy)]
-pub enum Entered {
-    Entry(Entry),
-    Failed,
-    Refused(u8),
-}
-
-// A number that could not be read ends its entry.
-fn stopped(answer: Varint) -> Entered
-    ensures { told_entered result ≡ stopped_of answer }
-{
-    match answer {
-        Varint::Number(_) => Entered::Failed,
-        Varint::Failed => Entered::Failed,
-        Varint::Refused(number) => Entered::Refused(number),
-    }
-}
-
 // The entry's last two numbers, after its bounds.
-fn steps_at(file: &[u8], strict: bool, place: usize, bounds: Bounds) -> Entered
-    ensures { told_entered result ≡ steps_by (reading_of strict file.now) place bounds }
+fn steps_at(file: &[u8], strict: bool, place: usize, bounds: Bounds) -> Result<Entry, Stop>
+    ensures { told result ≡ steps_by (reading_of strict file.now) place bounds }
 {
-    let fifth = read_number(file, place, strict);
-    let Varint::Number(metadata) = fifth else {
-        return stopped(fifth);
-    };
-    let sixth = read_number(file, metadata.place, strict);
-    let Varint::Number(polygon) = sixth else {
-        return stopped(sixth);
-    };
-    Entered::Entry(Entry {
+    let metadata = read_number(file, place, strict)?;
+    let polygon = read_number(file, metadata.place, strict)?;
+    Ok(Entry {
         bounds,
         metadata: metadata.value,
         polygon: polygon.value,
@@ -65,28 +47,27 @@ fn steps_at(file: &[u8], strict: bool, place: usize, bounds: Bounds) -> Entered
     })
 }
 
-// All six numbers are read before any is tested.
-pub fn entry_at(file: &[u8], place: usize, strict: bool) -> Entered
-    ensures { told_entered result ≡ entry_by (reading_of strict file.now) place }
+// The four bounds of the box at a place.
+pub(crate) fn bounded_at(file: &[u8], place: usize, strict: bool) -> Result<Bounded, Stop>
+    ensures { told result ≡ bounded_by (reading_of strict file.now) place }
 {
-    let first = read_number(file, place, strict);
-    let Varint::Number(min_lat) = first else {
-        return stopped(first);
-    };
-    let second = read_number(file, min_lat.place, strict);
-    let Varint::Number(min_lon) = second else {
-        return stopped(second);
-    };
-    let third = read_number(file, min_lon.place, strict);
-    let Varint::Number(max_lat) = third else {
-        return stopped(third);
-    };
-    let fourth = read_number(file, max_lat.place, strict);
-    let Varint::Number(max_lon) = fourth else {
-        return stopped(fourth);
-    };
+    let min_lat = read_number(file, place, strict)?;
+    let min_lon = read_number(file, min_lat.place, strict)?;
+    let max_lat = read_number(file, min_lon.place, strict)?;
+    let max_lon = read_number(file, max_lat.place, strict)?;
     let bounds = bounds_of(min_lat.value, min_lon.value, max_lat.value, max_lon.value);
-    steps_at(file, strict, max_lon.place, bounds)
+    Ok(Bounded {
+        bounds,
+        next: max_lon.place,
+    })
+}
+
+// All six numbers are read before any is tested.
+pub fn entry_at(file: &[u8], place: usize, strict: bool) -> Result<Entry, Stop>
+    ensures { told result ≡ entry_by (reading_of strict file.now) place }
+{
+    let bounded = bounded_at(file, place, strict)?;
+    steps_at(file, strict, bounded.next, bounded.bounds)
 }
 
 pub fn bounds_of(min_lat: u64, min_lon: u64, max_lat: u64, max_lon: u64) -> Bounds

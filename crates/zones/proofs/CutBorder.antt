@@ -1,7 +1,8 @@
 -- A border (request Q-6): judged strictly it is refused 31 exactly where the judge of the plain one meets a number that the file's end cuts. Assumes nothing.
 use Rattle.numbers.{proofs.Prelude.{ℕ, zero, suc, eqb, pos, Bool, true, false, ◌||◌, List}, specs.{Answer.{Answer, found}, Varint.{reading_of}}}
 use Rattle.verdict.specs.{Step.{Step}, Verdict.{Judgement, Last, none, after, passing, then_on, judge, judged_at}, declared.step.Tally.{Tally}}
-use Rattle.border.specs.{Encoding.{encoded_by}, Reader.{Turn, gives, again, ends, onward, plain_pair, plain_turn, reference, marker, packed_turn, turn_of}}
+use Rattle.border.specs.declared.reader.Turn.{Turn, TheVariants.{Gives as gives, Again as again, Ended as ends}}
+use Rattle.border.specs.{Encoding.{encoded_by}, Reader.{onward, plain_pair, plain_turn, reference, marker, packed_turn, turn_of}}
 use Rattle.border.specs.{Trace.{Given, reaches, ended, round_again, turns, next_within, next_point, trace_then, trace_within, trace_of, border_at}, declared.{place.Point.{Point}, reader.Reader.{Reader}}}
 use Rattle.border.specs.declared.reader.{Run.{Run, TheVariants.{Idle, Forward, Backward}}, Version.{Version, TheVariants.{Plain, Packed}}}
 use Rattle.zones.proofs.Cuts.{Cuts, cut, same, then_cuts, last_cuts, either_cuts, reading_cuts}

@@ -109,7 +109,7 @@ module _ (file : List ℕ) where
   head_cuts = then_last (contents_by true file) (contents_by false file) _ _ contents_cuts (λ a a' e. ap (λ (c : Contents). given c.head) e)
 
   -- ---- opening, with so much room for text
-  by_test : (test : Bool) (a b : Contents) → given (bare a) ≡ given (bare b) → shown bare (demand test (plain 18) >> given a) ≡ shown bare (demand test (plain 18) >> given b)
+  by_test : (test : Bool) (a b : Contents) → ◌≡◌ {A = Reply _} (given (bare a)) (given (bare b)) → shown bare (demand test (plain 18) >> given a) ≡ shown bare (demand test (plain 18) >> given b)
   by_test true a b e = e
   by_test false a b e = refl
 

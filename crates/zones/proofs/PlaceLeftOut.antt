@@ -2,7 +2,7 @@
 -- left out. Assumes nothing.
 use Rattle.numbers.proofs.Prelude.{ℕ, zero, suc, ◌-◌, ◌*◌, ◌/◌, eqb, ltb, length, length-map, Bool, true, false, List, [], ◌∷◌, ◌++◌, map, ◌≡◌, refl, ap, ◌∙◌, arith}
 use Rattle.numbers.{proofs.Replies.{after}, specs.{Answer.{if◌then◌else◌}, Lists.{zeros, padded}, Reply.{Reply, given, plain, demand, ◌>>=◌, ◌>>◌}}}
-use mathlib.Core.Option.{Option}
+use Rattle.std.specs.Prelude.{Option}
 use Rattle.verdict.specs.Verdict.{Judgement, reached}
 use Rattle.border.specs.declared.place.Point.{Point}
 use Rattle.header.{proofs.Unless.{shown}, specs.{Header.{head_of}, declared.header.Head.{Head}}}

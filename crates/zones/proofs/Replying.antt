@@ -1,5 +1,6 @@
 -- An entry point's reply with the buffers: zero first, filled, and zero again where it is a refusal; and what it says of the reply alone. Assumes nothing.
-use Rattle.numbers.{proofs.Prelude.{ℕ, List, ◌≡◌, ap, subst, ◌∙◌, arith}, specs.{Lists.{zeros}, Reply.{Reply, given, refused}, declared.refusal.Refusal.{Refusal}}}
+use Rattle.std.specs.Prelude.{is_err}
+use Rattle.numbers.{proofs.{Prelude.{ℕ, List, true, false, ◌≡◌, refl, sym, ap, subst, ◌∙◌, arith}, Tests.{differ}}, specs.{Lists.{zeros}, Reply.{Reply, given, refused}}}
 use Rattle.table.{proofs.Agreeing.{gave, refused_so}, specs.inner.Agreeing.{Agrees}}
 use Rattle.zones.specs.Lent.{Outcome, Replied, replied, replied_of, Filled}
 
@@ -9,12 +10,19 @@ module _ {A : Type 0} (whole : ℕ → ℕ → Reply (Outcome A)) (reply : Reply
   settled : Agrees (Filled n room hs ts) (whole n room) reply
   settled = subst (λ (k : ℕ). Agrees (Filled n k hs ts) (whole n k) reply) t (subst (λ (k : ℕ). Agrees (Filled k room' hs ts) (whole k room') reply) h agrees)
 
-  pub given_reply : {answer : A} → reply ≡ given answer → replied (given answer) hs ts ≡ replied_of n room (whole n room)
-  given_reply e = let g = gave (Filled n room hs ts) (whole n room) settled e in g.fits ∙ ap (replied_of n room) g.is
+  -- as they are, and with zeros where it refused
+  pub given_reply : is_err reply ≡ false → replied reply hs ts ≡ replied_of n room (whole n room)
+  given_reply = go reply settled where
+    go : (r : Reply A) → Agrees (Filled n room hs ts) (whole n room) r → is_err r ≡ false → replied r hs ts ≡ replied_of n room (whole n room)
+    go (given answer) a e = let g = gave (Filled n room hs ts) (whole n room) a refl in g.fits ∙ ap (replied_of n room) g.is
+    go (refused why) a e = differ (sym e)
 
-  pub refused_reply : {why : Refusal} {hs' ts' : List ℕ} → reply ≡ refused why → hs' ≡ zeros n → ts' ≡ zeros room → replied (refused why) hs' ts' ≡ replied_of n room (whole n room)
+  pub refused_reply : {hs' ts' : List ℕ} → hs' ≡ zeros n → ts' ≡ zeros room → is_err reply ≡ true → replied reply hs' ts' ≡ replied_of n room (whole n room)
   unfolding replied_of
-  refused_reply {why} e zh zt = (λ i. replied (refused why) (zh i) (zt i)) ∙ ap (replied_of n room) (refused_so (Filled n room hs ts) (whole n room) settled e)
+  refused_reply {hs'} {ts'} zh zt = go reply settled where
+    go : (r : Reply A) → Agrees (Filled n room hs ts) (whole n room) r → is_err r ≡ true → replied r hs' ts' ≡ replied_of n room (whole n room)
+    go (given answer) a e = differ e
+    go (refused why) a e = (λ i. replied (refused why) (zh i) (zt i)) ∙ ap (replied_of n room) (refused_so (Filled n room hs ts) (whole n room) a refl)
 
 -- ---- read back: what a reply with its buffers says of the reply alone
 module _ {A : Type 0} (n room : ℕ) where

@@ -3,7 +3,8 @@ use Rattle.std.specs.Prelude.{◌+◌, ◌-◌, ◌/◌, ◌%◌, ◌^◌, ◌�
 use Rattle.numbers.specs.Prelude.{ℕ, zero, suc, eqb, ltb, pos, length, get_or, Bool, true, false, List, []}
 use Rattle.numbers.specs.{Answer.{Answer, found, failed, refused}, Reply.{Reply, given}, Varint.{Numeral, is_complete, reading_of}}
 use Rattle.verdict.specs.{Step.{Step}, Verdict.{Last, none, after, passing}, declared.step.Tally.{Tally}}
-use Rattle.border.specs.{Encoding.{version_of, encoded_by}, Reader.{Turn, gives, again, ends, turn_of}, Trace.{Given, reaches, ended, turns, next_point, border_at}, declared.place.Point.{Point}}
+use Rattle.border.specs.declared.reader.Turn.{Turn, TheVariants.{Gives as gives, Again as again, Ended as ends}}
+use Rattle.border.specs.{Encoding.{version_of, encoded_by}, Reader.{turn_of}, Trace.{Given, reaches, ended, turns, next_point, border_at}, declared.place.Point.{Point}}
 use Rattle.border.specs.declared.reader.{Reader.{Reader}, Run.{Run, TheVariants.{Idle, Forward, Backward}}, Version.{Version, TheVariants.{Plain, Packed}}}
 use Rattle.header.specs.{Field.{field_at}, Header.{preamble_of, blame_of, texts_of, size_at, head_of}, Text.{text_at}, declared.header.Head.{Head}}
 use Rattle.table.specs.{Find.{is_precision, fix_of, matched_with}, Hits.{width}, Rows.{start_at, row_by}, Search.{farthest, row_turn, judge_in}, Table.{is_above, holds}, declared.hits.Hit.{Hit}}

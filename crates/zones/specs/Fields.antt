@@ -1,10 +1,8 @@
 -- The fields of the matches, as document 01 has them: in file order, each into what remains of the lent text.
 use Rattle.std.specs.Prelude.{◌+◌, ◌-◌, ◌%◌, ◌^◌, ◌∷◌, ◌++◌, ◌≡◌}
-use Rattle.numbers.specs.{Lists.{padded}, Prelude.{ℕ, zero, suc, length, List, []}, Reply.{Reply, given, refused, ◌>>=◌}}
+use Rattle.numbers.specs.{Lists.{padded}, Prelude.{ℕ, zero, suc, length, List, []}, Reply.{Reply, given, ◌>>=◌}}
 use Rattle.header.specs.{Field.{field_at}, declared.header.Head.{Head}}
 use Rattle.table.specs.declared.hits.Hit.{Hit}
-use Rattle.zones.specs.declared.fields.Fields.{Fields}
-use Rattle.zones.specs.declared.fields.Fields.TheVariants as F
 
 -- where the fields of a metadata id begin
 abbrev pub fields_place : Head → ℕ → ℕ
@@ -24,10 +22,6 @@ module _ (file : List ℕ) (head : Head) (room : ℕ) where
   fields_of (match ∷ matches) text = fields_from head.preamble.count 0 (fields_place head match.metadata) text >>= fields_of matches
 
 -- ---- the code's answer: how much of the text is used, and the text
-abbrev pub told_fields : Fields → Reply ℕ
-told_fields (F.Used used) = given used
-told_fields (F.Refused why) = refused why
-
 pub record Wrote (room : ℕ) (text out : List ℕ) (used : ℕ) : Type 0 where
   pub said : used ≡ length out
   pub kept : text ≡ padded room out

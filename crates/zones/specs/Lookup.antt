@@ -1,11 +1,10 @@
 -- Lookup, as document 01 has it.
-use Rattle.numbers.specs.Prelude.{ℕ, binary32, pos, length, Bool, true, List, []}
-use Rattle.std.specs.Prelude.{to_bits, ◌/◌, ◌≡◌, if◌then◌else◌}
+use Rattle.numbers.specs.Prelude.{ℕ, binary32, pos, length, take, Bool, true, List, []}
+use Rattle.std.specs.Prelude.{to_bits, ◌/◌, ◌≤◌, ◌≡◌, if◌then◌else◌}
 use Rattle.numbers.specs.{Float.{to_f32, one_shifted, ◌⊠◌, ◌⊘◌, Root.{root}}, Lists.{padded}, Reply.{Reply, given, refused, ◌>>=◌}}
 use Rattle.header.specs.{Header.{head_by, head_of}, declared.header.Head.{Head}}
-use Rattle.table.specs.{Find.{ninety, Matched, matched_with}, GivenRows.{matched_listed}, Hits.{width}, declared.{find.Matches.{Matches}, location.Location.{Location}}}
-use Rattle.zones.specs.{Fields.{fields_of}, Lent.{Outcome, Replied, replied_of}, declared.lookup.{Looked.{Looked}, Zones.{Zones}}}
-use Rattle.zones.specs.declared.lookup.Looked.TheVariants as L
+use Rattle.table.specs.{Find.{ninety, Matched, matched_with}, GivenRows.{matched_listed}, Hits.{width, words, slots}, declared.{find.Matches.{Matches}, location.Location.{Location}}}
+use Rattle.zones.specs.{Fields.{fields_of}, Lent.{Outcome, Replied, replied_of}, declared.lookup.{Zones.{Zones}}}
 
 -- the root of the least squared distance as f32, times 90, over 2 ^ (precision - 1), which is -2 ^ 31 at precision 32; 0 if not asked
 unfoldable pub safezone_bits : Bool → ℕ → ℕ → ℕ
@@ -62,12 +61,18 @@ zones_listed file head location asked records numbers n room = zones_from file h
 unfoldable pub looked_listed : List ℕ → Head → Location → Bool → List ℕ → List ℕ → ℕ → ℕ → Replied Zones
 looked_listed file head location asked records numbers n room = replied_of n room (zones_listed file head location asked records numbers n room)
 
--- ---- the code's answers
+-- ---- the code's answer
 -- after a search: what is said of the matches, and the fields in so many bytes of text
 pub record Told (room : ℕ) (text : List ℕ) (asked : Bool) (precision : ℕ) (found : Matches) (out : List ℕ) (zones : Zones) : Type 0 where
   pub said : zones ≡ record { matches = found.count; mark = found.mark; safezone = safezone_bits asked found.least precision; used = length out }
   pub kept : text ≡ padded room out
 
-abbrev pub told_looked : Looked → Reply Zones
-told_looked (L.Zones zones) = given zones
-told_looked (L.Refused why) = refused why
+-- what a search found, by its count of matches in the lent words
+abbrev pub matched_in : Reply Matches → List ℕ → Reply Matched
+matched_in (given m) hits = given (record { matches = take m.count (slots hits); mark = m.mark; least = m.least })
+matched_in (refused why) hits = refused why
+
+-- these words hold them, and zeros behind
+abbrev pub Kept : Reply Matches → List ℕ → Type 0
+Kept (given m) hits = (m.count ≤ length hits / width) × (hits ≡ padded (length hits) (words (take m.count (slots hits))))
+Kept (refused why) hits = Unit {0}

@@ -1,18 +1,10 @@
 -- Simple lookup, as document 01 has it: the fields of every match are checked, and the first match is described.
-use Rattle.std.specs.Prelude.{◌+◌, ◌/◌, ◌≤◌, ◌&&◌, ◌∷◌, ◌++◌, ◌≡◌, if◌then◌else◌}
-use Rattle.numbers.specs.Prelude.{ℕ, zero, suc, eqb, leb, length, Bool, true, false, List, [], Option, some, none}
+use Rattle.std.specs.Prelude.{◌+◌, ◌/◌, ◌≤◌, ◌&&◌, ◌∷◌, ◌++◌, ◌≡◌, if◌then◌else◌, Option, Some, None, option_map}
+use Rattle.numbers.specs.Prelude.{ℕ, zero, suc, eqb, leb, length, Bool, true, false, List, []}
 use Rattle.numbers.specs.{Lists.{padded}, Reply.{Reply, given, refused, plain, demand, ◌>>=◌, ◌>>◌}}
 use Rattle.header.specs.{Header.{blame_of, head_of}, Text.{text_at, bytes_of}, declared.{header.Head.{Head}, text.Text.{Text}}}
 use Rattle.table.specs.{Find.{Matched, matched_with}, Hits.{width}, declared.{find.Matches.{Matches}, hits.Hit.{Hit}, location.Location.{Location}}}
-use Rattle.zones.specs.{Fields.{fields_place}, Lent.{Outcome, Replied, replied_of}, declared.simple.{Checked.{Checked}, Described.{Described}, Description.{Description}, Named.{Named}}}
-use Rattle.zones.specs.declared.simple.{Parts.{Parts}, Picked.{Picked}, Picks.{Picks}, Simple.{Simple}, Value.{Value}, Wording.{Wording}}
-use Rattle.zones.specs.declared.simple.Value.TheVariants as X
-use Rattle.zones.specs.declared.simple.Picks.TheVariants as P
-use Rattle.zones.specs.declared.simple.Named.TheVariants as N
-use Rattle.zones.specs.declared.simple.Checked.TheVariants as C
-use Rattle.zones.specs.declared.simple.Description.TheVariants as D
-use Rattle.zones.specs.declared.simple.Wording.TheVariants as W
-use Rattle.zones.specs.declared.simple.Simple.TheVariants as S
+use Rattle.zones.specs.{Fields.{fields_place}, Lent.{Outcome, Replied, replied_of}, declared.simple.{Described.{Described}, Parts.{Parts}, Picked.{Picked}}}
 
 -- ---- the wanted names
 unfoldable pub same : List ℕ → List ℕ → Bool
@@ -42,18 +34,18 @@ part_of kind called =
 -- ---- the last field of each
 -- none at first; a country's second part is empty
 abbrev pub begun : ℕ → Picked
-begun kind = record { one = X.Missing; two = if eqb kind 0x54 then X.Missing else X.At (record { start = 0; size = 0; next = 0 }) }
+begun kind = record { one = None; two = if eqb kind 0x54 then None else Some (record { start = 0; size = 0; next = 0 }) }
 
 abbrev pub newer : ℕ → Text → Picked → Picked
 newer part value last =
-    if eqb part 1 then record { one = X.At value; two = last.two }
-    else (if eqb part 2 then record { one = last.one; two = X.At value } else last)
+    if eqb part 1 then record { one = Some value; two = last.two }
+    else (if eqb part 2 then record { one = last.one; two = Some value } else last)
 
 -- one part after the other, none if one is missing
-abbrev pub joined : List ℕ → Value → Value → Option (List ℕ)
-joined file (X.At one) (X.At two) = some (bytes_of file one ++ bytes_of file two)
-joined file (X.At one) X.Missing = none
-joined file X.Missing two = none
+abbrev pub joined : List ℕ → Option Text → Option Text → Option (List ℕ)
+joined file (Some one) (Some two) = Some (bytes_of file one ++ bytes_of file two)
+joined file (Some one) None = None
+joined file None two = None
 
 module _ (file : List ℕ) (head : Head) where
   -- so many fields from an index on, each name, which opening has read already, beside its value
@@ -85,17 +77,16 @@ module _ (file : List ℕ) (head : Head) where
 
   -- of the first match
   unfoldable pub description_of : List Hit → Reply (Option (List ℕ))
-  description_of [] = given none
+  description_of [] = given None
   description_of (match ∷ matches) = description_at match.metadata
 
 -- ---- the reply
 abbrev pub bytes_in : Option (List ℕ) → List ℕ
-bytes_in none = []
-bytes_in (some bytes) = bytes
+bytes_in None = []
+bytes_in (Some bytes) = bytes
 
-abbrev pub length_in : Option (List ℕ) → Description
-length_in none = D.Missing
-length_in (some bytes) = D.Length (length bytes)
+abbrev pub length_in : Option (List ℕ) → Option ℕ
+length_in = option_map length
 
 -- 18 where bytes have no room
 abbrev pub fitting : ℕ → List ℕ → Reply (List ℕ)
@@ -143,42 +134,27 @@ unfoldable pub simply_looked : List ℕ → Location → ℕ → ℕ → Replied
 simply_looked file location n room = replied_of n room (described_in file location n room)
 
 -- ---- the code's answers
-abbrev pub told_picks : Picks → Reply Picked
-told_picks (P.Picked picked) = given picked
-told_picks (P.Refused why) = refused why
-
-abbrev pub told_named : List ℕ → Named → Reply (Option (List ℕ))
-told_named file (N.Name parts) = given (some (bytes_of file parts.one ++ bytes_of file parts.two))
-told_named file N.Missing = given none
-told_named file (N.Refused why) = refused why
+-- a name by its bytes
+abbrev pub told_named : List ℕ → Reply (Option Parts) → Reply (Option (List ℕ))
+told_named file (given (Some parts)) = given (Some (bytes_of file parts.one ++ bytes_of file parts.two))
+told_named file (given None) = given None
+told_named file (refused why) = refused why
 
 -- both parts of a name lie in so many bytes
 pub record LiesParts (size : ℕ) (parts : Parts) : Type 0 where
   pub one : parts.one.start + parts.one.size ≤ size
   pub two : parts.two.start + parts.two.size ≤ size
 
-unfoldable pub LiesNamed : ℕ → Named → Type 0
-LiesNamed size (N.Name parts) = LiesParts size parts
-LiesNamed size N.Missing = Unit {0}
-LiesNamed size (N.Refused why) = Unit {0}
-
-abbrev pub told_checked : Checked → Reply (Unit {0})
-told_checked C.Good = given tt
-told_checked (C.Refused why) = refused why
-
-abbrev pub told_worded : Wording → Reply Description
-told_worded (W.Description description) = given description
-told_worded (W.Refused why) = refused why
-
-abbrev pub told_simple : Simple → Reply Described
-told_simple (S.Described described) = given described
-told_simple (S.Refused why) = refused why
+unfoldable pub LiesNamed : ℕ → Reply (Option Parts) → Type 0
+LiesNamed size (given (Some parts)) = LiesParts size parts
+LiesNamed size (given None) = Unit {0}
+LiesNamed size (refused why) = Unit {0}
 
 -- after a search: what is said of the matches, and the description in so many bytes of text
 pub record ToldSimply (room : ℕ) (text : List ℕ) (found : Matches) (worded : Option (List ℕ)) (described : Described) : Type 0 where
   pub said : described ≡ record { matches = found.count; mark = found.mark; description = length_in worded }
   pub kept : text ≡ padded room (bytes_in worded)
 
-pub record Worded (room : ℕ) (text : List ℕ) (worded : Option (List ℕ)) (description : Description) : Type 0 where
+pub record Worded (room : ℕ) (text : List ℕ) (worded : Option (List ℕ)) (description : Option ℕ) : Type 0 where
   pub said : description ≡ length_in worded
   pub kept : text ≡ padded room (bytes_in worded)

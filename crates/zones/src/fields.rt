@@ -3,20 +3,13 @@ ghost use mathlib.Core.{Path.{◌≡◌}, List.{[]}};
 ghost use Rattle.std.specs.Prelude.{◌/◌, ◌≤◌, length, take};
 ghost use Rattle.numbers.specs.Lists.{zeros, padded};
 ghost use Rattle.table.specs.{Hits.{width, slots}, inner.Agreeing.{Agrees}};
-ghost use Rattle.zones.specs.Fields.{fields_place, fields_from, fields_of, told_fields, Wrote};
+ghost use Rattle.zones.specs.Fields.{fields_place, fields_from, fields_of, Wrote};
 
-use header::field::{Written, write_field};
+use header::field::write_field;
 use header::header::Head;
 use numbers::refusal::Refusal;
 use std::num::wrapping_add_u32;
 use table::hits::hit_at;
-
-#[derive(Clone, Copy)]
-pub enum Fields {
-    // How much of the text is used.
-    Used(usize),
-    Refused(Refusal),
-}
 
 pub(crate) fn fields_place(head: Head, id: u32) -> usize
     ensures { result ≡ fields_place head id }
@@ -25,11 +18,17 @@ pub(crate) fn fields_place(head: Head, id: u32) -> usize
     wrapping_add_u32(sections.metadata, id) as usize
 }
 
-// The fields of one match, from a place of the text on.
-fn write_match(text: &mut [u8], from: usize, file: &[u8], head: Head, start: usize) -> Fields
+// The fields of one match, from a place of the text on: how much of the text is used then.
+fn write_match(
+    text: &mut [u8],
+    from: usize,
+    file: &[u8],
+    head: Head,
+    start: usize,
+) -> Result<usize, Refusal>
     requires { (from ≤ length text.old) × (text.old ≡ padded (length text.old) (take from text.old)) }
     ensures { Agrees (Wrote (length text.old) text.new)
-        (fields_from file.now head (length text.old) head.preamble.count 0 start (take from text.old)) (told_fields result) }
+        (fields_from file.now head (length text.old) head.preamble.count 0 start (take from text.old)) result }
 {
     let preamble = head.preamble;
     let sections = head.sections;
@@ -38,34 +37,25 @@ fn write_match(text: &mut [u8], from: usize, file: &[u8], head: Head, start: usi
     let mut at = from;
     let mut tag: u8 = 0;
     while tag < preamble.count {
-        let field = match write_field(
-            &mut text[at..],
-            tag,
-            file,
-            strict,
-            sections.metadata,
-            place,
-        ) {
-            Written::Field(field) => field,
-            Written::Refused(why) => return Fields::Refused(why),
-        };
+        let field = write_field(&mut text[at..], tag, file, strict, sections.metadata, place)?;
         at += field.size;
         place = field.next;
         tag += 1;
     }
-    Fields::Used(at)
+    Ok(at)
 }
 
+// The fields of all matches: how much of the text is used.
 pub(crate) fn write_fields(
     text: &mut [u8],
     file: &[u8],
     head: Head,
     hits: &[u32],
     count: usize,
-) -> Fields
+) -> Result<usize, Refusal>
     requires { (text.old ≡ zeros (length text.old)) × (count ≤ length hits.now / width) }
     ensures { Agrees (Wrote (length text.old) text.new)
-        (fields_of file.now head (length text.old) (take count (slots hits.now)) []) (told_fields result) }
+        (fields_of file.now head (length text.old) (take count (slots hits.now)) []) result }
 {
     let mut at = 0;
     let mut i = 0;
@@ -73,10 +63,7 @@ pub(crate) fn write_fields(
         let hit = hit_at(hits, i);
         i += 1;
         let start = fields_place(head, hit.metadata);
-        at = match write_match(text, at, file, head, start) {
-            Fields::Used(next) => next,
-            Fields::Refused(why) => return Fields::Refused(why),
-        };
+        at = write_match(text, at, file, head, start)?;
     }
-    Fields::Used(at)
+    Ok(at)
 }

@@ -3,19 +3,19 @@ ghost use mathlib.Core.{Path.{◌≡◌}, List.{[]}};
 ghost use Rattle.std.specs.Prelude.{◌/◌, ◌≤◌, length, take};
 ghost use Rattle.numbers.specs.Lists.{zeros};
 ghost use Rattle.table.specs.{inner.Agreeing.{Agrees}, Hits.{width, slots}};
-ghost use Rattle.zones.specs.{Fields.{fields_of}, Lent.{Filled, replied}};
-ghost use Rattle.zones.specs.Lookup.{safezone_bits, zones_with, zones_listed, looked_with, looked_by, looked_up, looked_strictly, looked_listed, Told, told_looked};
+ghost use Rattle.zones.specs.{Fields.{fields_of}, Lent.{Filled, replied, replied_of}};
+ghost use Rattle.zones.specs.Lookup.{safezone_bits, zones_from, matched_in, Kept, looked_with, looked_by, looked_up, looked_strictly, looked_listed, Told};
 
-use crate::fields::{Fields, write_fields};
+use crate::fields::write_fields;
 use header::field::zero;
-use header::header::{Head, Headed, head_by};
+use header::header::{Head, head_by};
 use header::zero::zero_both;
 use numbers::float::bits::bits_of;
 use numbers::float::fixed::factor;
 use numbers::float::nearest::of_u64;
 use numbers::float::root::sqrt;
 use numbers::refusal::Refusal;
-use table::find::{Found, Matches, find_in};
+use table::find::{Matches, find_in};
 use table::listed::find_listed;
 use table::location::Location;
 
@@ -28,12 +28,6 @@ pub struct Zones {
     pub used: usize,
 }
 
-#[derive(Clone, Copy)]
-pub enum Looked {
-    Zones(Zones),
-    Refused(Refusal),
-}
-
 fn safezone(asked: bool, least: u64, precision: u8) -> u32
     ensures { result ≡ safezone_bits asked least precision }
 {
@@ -44,26 +38,23 @@ fn safezone(asked: bool, least: u64, precision: u8) -> u32
 }
 
 // After a search: the fields of its matches go into a text that is zero.
-pub(crate) fn tell(
+fn tell(
     file: &[u8],
     head: Head,
     asked: bool,
     found: Matches,
     hits: &[u32],
     text: &mut [u8],
-) -> Looked
+) -> Result<Zones, Refusal>
     requires { (text.old ≡ zeros (length text.old)) × (found.count ≤ length hits.now / width) }
     ensures { Agrees (Told (length text.old) text.new asked head.preamble.precision found)
-        (fields_of file.now head (length text.old) (take found.count (slots hits.now)) []) (told_looked result) }
+        (fields_of file.now head (length text.old) (take found.count (slots hits.now)) []) result }
 {
     let preamble = head.preamble;
     let matches = found.count;
-    let used = match write_fields(text, file, head, hits, matches) {
-        Fields::Used(used) => used,
-        Fields::Refused(why) => return Looked::Refused(why),
-    };
+    let used = write_fields(text, file, head, hits, matches)?;
     let safezone = safezone(asked, found.least, preamble.precision);
-    Looked::Zones(Zones {
+    Ok(Zones {
         matches,
         mark: found.mark,
         safezone,
@@ -71,24 +62,42 @@ pub(crate) fn tell(
     })
 }
 
-// In a text that is zero.
+// What a search found, told in a text that is zero.
 fn look(
     file: &[u8],
     head: Head,
-    location: Location,
     asked: bool,
+    found: Result<Matches, Refusal>,
+    hits: &[u32],
+    text: &mut [u8],
+) -> Result<Zones, Refusal>
+    requires { (text.old ≡ zeros (length text.old)) × Kept found hits.now }
+    ensures { Agrees (Filled (length hits.now) (length text.old) hits.now text.new)
+        (zones_from file.now head asked (length text.old) (matched_in found hits.now)) result }
+{
+    let found = found?;
+    tell(file, head, asked, found, hits, text)
+}
+
+// The answer to what a search found, whatever rows it went through; on a refusal both buffers are zero.
+pub(crate) fn answer(
+    file: &[u8],
+    head: Head,
+    asked: bool,
+    found: Result<Matches, Refusal>,
     hits: &mut [u32],
     text: &mut [u8],
-) -> Looked
-    requires { text.old ≡ zeros (length text.old) }
-    ensures { Agrees (Filled (length hits.old) (length text.old) hits.new text.new)
-        (zones_with file.now head location asked (length hits.old) (length text.old)) (told_looked result) }
+) -> Result<Zones, Refusal>
+    requires { Kept found hits.old }
+    ensures { replied result hits.new text.new
+        ≡ replied_of (length hits.old) (length text.old) (zones_from file.now head asked (length text.old) (matched_in found hits.old)) }
 {
-    let found = match find_in(file, head, location, asked, hits) {
-        Found::Matches(found) => found,
-        Found::Refused(why) => return Looked::Refused(why),
-    };
-    tell(file, head, asked, found, hits, text)
+    zero(text);
+    let zones = look(file, head, asked, found, hits, text);
+    if zones.is_err() {
+        zero_both(hits, text);
+    }
+    zones
 }
 
 // In a file whose header was read; any header is taken.
@@ -99,19 +108,12 @@ pub fn lookup_in(
     asked: bool,
     hits: &mut [u32],
     text: &mut [u8],
-) -> Looked
-    ensures { replied (told_looked result) hits.new text.new
+) -> Result<Zones, Refusal>
+    ensures { replied result hits.new text.new
         ≡ looked_with file.now head location asked (length hits.old) (length text.old) }
 {
-    zero(text);
-    let zones = match look(file, head, location, asked, hits, text) {
-        Looked::Zones(zones) => zones,
-        Looked::Refused(why) => {
-            zero_both(hits, text);
-            return Looked::Refused(why);
-        }
-    };
-    Looked::Zones(zones)
+    let found = find_in(file, head, location, asked, hits);
+    answer(file, head, asked, found, hits, text)
 }
 
 // In a file whose header is read plainly or strictly.
@@ -122,15 +124,15 @@ fn lookup_by(
     asked: bool,
     hits: &mut [u32],
     text: &mut [u8],
-) -> Looked
-    ensures { replied (told_looked result) hits.new text.new
+) -> Result<Zones, Refusal>
+    ensures { replied result hits.new text.new
         ≡ looked_by strict file.now location asked (length hits.old) (length text.old) }
 {
     let head = match head_by(file, strict) {
-        Headed::Head(head) => head,
-        Headed::Refused(why) => {
+        Ok(head) => head,
+        Err(why) => {
             zero_both(hits, text);
-            return Looked::Refused(why);
+            return Err(why);
         }
     };
     lookup_in(file, head, location, asked, hits, text)
@@ -142,8 +144,8 @@ pub fn lookup(
     asked: bool,
     hits: &mut [u32],
     text: &mut [u8],
-) -> Looked
-    ensures { replied (told_looked result) hits.new text.new
+) -> Result<Zones, Refusal>
+    ensures { replied result hits.new text.new
         ≡ looked_up file.now location asked (length hits.old) (length text.old) }
 {
     lookup_by(file, false, location, asked, hits, text)
@@ -156,33 +158,11 @@ pub fn lookup_strict(
     asked: bool,
     hits: &mut [u32],
     text: &mut [u8],
-) -> Looked
-    ensures { replied (told_looked result) hits.new text.new
+) -> Result<Zones, Refusal>
+    ensures { replied result hits.new text.new
         ≡ looked_strictly file.now location asked (length hits.old) (length text.old) }
 {
     lookup_by(file, true, location, asked, hits, text)
-}
-
-// Among rows that are given as words, in a text that is zero.
-fn look_listed(
-    file: &[u8],
-    head: Head,
-    location: Location,
-    asked: bool,
-    records: &[u32],
-    numbers: &[u32],
-    hits: &mut [u32],
-    text: &mut [u8],
-) -> Looked
-    requires { text.old ≡ zeros (length text.old) }
-    ensures { Agrees (Filled (length hits.old) (length text.old) hits.new text.new)
-        (zones_listed file.now head location asked records.now numbers.now (length hits.old) (length text.old)) (told_looked result) }
-{
-    let found = match find_listed(file, head, location, asked, records, numbers, hits) {
-        Found::Matches(found) => found,
-        Found::Refused(why) => return Looked::Refused(why),
-    };
-    tell(file, head, asked, found, hits, text)
 }
 
 // Among rows that are given as words, in a file whose header was read: `lookup_in` with these rows for the table's. Any header and any words are taken.
@@ -195,17 +175,10 @@ pub fn lookup_listed(
     numbers: &[u32],
     hits: &mut [u32],
     text: &mut [u8],
-) -> Looked
-    ensures { replied (told_looked result) hits.new text.new
+) -> Result<Zones, Refusal>
+    ensures { replied result hits.new text.new
         ≡ looked_listed file.now head location asked records.now numbers.now (length hits.old) (length text.old) }
 {
-    zero(text);
-    let zones = match look_listed(file, head, location, asked, records, numbers, hits, text) {
-        Looked::Zones(zones) => zones,
-        Looked::Refused(why) => {
-            zero_both(hits, text);
-            return Looked::Refused(why);
-        }
-    };
-    Looked::Zones(zones)
+    let found = find_listed(file, head, location, asked, records, numbers, hits);
+    answer(file, head, asked, found, hits, text)
 }

@@ -1,13 +1,11 @@
 -- The loop that writes names and notice: what holds before each turn, and what a turn makes of it. Assumes nothing.
-use Rattle.numbers.proofs.Prelude.{ℕ, suc, ◌+◌, ◌-◌, ◌≤◌, ◌<◌, tag_of, declared, length, take, drop, length-append, length-map, length-replicate, take-append-drop, length-take-le, take_at, drop_at}
+use Rattle.numbers.proofs.Prelude.{ℕ, suc, ◌+◌, ◌-◌, ◌≤◌, ◌<◌, length, take, drop, length-append, length-map, length-replicate, take-append-drop, length-take-le, take_at, drop_at}
 use Rattle.numbers.proofs.Prelude.{Bool, List, [], ◌++◌, map, append_assoc, append-nil, ◌≡◌, refl, sym, ap, ◌∙◌, sub-zero, arith}
-use Rattle.numbers.{proofs.Lists.{zeros_drop}, specs.{Lists.{zeros, padded, over}, Reply.{Reply, given, refused}}}
-use Rattle.header.specs.{Field.{entry}, Header.{Texts, texts_from, texts_of, blame_of}, Opening.{Filled}, Text.{text_at, bytes_of, told_read}, Utf8.{unmasked}, declared.text.Read.{Read}}
+use Rattle.numbers.{proofs.Lists.{zeros_drop}, specs.{declared.refusal.Refusal.{Refusal}, Lists.{zeros, padded, over}, Reply.{Reply, given, refused}}}
+use Rattle.header.specs.{Field.{entry}, Header.{Texts, texts_from, texts_of, blame_of}, Opening.{Filled}, Text.{text_at, bytes_of}, Utf8.{unmasked}}
 use Rattle.header.specs.declared.text.Text.{Text}
 use Rattle.header.proofs.{Buffers.{tail_lent, tail_back}, Strings.{Lies, text_lies, part, part_is, part_length}, header.Texts.{before, before_none, before_twice, next_text, bad_text}}
-use Rattle.header.specs.declared.text.Read.TheVariants as T
-use Rattle.header.specs.declared.opening.Wrote.TheVariants as W
-use Rattle.header.specs.contracts.text.Read as N
+use Rattle.std.specs.Prelude.{Some, None}
 
 pub record Writing (strict : Bool) (file : List ℕ) (names room : ℕ) (text : List ℕ) (index place at : ℕ) : Type 0 where
   pub index_names : index ≤ names + 1
@@ -28,10 +26,10 @@ starts strict file text names e = record {
 -- ---- what is left at the end, by what the strings are
 module _ (room : ℕ) where
   all_out : (r : Reply Texts) (text front : List ℕ) (at place : ℕ) → given (record { bytes = front; place = place }) ≡ r → length front ≡ at → at ≤ room → text ≡ padded room front →
-      Filled r room (W.Used at) text
-  all_out r text front at place e l fits t = rw (← e) (λ h. (ap W.Used (sym l), t), λ h. absurd (omega (arith, h)))
+      Filled r room (Some at) text
+  all_out r text front at place e l fits t = rw (← e) (λ h. (ap Some (sym l), t), λ h. absurd (omega (arith, h)))
 
-  no_room : (r rest : Reply Texts) (text front : List ℕ) → before front rest ≡ r → room < length front → Filled r room W.NoRoom text
+  no_room : (r rest : Reply Texts) (text front : List ℕ) → before front rest ≡ r → room < length front → Filled r room None text
   no_room r (given texts) text front e h = rw (← e) (λ fits. absurd (omega (arith, fits, length-append front texts.bytes)), λ _. refl)
   no_room r (refused why) text front e h = rw (← e) tt
 
@@ -46,7 +44,7 @@ module _ {strict : Bool} {file text : List ℕ} {names room index place at : ℕ
   whole : text ≡ padded room (take at text)
   whole = sym (take-append-drop at text) ∙ ap (λ (r : List ℕ). take at text ++ r) (w.rest ∙ ap (λ (n : ℕ). zeros (room - n)) (sym front_length))
 
-  pub ends : names < index → Filled (texts_of strict file names) room (W.Used at) text
+  pub ends : names < index → Filled (texts_of strict file names) room (Some at) text
   unfolding texts_from
   ends past = let z : names + 1 - index ≡ 0 = omega (arith, w.index_names) in
       let e : given (record { bytes = take at text ++ []; place = place }) ≡ texts_of strict file names = rw z at w.so_far in
@@ -60,9 +58,8 @@ module _ {strict : Bool} {file text : List ℕ} {names room index place at : ℕ
     opened = let e : names + 1 - index ≡ suc more = omega arith in rw e at w.so_far
 
     -- a string that cannot be read
-    pub bad : (read : Read) (out : List ℕ) → tag_of (declared N.enum) read ≡ 1 → told_read read ≡ text_at strict file 0 place (blame_of names index) → Filled (texts_of strict file names) room W.NoRoom out
-    bad (T.Text text) out is e = absurd (omega (arith, is))
-    bad (T.Refused why) out is e = rw (← ap (before (take at text)) (bad_text strict file names more index place why e) ∙ opened) tt
+    pub bad : {why : Refusal} (out : List ℕ) → refused why ≡ text_at strict file 0 place (blame_of names index) → Filled (texts_of strict file names) room None out
+    bad {why} out e = rw (← ap (before (take at text)) (bad_text strict file names more index place why e) ∙ opened) tt
 
     -- one that can
     module _ (string : Text) (e : given string ≡ text_at strict file 0 place (blame_of names index)) where
@@ -83,7 +80,7 @@ module _ {strict : Bool} {file text : List ℕ} {names room index place at : ℕ
       out_length : length (take at text ++ sent) ≡ at + (string.size + 2)
       out_length = length-append (take at text) sent ∙ rw (front_length, sent_length) refl
 
-      pub full : (out : List ℕ) → length text - at < string.size + 2 → Filled (texts_of strict file names) room W.NoRoom out
+      pub full : (out : List ℕ) → length text - at < string.size + 2 → Filled (texts_of strict file names) room None out
       full out h = no_room room (texts_of strict file names) (texts_from strict file names more (index + 1) string.next) out (take at text ++ sent) turned (omega (arith, out_length, w.text_length))
 
       -- into the tail of the text that was lent

@@ -1,10 +1,9 @@
 -- The rows of the grammar by a byte's range, and the loop over the bytes. Assumes nothing.
-use Rattle.numbers.proofs.Prelude.{ℕ, zero, suc, ◌+◌, ◌-◌, ◌≤◌, ◌<◌, eq-eqb, ne_eqb, le-leb, lt-leb, tag_of, declared, eqb, length, drop, get_or, replicate, drop_of_length-le, drop-cons, Bool, true}
+use Rattle.numbers.proofs.Prelude.{ℕ, zero, suc, ◌+◌, ◌-◌, ◌≤◌, ◌<◌, eq-eqb, ne_eqb, le-leb, lt-leb, eqb, length, drop, get_or, replicate, drop_of_length-le, drop-cons, Bool, true}
 use Rattle.numbers.{proofs.Prelude.{false, List, [], ◌∷◌, map, ◌≡◌, refl, sym, ap, ◌∙◌, add-one, arith}, specs.Answer.{if◌then◌else◌}}
 use lib.Bits.{bit_xor}
-use Rattle.header.specs.{Utf8.{◌–◌, ◌∈◌, tail, unmasked, Pending, due, wrong, begun_by, followed, is_whole, goes_on, is_utf8, pending_of, told_step}, declared.utf8.{Due.{Due}, Step.{Step}}}
-use Rattle.header.specs.declared.utf8.Step.TheVariants as S
-use Rattle.header.specs.contracts.utf8.Step as N
+use Rattle.header.specs.{Utf8.{◌–◌, ◌∈◌, tail, unmasked, Pending, due, wrong, begun_by, followed, is_whole, goes_on, is_utf8, pending_of, told_step}, declared.utf8.{Due.{Due}}}
+use Rattle.std.specs.Prelude.{Option, Some, None}
 
 -- ---- a range
 module _ (b low high : ℕ) where
@@ -65,18 +64,15 @@ module _ {stored : List ℕ} {pending : Due} {i : ℕ} (g : Going stored pending
     unfolding goes_on
     opened = rw add-one (ap (λ (bs : List ℕ). goes_on (map unmasked bs) (pending_of pending)) (sym (drop-cons stored i 0 more)) ∙ g.so_far)
 
-    module _ (step : Step) (e : told_step step ≡ followed (pending_of pending) (bit_xor (get_or stored i 0) 0x80)) where
+    module _ (step : Option Due) (e : told_step step ≡ followed (pending_of pending) (bit_xor (get_or stored i 0) 0x80)) where
       told_so : goes_on (map unmasked (drop (i + 1) stored)) (told_step step) ≡ is_utf8 (map unmasked stored)
       told_so = ap (goes_on (map unmasked (drop (i + 1) stored))) e ∙ opened
 
-      pub goes : {next : Due} → step ≡ S.Due next → Going stored next (i + 1)
+      pub goes : {next : Due} → step ≡ Some next → Going stored next (i + 1)
       goes is = record { at = omega arith; so_far = rw is at told_so }
 
-      pub fails : tag_of (declared N.enum) step ≡ 1 → false ≡ is_utf8 (map unmasked stored)
-      fails is = stays_wrong _ ∙ rw (wrong_one step is) at told_so where
-        wrong_one : (step : Step) → tag_of (declared N.enum) step ≡ 1 → step ≡ S.Wrong
-        wrong_one (S.Due d) is = absurd (omega (arith, is))
-        wrong_one S.Wrong is = refl
+      pub fails : step ≡ None → false ≡ is_utf8 (map unmasked stored)
+      fails is = stays_wrong _ ∙ rw is at told_so
 
   pub ends : length stored ≤ i → eqb pending.left 0 ≡ is_utf8 (map unmasked stored)
   unfolding goes_on

@@ -1,10 +1,11 @@
 -- From the header to the merged matches, by how far the code came. Assumes nothing.
-use Rattle.numbers.proofs.Prelude.{ℕ, ◌/◌, ◌≤◌, length, take, Bool, true, false, List, ◌≡◌, sym, ap, subst, ◌∙◌}
-use Rattle.numbers.{proofs.Replies.{carried, onward, met, unmet}, specs.{Lists.{zeros, padded}, Reply.{Reply, given, refused, plain}, declared.refusal.Refusal.{Refusal}}}
+use Rattle.numbers.proofs.Prelude.{ℕ, ◌/◌, ◌≤◌, length, take, Bool, true, false, List, ◌≡◌, refl, sym, ap, subst, ◌∙◌}
+use Rattle.numbers.{proofs.{Replies.{carried, onward, met, unmet}, Tests.{differ}}, specs.{Lists.{zeros, padded}, Reply.{Reply, given, refused, plain}, declared.refusal.Refusal.{Refusal}}}
 use Rattle.table.specs.{Find.{fix_of, is_precision, Matched, matched_with, finding, finding_of, Matching}, Hits.{width, words, slots, Real}, Merge.{merged}, Search.{Found, searched, Sought}}
 use Rattle.table.specs.{declared.{find.Matches.{Matches}, hits.Hit.{Hit}, location.Location.{Location}, search.Ended.{Ended}}, inner.Agreeing.{Agrees}}
 use Rattle.header.specs.declared.header.Head.{Head}
 use Rattle.border.specs.declared.place.Point.{Point}
+use Rattle.std.specs.Prelude.{is_err}
 use Rattle.table.proofs.{Agreeing.{gave, refused_so}, Words.{padded_slots, padded_room}}
 
 module _ (file : List ℕ) (head : Head) (location : Location) (asked : Bool) (room : ℕ) where
@@ -52,10 +53,17 @@ module _ (whole : ℕ → Reply Matched) {n n' : ℕ} (same : n' ≡ n) (ws : Li
   settled : Agrees (Matching n ws) (whole n) reply
   settled = subst (λ (k : ℕ). Agrees (Matching k ws) (whole k) reply) same agrees
 
-  pub finds : {matches : Matches} → reply ≡ given matches → finding (given matches) ws ≡ finding_of n (whole n)
+  -- as it is, and with zeros where it refused
+  pub finds : is_err reply ≡ false → finding reply ws ≡ finding_of n (whole n)
   unfolding finding_of
-  finds e = let g = gave (Matching n ws) (whole n) settled e in (λ i. finding (given (g.fits.said i)) (g.fits.kept i)) ∙ ap (finding_of n) g.is
+  finds = go reply settled where
+    go : (r : Reply Matches) → Agrees (Matching n ws) (whole n) r → is_err r ≡ false → finding r ws ≡ finding_of n (whole n)
+    go (given matches) a e = let g = gave (Matching n ws) (whole n) a refl in (λ i. finding (given (g.fits.said i)) (g.fits.kept i)) ∙ ap (finding_of n) g.is
+    go (refused why) a e = differ (sym e)
 
-  pub refuses : {why : Refusal} {ws' : List ℕ} → reply ≡ refused why → ws' ≡ zeros n → finding (refused why) ws' ≡ finding_of n (whole n)
+  pub refuses : {ws' : List ℕ} → ws' ≡ zeros n → is_err reply ≡ true → finding reply ws' ≡ finding_of n (whole n)
   unfolding finding_of
-  refuses {why} e z = ap (finding (refused why)) z ∙ ap (finding_of n) (refused_so (Matching n ws) (whole n) settled e)
+  refuses {ws'} z = go reply settled where
+    go : (r : Reply Matches) → Agrees (Matching n ws) (whole n) r → is_err r ≡ true → finding r ws' ≡ finding_of n (whole n)
+    go (given matches) a e = differ e
+    go (refused why) a e = ap (finding (refused why)) z ∙ ap (finding_of n) (refused_so (Matching n ws) (whole n) a refl)

@@ -1,7 +1,9 @@
 -- The rest of a table behind an early stop: entry by entry, by its lower latitude and its end. Assumes nothing.
-use Rattle.numbers.proofs.Prelude.{ℕ, zero, suc, ◌-◌, ◌≤◌, ◌<◌, lt-ltb, le-ltb, ltb, length, lt_z, Bool, true, false, List, ◌⊎◌, ◌≡◌, refl, sym, ap, ◌∙◌, arith}
-use Rattle.numbers.{proofs.{Answers.{All, other}, Laws.{end_then, case_of, stops}, Readings.{Grows, reading_grows}}, specs.Answer.{Answer, found, failed, refused, if◌then◌else◌, ◌>>=◌}}
-use Rattle.numbers.specs.{Point.{signed_of}, Varint.{Numeral, told, nowhere, end_of, forward_at, reading_of}, declared.varint.Varint.{Varint}}
+use Rattle.numbers.proofs.Prelude.{ℕ, zero, suc, ◌-◌, ◌≤◌, ◌<◌, lt-ltb, le-ltb, ltb, length, lt_z, Bool, true, false, List, ◌≡◌, refl, sym, ap, ◌∙◌, arith}
+use Rattle.numbers.{proofs.{Answers.{All, other}, Laws.{end_then, stops}, Readings.{Grows, reading_grows}}, specs.Answer.{Answer, found, failed, refused, if◌then◌else◌, ◌>>=◌}}
+use Rattle.numbers.specs.{Point.{signed_of}, Varint.{Numeral, told, nowhere, end_of, forward_at, reading_of}, declared.varint.Stop.{Stop, TheVariants.{Failed, TooLong, Incomplete, OutOfRange, PastEnd}}}
+use Rattle.std.specs.Prelude.{Result, Err}
+use Rattle.table.proofs.table.Bounding.{then_then}
 use Rattle.border.specs.declared.place.Point.{Point}
 use Rattle.table.proofs.TableRows.{rows_step, entry_past}
 use Rattle.table.specs.{Rest.{rest_mark, five_by, held_by, is_held}, Rows.{Rows, row, row_of, after, start_at, table_end, rows_then, row_by, rows_within, rows_from}}
@@ -66,11 +68,6 @@ module _ (read : ℕ → Answer Numeral) (end : ℕ) (fix : Point) where
       by_entry (refused k) = refl
 
 -- ---- five numbers one after the other, by where each ends
-then_then : {A B C : Type 0} (m : Answer A) (f : A → Answer B) (g : B → Answer C) → ((m >>= f) >>= g) ≡ (m >>= λ a. f a >>= g)
-then_then (found a) f g = refl
-then_then failed f g = refl
-then_then (refused n) f g = refl
-
 module _ (file : List ℕ) (short : length file ≤ nowhere) (place : ℕ) where
   next : Numeral → Answer Numeral
   next number = forward_at file number.place
@@ -134,13 +131,15 @@ module _ (read : ℕ → Answer Numeral) (fix : Point) (place : ℕ) (first : Nu
         same : {a : Numeral} → read place ≡ found a → a ≡ first
         same e = let f : found _ ≡ found first = sym e ∙ is in cc
 
--- a number that is not there
-pub none_held : {answer : Answer Numeral} (a : Varint) → told a ≡ answer → (case_of a ≡ 1) ⊎ (case_of a ≡ 2) → (k : Numeral → Answer Bool) → false ≡ is_held (answer >>= k)
-none_held a e h k = none (told a) ∙ ap is_held (stops a e h (λ number. found false) k) where
-  none : (answer : Answer Numeral) → false ≡ is_held (answer >>= λ number. found false)
-  none (found number) = refl
-  none failed = refl
-  none (refused n) = refl
+-- a box that is not there
+pub none_held : {A : Type 0} {answer : Answer A} (a : Result A Stop) → told a ≡ answer → {why : Stop} → a ≡ Err why → (k : A → Answer Bool) → false ≡ is_held (answer >>= k)
+none_held a e {why} is k = none why ∙ ap is_held (stops a e is k) where
+  none : (why : Stop) → false ≡ is_held (told {A = Bool} (Err why))
+  none Failed = refl
+  none TooLong = refl
+  none Incomplete = refl
+  none OutOfRange = refl
+  none PastEnd = refl
 
 module _ (strict : Bool) (file : List ℕ) (end : ℕ) (fix : Point) (place : ℕ) (more : place < end) where
   abbrev read : ℕ → Answer Numeral
@@ -157,13 +156,15 @@ module _ (strict : Bool) (file : List ℕ) (end : ℕ) (fix : Point) (place : �
     pub skipped : is_above entry.bounds fix ≡ true → entry.next ≤ end → rest_from read end fix place ≡ rest_from read end fix entry.next
     skipped up within = here_is (rw (sym is, le-ltb end entry.next within, not_held entry.bounds fix up) refl)
 
-  pub unread : (a : Varint) → told a ≡ read place → (case_of a ≡ 1) ⊎ (case_of a ≡ 2) → rest_from read end fix place ≡ 2
+  pub unread : (a : Result Numeral Stop) → told a ≡ read place → {why : Stop} → a ≡ Err why → rest_from read end fix place ≡ 2
   unfolding entry_by
-  unread a e h = here_is (sym (ap (behind read end fix (rest_from read end fix)) (stops a e h (λ number. failed) _)) ∙ none (told a)) where
-    none : (answer : Answer Numeral) → behind read end fix (rest_from read end fix) (answer >>= λ number. failed) ≡ 2
-    none (found number) = refl
-    none failed = refl
-    none (refused n) = refl
+  unread a e {why} is = here_is (sym (ap (behind read end fix (rest_from read end fix)) (stops a e is _)) ∙ none why) where
+    none : (why : Stop) → behind read end fix (rest_from read end fix) (told {A = Entry} (Err why)) ≡ 2
+    none Failed = refl
+    none TooLong = refl
+    none Incomplete = refl
+    none OutOfRange = refl
+    none PastEnd = refl
 
   module _ {first : Numeral} {next : ℕ} (is : found first ≡ read place) (n : next ≡ end_of (five_by read first.place)) where
     pub past : end < next → rest_from read end fix place ≡ 2

@@ -1,12 +1,12 @@
 -- What one row does to the search, by the tests that the code makes. Assumes nothing.
 use Rattle.numbers.{proofs.Prelude.{ℕ, ◌+◌, ◌%◌, ◌^◌, eq-eqb, ne_eqb, eqb-false, eqb, Bool, true, false, List, ◌≡◌, refl, sym, ap, subst, ◌∙◌}, specs.Answer.{if◌then◌else◌}}
 use Rattle.border.specs.{Encoding.{version_of, encoded_by}, declared.{place.Point.{Point}, reader.Version.{Version}}}
-use Rattle.verdict.specs.{Verdict.{Judgement, told, judged_at}, declared.{judge.Judged.{Judged}, step.Verdict.{Verdict}}}
+use Rattle.verdict.specs.{Verdict.{Judgement, judged_as, judged_at}, declared.{judge.Judged.{Judged}, step.Verdict.{Verdict}}}
 use Rattle.table.specs.{Search.{kind_of, row_hit, judged_turn, row_turn, judge_in}, Table.{holds}, declared.{hits.Hit.{Hit}, rows.Row.{Row}, search.Turn.{Turn}}}
 use Rattle.table.specs.declared.search.Turn.TheVariants.{On, Met, Stopped, Refused}
 use Rattle.header.specs.declared.header.Head.{Head}
 use Rattle.verdict.specs.Verdict as B
-use Rattle.verdict.specs.declared.judge.Judged.TheVariants as J
+use Rattle.std.specs.Prelude.{Some}
 
 -- ---- a judged border
 module _ (file : List ℕ) (head : Head) (fix : Point) (asked : Bool) (polygon least : ℕ) where
@@ -14,14 +14,14 @@ module _ (file : List ℕ) (head : Head) (fix : Point) (asked : Bool) (polygon l
       → judgement ≡ judged_at file (encoded_by head.strict version head.sections.«data») place fix.lat fix.lon asked least → judgement ≡ judge_in file head fix asked polygon least
   judged_in v p j = j ∙ (λ i. judged_at file (encoded_by head.strict (v i) head.sections.«data») (p i) fix.lat fix.lon asked least)
 
-module _ (r : Row) {judgement : Judged} {verdict : Verdict} {least kind : ℕ} (is : judgement ≡ J.Answered verdict least) (k : kind ≡ kind_of verdict) where
-  pub outside : kind ≡ 0 → On least ≡ judged_turn r (told judgement)
+module _ (r : Row) {judgement : Judged} {verdict : Verdict} {kind : ℕ} (is : judgement.verdict ≡ Some verdict) (k : kind ≡ kind_of verdict) where
+  pub outside : kind ≡ 0 → On judgement.least ≡ judged_turn r (judged_as judgement)
   unfolding judged_turn
   outside z = rw is (simp (eq-eqb _ _ (sym k ∙ z)))
 
-  pub met : (kind ≡ 0 → ⊥) → Met (row_hit r kind) least ≡ judged_turn r (told judgement)
+  pub met : (kind ≡ 0 → ⊥) → Met (row_hit r kind) judgement.least ≡ judged_turn r (judged_as judgement)
   unfolding judged_turn
-  met z = ap (λ (n : ℕ). Met (row_hit r n) least) k ∙ rw is (simp (ne_eqb _ _ (λ e. z (k ∙ e))))
+  met z = ap (λ (n : ℕ). Met (row_hit r n) judgement.least) k ∙ rw is (simp (ne_eqb _ _ (λ e. z (k ∙ e))))
 
 -- ---- a row
 module _ (judge : ℕ → ℕ → Judgement) (fix : Point) (r : Row) (least : ℕ) where

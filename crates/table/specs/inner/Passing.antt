@@ -1,28 +1,24 @@
 -- Rows that a search passes over. No promise of a public function speaks of it.
-use Rattle.std.specs.Prelude.{◌+◌, ◌≤◌, ◌<◌, ◌≡◌}
+use Rattle.std.specs.Prelude.{◌+◌, ◌≤◌, ◌<◌, ◌≡◌, Option, Some, None}
 use Rattle.numbers.specs.{Answer.{found}, Point.{signed_of}, Prelude.{ℕ, length, Bool, true, false, List}, Varint.{Numeral, reading_of}}
 use Rattle.verdict.specs.Verdict.{Judgement}
 use Rattle.border.specs.declared.place.Point.{Point}
-use Rattle.table.specs.{Rest.{rest_mark}, Rows.{after, start_at, row_by, rows_from}, Search.{seek}, Table.{bounds_of, entry_by, is_above, holds}, declared.{hits.Hit.{Hit}, pass.Bounded.{Bounded}}}
-use Rattle.table.specs.declared.pass.{Bounded.TheVariants.{By}, Pair.{Pair, TheVariants.{Are}}, Pass.{Pass, TheVariants.{On, Stop}}, Short.{Short, TheVariants.{Is, Other}}, Skip.{Skip}}
+use Rattle.table.specs.{Rest.{rest_mark}, Rows.{after, start_at, row_by, rows_from}, Search.{seek}, Table.{bounds_of, entry_by, is_above, holds}, declared.{hits.Hit.{Hit}, table.Bounded.{Bounded}}}
 use Rattle.table.specs.declared.{rows.{Cursor.{Cursor}, Row.{Row}}, table.{Bounds.{Bounds}, Entry.{Entry}}}
-use Rattle.table.specs.declared.pass.Skip.TheVariants as S
-use Rattle.table.specs.declared.pass.Pair.TheVariants as P
-use Rattle.table.specs.declared.pass.Bounded.TheVariants as B
 
 -- a number of at most three bytes, which both readings find
 pub record Near (file : List ℕ) (place : ℕ) (number : Numeral) : Type 0 where
   pub reads : (strict : Bool) → found number ≡ reading_of strict file place
   pub close : number.place ≤ place + 3
 
-abbrev pub Shortly : List ℕ → ℕ → Short → Type 0
-Shortly file place (Is number) = Near file place number
-Shortly file place Other = Unit
+abbrev pub Shortly : List ℕ → ℕ → Option Numeral → Type 0
+Shortly file place (Some number) = Near file place number
+Shortly file place None = Unit
 
 -- two such numbers, one behind the other
-abbrev pub Paired : List ℕ → ℕ → Pair → Type 0
-Paired file place (Are first second) = Near file place first × Near file first.place second
-Paired file place P.Other = Unit
+abbrev pub Paired : List ℕ → ℕ → Option (Numeral × Numeral) → Type 0
+Paired file place (Some (first, second)) = Near file place first × Near file first.place second
+Paired file place None = Unit
 
 -- four numbers are the bounds of a box, and end at a place
 pub record Bounding (file : List ℕ) (place : ℕ) (bounds : Bounds) (next : ℕ) : Type 0 where
@@ -38,14 +34,14 @@ pub record Bounding (file : List ℕ) (place : ℕ) (bounds : Bounds) (next : �
   pub then : next ≡ east.place
 
 -- a box that is neither above the location nor holds it
-abbrev pub MissedAt : List ℕ → Point → ℕ → Bounded → Type 0
-MissedAt file fix place (By bounds next) = Bounding file place bounds next × (is_above bounds fix ≡ false) × (holds bounds fix ≡ false)
-MissedAt file fix place B.Other = Unit
+abbrev pub MissedAt : List ℕ → Point → ℕ → Option Bounded → Type 0
+MissedAt file fix place (Some by) = Bounding file place by.bounds by.next × (is_above by.bounds fix ≡ false) × (holds by.bounds fix ≡ false)
+MissedAt file fix place None = Unit
 
 -- a box above the location
-abbrev pub AboveAt : List ℕ → Point → ℕ → Bounded → Type 0
-AboveAt file fix place (By bounds next) = Bounding file place bounds next × (is_above bounds fix ≡ true)
-AboveAt file fix place B.Other = Unit
+abbrev pub AboveAt : List ℕ → Point → ℕ → Option Bounded → Type 0
+AboveAt file fix place (Some by) = Bounding file place by.bounds by.next × (is_above by.bounds fix ≡ true)
+AboveAt file fix place None = Unit
 
 -- the longitudes of a box stand at two places
 pub record Lons (file : List ℕ) (bounds : Bounds) (west east : ℕ) : Type 0 where
@@ -66,9 +62,9 @@ pub record PassedRow (file : List ℕ) (fix : Point) (at next : Cursor) : Type 0
   pub missed : holds row.bounds fix ≡ false
   pub then : next ≡ after row
 
-abbrev pub Passing : List ℕ → Point → Cursor → Pass → Type 0
-Passing file fix at (On next) = PassedRow file fix at next
-Passing file fix at Stop = Unit
+abbrev pub Passing : List ℕ → Point → Cursor → Option Cursor → Type 0
+Passing file fix at (Some next) = PassedRow file fix at next
+Passing file fix at None = Unit
 
 -- whatever the borders say, a search goes on from the later cursor as from the earlier one
 pub record PassedOver (file : List ℕ) (end : ℕ) (fix : Point) (at next : Cursor) : Type 0 where
@@ -83,9 +79,9 @@ pub record Skipped (file : List ℕ) (fix : Point) (place next : ℕ) : Type 0 w
   pub above : is_above entry.bounds fix ≡ true
   pub then : next ≡ entry.next
 
-abbrev pub Skipping : List ℕ → Point → ℕ → Skip → Type 0
-Skipping file fix place (S.On next) = Skipped file fix place next
-Skipping file fix place S.Stop = Unit
+abbrev pub Skipping : List ℕ → Point → ℕ → Option ℕ → Type 0
+Skipping file fix place (Some next) = Skipped file fix place next
+Skipping file fix place None = Unit
 
 -- behind a stop: the rest of the table gives the same mark from the later place as from the earlier one
 pub record SkippedOver (file : List ℕ) (end : ℕ) (fix : Point) (place next : ℕ) : Type 0 where

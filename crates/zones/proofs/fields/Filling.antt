@@ -2,13 +2,11 @@
 use Rattle.numbers.proofs.Prelude.{ℕ, suc, ◌+◌, ◌-◌, ◌≤◌, ◌<◌, leb-true, leb, length, take, drop, get_or, length-append, drop_of_length-le, length-take-le, drop-cons, Bool, true, false, List, [], ◌∷◌}
 use Rattle.numbers.proofs.Prelude.{◌++◌, ◌≡◌, refl, sym, ap, ◌∙◌, sub-zero, add-one, arith}
 use Rattle.numbers.{proofs.Replies.{given_from, carried, onward}, specs.{Lists.{zeros, padded}, Reply.{Reply, given, refused, plain, demand, ◌>>=◌, ◌>>◌}, declared.refusal.Refusal.{Refusal}}}
-use Rattle.header.{proofs.Buffers.{over_length, tail_back}, specs.{Field.{Field, field, field_at, told_field, sent_of, text_after}, Text.{bytes_of, text_at}, declared.field.Sent.{Sent}}}
-use Rattle.header.specs.declared.{field.Written.{Written}, header.Head.{Head}}
+use Rattle.header.{proofs.Buffers.{over_length, tail_back}, specs.{Field.{Field, field, field_at, sent_of, text_after}, Text.{bytes_of, text_at}, declared.field.Sent.{Sent}}}
+use Rattle.header.specs.declared.{header.Head.{Head}}
 use Rattle.table.{proofs.Agreeing.{agree_given, agree_refused, gave, refused_so}, specs.{Hits.{no_hit}, declared.hits.Hit.{Hit}, inner.Agreeing.{Agrees}}}
-use Rattle.zones.specs.{Fields.{fields_place, fields_from, fields_of, told_fields, Wrote}, declared.fields.Fields.{Fields}}
+use Rattle.zones.specs.{Fields.{fields_place, fields_from, fields_of, Wrote}}
 use Rattle.zones.proofs.Holding.{Held, held_length, held_front, remains_length, written, held_all}
-use Rattle.header.specs.declared.field.Written.TheVariants as W
-use Rattle.zones.specs.declared.fields.Fields.TheVariants as F
 
 -- ---- one field
 -- what went out, by what the code says of it
@@ -66,7 +64,7 @@ module _ (file : List ℕ) (head : Head) (room count : ℕ) where
     ends h = let none : count - tag ≡ 0 = omega arith in
         agree_given (Wrote room text) (ap (λ (n : ℕ). fields_from file head room n tag place g.out) (sym none) ∙ g.so_far) (record { said = sym g.held.sized; kept = g.held.kept })
 
-    module _ (more : tag < count) (r : Written) (last : List ℕ) where
+    module _ (more : tag < count) (r : Reply Sent) (last : List ℕ) where
       abbrev rest : List ℕ
       rest = take (length text - at) (drop at text)
 
@@ -77,11 +75,11 @@ module _ (file : List ℕ) (head : Head) (room count : ℕ) where
       unfolding fields_from
       opened = let z : count - tag ≡ suc (count - (tag + 1)) = omega arith in rw z at g.so_far
 
-      module _ (e : told_field r ≡ sent_of (one (length rest))) where
+      module _ (e : r ≡ sent_of (one (length rest))) where
         -- the field was not written
-        pub faulted : {why : Refusal} (text' : List ℕ) → r ≡ W.Refused why → Agrees (Wrote room text') whole (refused why)
+        pub faulted : {why : Refusal} (text' : List ℕ) → r ≡ refused why → Agrees (Wrote room text') whole (refused why)
         faulted text' is =
-            agree_refused (Wrote room text') (carried (sent_refused (one (length rest)) (ap told_field (sym is) ∙ e) ∙ ap one (remains_length g.held)) _ ∙ opened)
+            agree_refused (Wrote room text') (carried (sent_refused (one (length rest)) (sym is ∙ e) ∙ ap one (remains_length g.held)) _ ∙ opened)
 
         module _ (l : last ≡ text_after (one (length rest)) rest) where
           pub kept_length : length (take at text ++ (last ++ drop (length text - at) (drop at text))) ≡ room
@@ -98,9 +96,9 @@ module _ (file : List ℕ) (head : Head) (room count : ℕ) where
               )
 
           -- the field was written
-          pub filled : {sent : Sent} → r ≡ W.Field sent → Filling file head room count whole (take at text ++ (last ++ drop (length text - at) (drop at text)))
+          pub filled : {sent : Sent} → r ≡ given sent → Filling file head room count whole (take at text ++ (last ++ drop (length text - at) (drop at text)))
               (at + sent.size) sent.next (tag + 1)
-          filled {sent} is = let o = sent_out (one (length rest)) (ap told_field (sym is) ∙ e) in
+          filled {sent} is = let o = sent_out (one (length rest)) (sym is ∙ e) in
               let fits : length o.it.bytes ≤ length rest = field_fits head.strict file head.sections.metadata place tag (length rest) o.is in record {
                 out = g.out ++ o.it.bytes;
                 held = written g.held o.it.bytes last o.size (omega (arith, o.size, remains_length g.held)) (l ∙ ap (λ (v : Reply Field). text_after v rest) (sym o.is));
@@ -133,7 +131,7 @@ module _ (file : List ℕ) (head : Head) (room : ℕ) (all : List Hit) where
         agree_given (Wrote room text) (ap (λ (l : List Hit). fields_of file head room l g.out) (sym (drop_of_length-le all {i = i} h)) ∙ g.so_far)
         (record { said = sym g.held.sized; kept = g.held.kept })
 
-    module _ (more : i < length all) (got : Hit) (is : got ≡ get_or all i no_hit) (place : ℕ) (p : place ≡ fields_place head got.metadata) (r : Fields) (last : List ℕ) where
+    module _ (more : i < length all) (got : Hit) (is : got ≡ get_or all i no_hit) (place : ℕ) (p : place ≡ fields_place head got.metadata) (r : Reply ℕ) (last : List ℕ) where
       abbrev fields : ℕ → List ℕ → Reply (List ℕ)
       fields n out = fields_from file head n head.preamble.count 0 place out
 
@@ -141,13 +139,13 @@ module _ (file : List ℕ) (head : Head) (room : ℕ) (all : List Hit) where
       unfolding fields_of
       unrolled = let cons : drop i all ≡ got ∷ drop (i + 1) all = drop-cons all i no_hit more ∙ sym (λ j. is j ∷ drop (add-one i j) all) in rw (cons, ← p) at g.so_far
 
-      module _ (a : Agrees (Wrote (length text) last) (fields (length text) (take at text)) (told_fields r)) where
-        settled : Agrees (Wrote room last) (fields room g.out) (told_fields r)
+      module _ (a : Agrees (Wrote (length text) last) (fields (length text) (take at text)) r) where
+        settled : Agrees (Wrote room last) (fields room g.out) r
         settled = rw (writing_length, held_front g.held) at a
 
-        pub match_refused : {why : Refusal} (text' : List ℕ) → r ≡ F.Refused why → Agrees (Wrote room text') whole (refused why)
-        match_refused text' e = agree_refused (Wrote room text') (carried (refused_so (Wrote room last) (fields room g.out) settled (ap told_fields e)) _ ∙ unrolled)
+        pub match_refused : {why : Refusal} (text' : List ℕ) → r ≡ refused why → Agrees (Wrote room text') whole (refused why)
+        match_refused text' e = agree_refused (Wrote room text') (carried (refused_so (Wrote room last) (fields room g.out) settled e) _ ∙ unrolled)
 
-        pub match_written : {n : ℕ} → length last ≡ room → r ≡ F.Used n → Writing file head room all whole last n (i + 1)
-        match_written {n} same e = let o = gave (Wrote room last) (fields room g.out) settled (ap told_fields e) in
+        pub match_written : {n : ℕ} → length last ≡ room → r ≡ given n → Writing file head room all whole last n (i + 1)
+        match_written {n} same e = let o = gave (Wrote room last) (fields room g.out) settled e in
             record { out = o.it; held = held_all same o.fits; so_far = onward o.is _ ∙ unrolled }

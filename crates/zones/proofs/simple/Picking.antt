@@ -1,13 +1,11 @@
 -- The wanted fields of a match, field by field, and the fields of every match. Assumes nothing.
-use Rattle.numbers.proofs.Prelude.{ℕ, zero, suc, ◌+◌, ◌-◌, ◌≤◌, ◌<◌, tag_of, declared, eqb, length, drop, get_or, drop_of_length-le, drop-cons, Bool, true, false, List, ◌∷◌, ◌≡◌, sym, ap, subst, ◌∙◌}
+use Rattle.numbers.proofs.Prelude.{ℕ, zero, suc, ◌+◌, ◌-◌, ◌≤◌, ◌<◌, eqb, length, drop, get_or, drop_of_length-le, drop-cons, Bool, true, false, List, ◌∷◌, ◌≡◌, sym, ap, subst, ◌∙◌}
 use Rattle.numbers.proofs.Prelude.{sub-zero, add-one, arith}
 use Rattle.numbers.{proofs.Replies.{carried, onward, given_from}, specs.{Answer.{if◌then◌else◌}, Reply.{Reply, given, refused, ◌>>=◌}, declared.refusal.Refusal.{Refusal}}}
 use Rattle.header.{proofs.Strings.{text_lies}, specs.{Header.{blame_of}, Text.{text_at, bytes_of}, declared.{header.Head.{Head}, text.{Blame.{Blame}, Text.{Text}}}}}
 use Rattle.table.specs.{Hits.{no_hit}, declared.hits.Hit.{Hit}}
-use Rattle.zones.specs.{Fields.{fields_place}, Simple.{part_of, begun, newer, picked_from, checked, told_picks}, declared.simple.{Picked.{Picked}, Picks.{Picks}, Value.{Value}}}
-use Rattle.zones.specs.declared.simple.Value.TheVariants as X
-use Rattle.zones.specs.declared.simple.Picks.TheVariants as P
-use Rattle.zones.specs.contracts.simple.Picks as K
+use Rattle.zones.specs.{Fields.{fields_place}, Simple.{part_of, begun, newer, picked_from, checked}, declared.simple.{Picked.{Picked}}}
+use Rattle.std.specs.Prelude.{Option, Some, None}
 
 abbrev fifteen : Blame
 fifteen = record { number = 15; detail = 0 }
@@ -52,26 +50,23 @@ module _ (file : List ℕ) (head : Head) (all : List Hit) (i : ℕ) {whole : Rep
   unfolding checked
   all_checked h = rw (drop_of_length-le all {i = i} h) at so_far
 
-  module _ (more : i < length all) {got : Hit} (is : got ≡ get_or all i no_hit) {place : ℕ} (p : place ≡ fields_place head got.metadata) (v : Picks)
-      (e : told_picks v ≡ picked_from file head head.preamble.count 0 7 place (begun head.preamble.kind)) where
-    unrolled : (told_picks v >>= λ picked. checked file head (drop (i + 1) all)) ≡ whole
+  module _ (more : i < length all) {got : Hit} (is : got ≡ get_or all i no_hit) {place : ℕ} (p : place ≡ fields_place head got.metadata) (v : Reply Picked)
+      (e : v ≡ picked_from file head head.preamble.count 0 7 place (begun head.preamble.kind)) where
+    unrolled : (v >>= λ picked. checked file head (drop (i + 1) all)) ≡ whole
     unfolding checked
     unrolled = let cons : drop i all ≡ got ∷ drop (i + 1) all = drop-cons all i no_hit more ∙ sym (λ j. is j ∷ drop (add-one i j) all) in
         rw (cons, ← p, ← e) at so_far
 
-    pub match_good : tag_of (declared K.enum) v ≡ 0 → checked file head (drop (i + 1) all) ≡ whole
-    match_good t = go v t unrolled where
-      go : (v : Picks) → tag_of (declared K.enum) v ≡ 0 → (told_picks v >>= λ picked. checked file head (drop (i + 1) all)) ≡ whole → checked file head (drop (i + 1) all) ≡ whole
-      go (P.Picked picked) t u = u
-      go (P.Refused why) t u = absurd (omega (arith, t))
+    pub match_good : {picked : Picked} → v ≡ given picked → checked file head (drop (i + 1) all) ≡ whole
+    match_good is = rw is at unrolled
 
-    pub match_bad : {why : Refusal} → v ≡ P.Refused why → refused why ≡ whole
+    pub match_bad : {why : Refusal} → v ≡ refused why → refused why ≡ whole
     match_bad is = rw is at unrolled
 
 -- ---- what is picked lies in the file
-unfoldable pub Inside : List ℕ → Value → Type 0
-Inside file (X.At text) = text.start + text.size ≤ length file
-Inside file X.Missing = Unit {0}
+unfoldable pub Inside : List ℕ → Option Text → Type 0
+Inside file (Some text) = text.start + text.size ≤ length file
+Inside file None = Unit {0}
 
 pub record Lying (file : List ℕ) (picked : Picked) : Type 0 where
   pub one : Inside file picked.one
@@ -81,7 +76,7 @@ module _ (file : List ℕ) where
   newer_lies : (part : ℕ) (value : Text) (last : Picked) → value.start + value.size ≤ length file → Lying file last → Lying file (newer part value last)
   unfolding Inside
   newer_lies part value last h l = go (eqb part 1) (eqb part 2) where
-    go : (a b : Bool) → Lying file (if a then record { one = X.At value; two = last.two } else (if b then record { one = last.one; two = X.At value } else last))
+    go : (a b : Bool) → Lying file (if a then record { one = Some value; two = last.two } else (if b then record { one = last.one; two = Some value } else last))
     go true b = record { one = h; two = l.two }
     go false true = record { one = l.one; two = h }
     go false false = l
@@ -89,7 +84,7 @@ module _ (file : List ℕ) where
   begun_lies : (kind : ℕ) → Lying file (begun kind)
   unfolding Inside
   begun_lies kind = go (eqb kind 0x54) where
-    go : (zone : Bool) → Lying file (record { one = X.Missing; two = if zone then X.Missing else X.At (record { start = 0; size = 0; next = 0 }) })
+    go : (zone : Bool) → Lying file (record { one = None; two = if zone then None else Some (record { start = 0; size = 0; next = 0 }) })
     go true = record { one = tt; two = tt }
     go false = record { one = tt; two = omega arith }
 
@@ -107,6 +102,6 @@ module _ (file : List ℕ) where
     pub picked_lies : {picked : Picked} (place : ℕ) → given picked ≡ picked_from file head head.preamble.count 0 7 place (begun head.preamble.kind) → Lying file picked
     picked_lies place e = from_lies head.preamble.count 0 7 place (begun head.preamble.kind) e (begun_lies head.preamble.kind)
 
-pub lies_at : (file : List ℕ) {text : Text} (value : Value) → value ≡ X.At text → Inside file value → text.start + text.size ≤ length file
+pub lies_at : (file : List ℕ) {text : Text} (value : Option Text) → value ≡ Some text → Inside file value → text.start + text.size ≤ length file
 unfolding Inside
-lies_at file value e h = subst (λ (v : Value). Inside file v) e h
+lies_at file value e h = subst (λ (v : Option Text). Inside file v) e h

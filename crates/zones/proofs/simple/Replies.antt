@@ -1,14 +1,12 @@
 -- From the matches to the outcome, by how far the code came, whatever was searched. Assumes nothing.
-use Rattle.numbers.proofs.Prelude.{ℕ, tag_of, declared, length, take, List, ◌≡◌, refl, ap, ◌∙◌, arith}
+use Rattle.numbers.proofs.Prelude.{ℕ, length, take, List, ◌≡◌, refl, ap, ◌∙◌}
 use Rattle.numbers.{proofs.Replies.{carried, onward}, specs.{Reply.{Reply, given, refused, ◌>>◌, ◌>>=◌}, declared.refusal.Refusal.{Refusal}}}
-use mathlib.Core.Option.{Option}
+use Rattle.std.specs.Prelude.{Option}
 use Rattle.table.{proofs.{Agreeing.{Gave, agree_given, agree_refused, gave, refused_so}, Matches.{count_is, matches_are}}, specs.{Find.{Matched, Matching}, Hits.{slots}}}
 use Rattle.table.specs.{declared.{find.Matches.{Matches}, hits.Hit.{Hit}}, inner.Agreeing.{Agrees}}
-use Rattle.zones.specs.{Lent.{Outcome, replied, replied_of, Filled}, Simple.{bytes_in, length_in, checked, worded_of, describing, Worded, ToldSimply, described_from, told_checked}}
-use Rattle.zones.specs.declared.simple.{Checked.{Checked}, Described.{Described}, Description.{Description}}
+use Rattle.zones.specs.{Lent.{Outcome, replied, replied_of, Filled}, Simple.{bytes_in, length_in, checked, worded_of, describing, Worded, ToldSimply, described_from}}
+use Rattle.zones.specs.declared.simple.{Described.{Described}}
 use Rattle.header.specs.declared.header.Head.{Head}
-use Rattle.zones.specs.declared.simple.Checked.TheVariants as C
-use Rattle.zones.specs.contracts.simple.Checked as K
 
 -- a step that gives nothing but that it was passed
 module _ {B : Type 0} {step : Reply (Unit {0})} where
@@ -18,10 +16,6 @@ module _ {B : Type 0} {step : Reply (Unit {0})} where
   passed : given tt ≡ step → (next : Reply B) → next ≡ (step >> next)
   passed e next = ap (λ (r : Reply (Unit {0})). r >> next) e
 
-pub is_good : (c : Checked) → tag_of (declared K.enum) c ≡ 0 → given tt ≡ told_checked c
-is_good C.Good t = refl
-is_good (C.Refused why) t = absurd (omega (arith, t))
-
 -- ---- after the search
 module _ (file : List ℕ) (head : Head) (room : ℕ) (matches : List Hit) (found : Matches) where
   abbrev Says : List ℕ → Reply Described → Type 0
@@ -30,11 +24,11 @@ module _ (file : List ℕ) (head : Head) (room : ℕ) (matches : List Hit) (foun
   pub not_checked : {why : Refusal} (text : List ℕ) → refused why ≡ checked file head matches → Says text (refused why)
   not_checked text e = agree_refused (ToldSimply room text found) (stopped_at e _)
 
-  module _ (good : given tt ≡ checked file head matches) (text : List ℕ) {reply : Reply Description} (a : Agrees (Worded room text) (worded_of file head room matches) reply) where
+  module _ (good : given tt ≡ checked file head matches) (text : List ℕ) {reply : Reply (Option ℕ)} (a : Agrees (Worded room text) (worded_of file head room matches) reply) where
     pub not_described : {why : Refusal} (text' : List ℕ) → reply ≡ refused why → Says text' (refused why)
     not_described text' e = agree_refused (ToldSimply room text' found) (refused_so (Worded room text) _ a e ∙ passed good _)
 
-    pub described : {d : Description} → reply ≡ given d → Says text (given (record { matches = found.count; mark = found.mark; description = d }))
+    pub described : {d : Option ℕ} → reply ≡ given d → Says text (given (record { matches = found.count; mark = found.mark; description = d }))
     described e = let words = gave (Worded room text) _ a e in
         agree_given (ToldSimply room text found) (words.is ∙ passed good _)
         (record { said = λ i. record { matches = found.count; mark = found.mark; description = words.fits.said i }; kept = words.fits.kept })

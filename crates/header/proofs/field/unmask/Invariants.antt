@@ -1,10 +1,7 @@
 -- `header::field::unmask` meets its contract.
-use Rattle.numbers.proofs.Prelude.{◌-◌, ◌≤◌, length, ◌≡◌}
+use Rattle.numbers.proofs.Prelude.{◌≤◌, length, ◌≡◌}
 use Rattle.header.proofs.field.{Entries.{unmasked_to}}
 use Rattle.header.proofs.field.unmask.Given as goal
 
 abbrev pub invariant-loop-i : goal.invariant-loop-i
-invariant-loop-i l = (l.i ≤ length l.stored) × (length l.stored ≤ length l.initial.text) × (l.text ≡ unmasked_to l.i l.stored l.initial.text)
-
-abbrev pub decreases-loop-i : goal.decreases-loop-i
-decreases-loop-i l = length l.stored - l.i
+invariant-loop-i l = (length l.stored ≤ length l.initial.text) × (l.text ≡ unmasked_to l.i l.stored l.initial.text)

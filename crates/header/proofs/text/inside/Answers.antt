@@ -11,12 +11,7 @@ returns-then-size-eq0 c =
 pub returns-then-file-start : goal.returns-then-file-start
 unfolding within
 returns-then-file-start c =
-    simp (ne_eqb _ _ c.if-size-eq0.false, lt-leb (c.args.start + c.args.size) (length c.args.file.now) (omega arith))
-
-pub returns-then-file-start-2 : goal.returns-then-file-start-2
-unfolding within
-returns-then-file-start-2 c =
-    simp (ne_eqb _ _ c.if-size-eq0.false, lt-leb (c.args.start + c.args.size) (length c.args.file.now) (omega arith))
+    simp (ne_eqb _ _ c.if-size-eq0.false, lt-leb (c.args.start + c.args.size) (length c.args.file.now) (grind arith))
 
 pub returns : goal.returns
 unfolding within

@@ -1,20 +1,19 @@
 -- `header::text::read_remote` meets its contract.
-use Rattle.numbers.proofs.{Answers.{chosen, other}, Laws.{goes_on, stops}, Prelude.{le-leb, lt-leb, ◌∙◌}}
+use Rattle.numbers.proofs.{Answers.{chosen, other}, Laws.{goes_on, exits}, Prelude.{le-leb, lt-leb, ◌∙◌}}
 use Rattle.header.specs.Text.{remote_at}
-use borrow.Enum.Refused.{opened}
 use Rattle.header.proofs.text.read_remote.Goals as goal
 
-pub returns-in_default : goal.returns-in_default
+pub returns-in_err-number : goal.returns-in_err-number
 unfolding remote_at
-returns-in_default c =
-    c.stopped.ensures ∙ stops c.read_number-answer.result c.read_number-answer.ensures (opened c.in_default.in_default-own.keys2) _ _
+returns-in_err-number c =
+    exits c.from_residual.result c.in_err-number.was c.read_number.ensures c.from_residual.ensures.1 _
 
 pub returns-then-number-gt256 : goal.returns-then-number-gt256
 unfolding remote_at
 returns-then-number-gt256 c =
-    other (lt-leb _ _ c.if-number-gt256.true) _ _ ∙ goes_on c.read_number-answer.result c.read_number-answer.ensures c.in-Number.is _
+    other (lt-leb _ _ c.if-number-gt256.true) _ _ ∙ goes_on c.read_number.result c.read_number.ensures c.in_ok-number.was _
 
 pub returns : goal.returns
 unfolding remote_at
 returns c =
-    c.inside.ensures ∙ chosen (le-leb _ _ c.if-number-gt256.false) _ _ ∙ goes_on c.read_number-answer.result c.read_number-answer.ensures c.in-Number.is _
+    c.inside.ensures ∙ chosen (le-leb _ _ c.if-number-gt256.false) _ _ ∙ goes_on c.read_number.result c.read_number.ensures c.in_ok-number.was _

@@ -1,36 +1,35 @@
 -- `header::text::read_text` meets its contract.
-use Rattle.numbers.{proofs.{Answers.{chosen, other}, Prelude.{sym, ap, ◌∙◌, arith}}, specs.Reply.{refused}}
-use Rattle.header.proofs.{Strings.{string_lies, part_is, is_failed}}
-use Rattle.header.specs.{Text.{or_blamed, text_at}, Utf8.{is_utf8}}
+use Rattle.numbers.{proofs.{Answers.{chosen, other}, Prelude.{◌≡◌, sym, ap, ◌∙◌, arith}, Replies.{passed_on}}, specs.{Answer.{found}, Reply.{refused}}}
+use Rattle.header.proofs.{Strings.{string_lies, part_is, blamed, given_found}}
+use Rattle.header.specs.{Text.{or_blamed, string_at, text_at}, Utf8.{is_utf8}}
 use Rattle.header.proofs.text.read_text.Goals as goal
+
+pub returns-in_err-text : goal.returns-in_err-text
+unfolding text_at
+returns-in_err-text c =
+    passed_on _ c.from_residual.ensures.1 ∙ blamed c.args.file.now c.args.blame (string_at c.args.strict c.args.file.now c.args.metadata c.args.place)
+    (rw (c.undecoded.ensures, c.in_err-text.was, c.read_string.ensures) at c.or_refuse.ensures)
 
 pub overflow_add-end : goal.overflow_add-end
 overflow_add-end c =
-    omega (arith, (string_lies c.args.file.now c.in-Text.text _ _ _ (rw c.in-Text.is at c.read_string.ensures)).inside)
+    let read : found c.in_ok-text.text ≡ string_at c.args.strict c.args.file.now c.args.metadata c.args.place = given_found _ _ (rw (c.in_ok-text.was, c.read_string.ensures) at c.or_refuse.ensures) in
+    omega (arith, (string_lies c.args.file.now c.in_ok-text.text _ _ _ read).inside)
 
 pub slice_bounds-is_utf8-end : goal.slice_bounds-is_utf8-end
 slice_bounds-is_utf8-end c =
-    omega (arith, (string_lies c.args.file.now c.in-Text.text _ _ _ (rw c.in-Text.is at c.read_string.ensures)).inside)
+    let read : found c.in_ok-text.text ≡ string_at c.args.strict c.args.file.now c.args.metadata c.args.place = given_found _ _ (rw (c.in_ok-text.was, c.read_string.ensures) at c.or_refuse.ensures) in
+    omega (arith, (string_lies c.args.file.now c.in_ok-text.text _ _ _ read).inside)
 
-pub returns-then-is_utf8 : goal.returns-then-is_utf8
+pub returns : goal.returns
 unfolding text_at
-returns-then-is_utf8 c =
-    chosen (sym (ap is_utf8 (part_is c.args.file.now c.in-Text.text)) ∙ sym c.is_utf8.ensures ∙ c.if-is_utf8.true) _ _
-    ∙ ap (or_blamed c.args.file.now c.args.blame) (rw c.in-Text.is at c.read_string.ensures)
+returns c =
+    let read : found c.in_ok-text.text ≡ string_at c.args.strict c.args.file.now c.args.metadata c.args.place = given_found _ _ (rw (c.in_ok-text.was, c.read_string.ensures) at c.or_refuse.ensures) in
+    chosen (sym (ap is_utf8 (part_is c.args.file.now c.in_ok-text.text)) ∙ sym c.is_utf8.ensures ∙ c.if-not-is_utf8.false) _ _
+    ∙ ap (or_blamed c.args.file.now c.args.blame) read
 
-pub returns-else-is_utf8 : goal.returns-else-is_utf8
+pub returns-then-not-is_utf8 : goal.returns-then-not-is_utf8
 unfolding text_at
-returns-else-is_utf8 c =
-    ap refused c.refuse.ensures ∙ other (sym (ap is_utf8 (part_is c.args.file.now c.in-Text.text)) ∙ sym c.is_utf8.ensures ∙ c.if-is_utf8.false) _ _
-    ∙ ap (or_blamed c.args.file.now c.args.blame) (rw c.in-Text.is at c.read_string.ensures)
-
-pub returns-in-Failed : goal.returns-in-Failed
-unfolding text_at
-returns-in-Failed c =
-    ap refused c.refuse-in-Failed.ensures ∙ ap (or_blamed c.args.file.now c.args.blame) (rw (is_failed c.read_string.result c.in-Failed.in-Failed-own.keys2) at
-    c.read_string.ensures)
-
-pub returns-in-Refused : goal.returns-in-Refused
-unfolding text_at
-returns-in-Refused c =
-    ap refused c.plain.ensures ∙ ap (or_blamed c.args.file.now c.args.blame) (rw c.in-Refused.is at c.read_string.ensures)
+returns-then-not-is_utf8 c =
+    let read : found c.in_ok-text.text ≡ string_at c.args.strict c.args.file.now c.args.metadata c.args.place = given_found _ _ (rw (c.in_ok-text.was, c.read_string.ensures) at c.or_refuse.ensures) in
+    ap refused c.not_utf8.ensures ∙ other (sym (ap is_utf8 (part_is c.args.file.now c.in_ok-text.text)) ∙ sym c.is_utf8.ensures ∙ c.if-not-is_utf8.true) _ _
+    ∙ ap (or_blamed c.args.file.now c.args.blame) read

@@ -2,6 +2,7 @@
 use Rattle.numbers.proofs.Prelude.{◌-◌, sym, ap, ◌∙◌}
 use Rattle.header.proofs.utf8.{Octets.{first_byte, too_low, too_high, right, tails}}
 use Rattle.header.specs.Utf8.{told_step}
+use Rattle.header.proofs.utf8.follow.Goals.{then-byte-pending-via-then-byte-pending, then-byte-pending-via-else-byte-pending+then-pending-byte}
 use Rattle.header.proofs.utf8.follow.Goals as goal
 
 pub returns-then-pending-eq0 : goal.returns-then-pending-eq0
@@ -10,11 +11,10 @@ returns-then-pending-eq0 c =
 
 pub returns-then-byte-pending : goal.returns-then-byte-pending
 returns-then-byte-pending c =
-    too_low c.args.pending c.args.byte c.if-pending-eq0.false c.if-byte-pending.true
-
-pub returns-then-pending-byte : goal.returns-then-pending-byte
-returns-then-pending-byte c =
-    too_high c.args.pending c.args.byte c.if-pending-eq0.false c.if-byte-pending.false c.if-pending-byte.true
+    elim c.then-byte-pending.branch [
+      | then-byte-pending-via-then-byte-pending w ↦ too_low c.args.pending c.args.byte c.if-pending-eq0.false w.if-byte-pending.true
+      | then-byte-pending-via-else-byte-pending+then-pending-byte w ↦ too_high c.args.pending c.args.byte c.if-pending-eq0.false w.if-byte-pending.false w.if-pending-byte.true
+    ]
 
 pub returns : goal.returns
 returns c =

@@ -1,32 +1,19 @@
 -- `header::utf8::is_utf8` meets its contract.
-use Rattle.numbers.proofs.Prelude.{arith}
 use Rattle.header.proofs.utf8.{Octets.{starts, goes, fails, ends}}
 use Rattle.header.proofs.utf8.is_utf8.Goals as goal
 
-pub loop-i-init : goal.loop-i-init
-loop-i-init c =
+pub loop-byte-init : goal.loop-byte-init
+loop-byte-init c =
     starts _
-
-pub bounds-stored-i : goal.bounds-stored-i
-bounds-stored-i c =
-    c.loop-i-test.true
 
 pub returns-in_default : goal.returns-in_default
 returns-in_default c =
-    fails c.loop-i.invariant c.loop-i-test.true c.follow-step.result c.follow-step.ensures c.in_default.in_default-own.keys2
+    fails c.loop-byte.invariant c.loop-byte-test.true c.follow.result c.follow.ensures c.in_default.is
 
-pub overflow_add-i : goal.overflow_add-i
-overflow_add-i c =
-    omega (arith, c.loop-i-test.true)
-
-pub loop-i-smaller : goal.loop-i-smaller
-loop-i-smaller c =
-    omega (arith, c.loop-i-test.true)
-
-pub loop-i-preserved : goal.loop-i-preserved
-loop-i-preserved c =
-    goes c.loop-i.invariant c.loop-i-test.true c.follow-step.result c.follow-step.ensures c.in-Due.is
+pub loop-byte-preserved : goal.loop-byte-preserved
+loop-byte-preserved c =
+    goes c.loop-byte.invariant c.loop-byte-test.true c.follow.result c.follow.ensures c.in-Some.is
 
 pub returns : goal.returns
 returns c =
-    ends c.loop-i.invariant c.loop-i-test.false
+    ends c.loop-byte.invariant c.loop-byte-test.false

@@ -19,7 +19,7 @@ shape_of-hits-then-rows-k c =
 pub returns-then-rows-k : goal.returns-then-rows-k
 returns-then-rows-k c =
     let judging : ℕ → ℕ → Judgement = judge_numbered c.args.file.now c.args.head c.args.fix c.args.asked c.args.records.now c.args.marks.now in
-    rw c.plain.ensures (no_record row_numbered judging c.args.fix c.args.records.now c.args.numbers.now _ _ c.loop-i.invariant c.loop-i-test.true c.wide-k.ensures.0
+    rw c.alone.ensures (no_record row_numbered judging c.args.fix c.args.records.now c.args.numbers.now _ _ c.loop-i.invariant c.loop-i-test.true c.wide-k.ensures.0
     _ c.if-rows-k.true)
 
 pub on_marked-turn-requires : goal.on_marked-turn-requires
@@ -50,7 +50,7 @@ returns-then-room-count c =
     + 1) in
     let turned_here : (t : Turn) → t ≡ c.on_marked-turn.result → Turned c.loop-i.invariant later t = λ t e. turned row_numbered judging c.args.fix c.args.records.now
     c.args.numbers.now _ _ c.loop-i.invariant c.loop-i-test.true c.wide-k.ensures.0 c.if-rows-k.false (e ∙ c.on_marked-turn.ensures) in
-    rw c.plain-then-room-count.ensures (full c.loop-i.invariant later _ _ (turned_here _ (sym c.in-Met.is)) _ (omega (arith, c.if-room-count.true, c.room-room.ensures)))
+    rw c.alone-then-room-count.ensures (full c.loop-i.invariant later _ _ (turned_here _ (sym c.in-Met.is)) _ (omega (arith, c.if-room-count.true, c.room-room.ensures)))
 
 pub put_hit-requires : goal.put_hit-requires
 put_hit-requires c =
@@ -99,7 +99,7 @@ returns-in-Refused c =
     + 1) in
     let turned_here : (t : Turn) → t ≡ c.on_marked-turn.result → Turned c.loop-i.invariant later t = λ t e. turned row_numbered judging c.args.fix c.args.records.now
     c.args.numbers.now _ _ c.loop-i.invariant c.loop-i-test.true c.wide-k.ensures.0 c.if-rows-k.false (e ∙ c.on_marked-turn.ensures) in
-    rw c.plain-in-Refused.ensures (refuses c.loop-i.invariant later _ (turned_here _ (sym c.in-Refused.is)))
+    rw c.plain.ensures (refuses c.loop-i.invariant later _ (turned_here _ (sym c.in-Refused.is)))
 
 pub shape_of-hits : goal.shape_of-hits
 shape_of-hits c =

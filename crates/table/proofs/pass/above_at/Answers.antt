@@ -9,13 +9,13 @@ returns-then-is_over c =
     let four = usual_four _ (omega (arith, c.requires)) seen.there in
     rw c.bounds_at-bounds.ensures (four, seen.above)
 
-pub pair_at-upper-requires : goal.pair_at-upper-requires
-pair_at-upper-requires c =
-    let lower = rw c.in-Are.is at c.pair_at-lower.ensures in
+pub pair_at-requires-2 : goal.pair_at-requires-2
+pair_at-requires-2 c =
+    let lower = rw c.in_ok-south.was at c.pair_at.ensures in
     omega (arith, c.requires, lower.0.close, lower.1.close)
 
 pub returns-then-is_above : goal.returns-then-is_above
 returns-then-is_above c =
-    let lower = rw c.in-Are.is at c.pair_at-lower.ensures in
-    let upper = rw c.in-Are-upper.is at c.pair_at-upper.ensures in
+    let lower = rw c.in_ok-south.was at c.pair_at.ensures in
+    let upper = rw c.in_ok-north.was at c.pair_at-2.ensures in
     (bounding lower.0 lower.1 upper.0 upper.1 c.bounds_of-bounds.ensures, sym c.is_above.ensures ∙ c.if-is_above.true)

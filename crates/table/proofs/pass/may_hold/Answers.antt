@@ -12,13 +12,13 @@ pub returns-in_default : goal.returns-in_default
 returns-in_default c =
     λ e. differ (sym e)
 
-pub returns-in_default-second : goal.returns-in_default-second
-returns-in_default-second c =
+pub returns-in_default-short_at : goal.returns-in_default-short_at
+returns-in_default-short_at c =
     λ e. differ (sym e)
 
 pub returns : goal.returns
 returns c =
     let low = to_z-of_z w32 _ (sfits_of c.signed.type_inv) ∙ c.signed.ensures in
     let high = to_z-of_z w32 _ (sfits_of c.signed-2.type_inv) ∙ c.signed-2.ensures in
-    lons_missed c.args.fix c.requires (rw c.in-Is.is at c.short_at-first.ensures) (rw c.in-Is-second.is at c.short_at-second.ensures) (c.lon_between.ensures
+    lons_missed c.args.fix c.requires (rw c.in-Some.is at c.short_at.ensures) (rw c.in-Some-short_at.is at c.short_at-2.ensures) (c.lon_between.ensures
     ∙ (λ i. between (low i) c.args.fix.lon.0 (high i)))

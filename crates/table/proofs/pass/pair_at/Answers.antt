@@ -2,13 +2,13 @@
 use Rattle.numbers.proofs.Prelude.{arith}
 use Rattle.table.proofs.pass.pair_at.Goals as goal
 
-pub short_at-other-requires : goal.short_at-other-requires
-short_at-other-requires c =
-    let first = rw c.in-Is.is at c.short_at-one.ensures in
+pub short_at-requires-2 : goal.short_at-requires-2
+short_at-requires-2 c =
+    let first = rw c.in_ok-first.was at c.short_at.ensures in
     omega (arith, c.requires, first.close)
 
 pub returns : goal.returns
 returns c =
-    let first = rw c.in-Is.is at c.short_at-one.ensures in
-    let second = rw c.in-Is-other.is at c.short_at-other.ensures in
+    let first = rw c.in_ok-first.was at c.short_at.ensures in
+    let second = rw c.in_ok-second.was at c.short_at-2.ensures in
     (first, second)

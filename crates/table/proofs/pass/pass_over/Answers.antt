@@ -11,8 +11,8 @@ pub loop-at-init : goal.loop-at-init
 loop-at-init c =
     stays _
 
-pub pass_row-passed-requires : goal.pass_row-passed-requires
-pass_row-passed-requires c =
+pub pass_row-requires : goal.pass_row-requires
+pass_row-requires c =
     omega (arith, c.loop-at-test.true, c.lesser-stop.ensures.1, c.if-file-lt-LONGEST.false)
 
 pub returns-in_default : goal.returns-in_default
@@ -21,11 +21,11 @@ returns-in_default c =
 
 pub loop-at-smaller : goal.loop-at-smaller
 loop-at-smaller c =
-    passes_less (omega (arith, c.loop-at-test.true, c.lesser-stop.ensures.0)) (rw c.in-On.is at c.pass_row-passed.ensures)
+    passes_less (omega (arith, c.loop-at-test.true, c.lesser-stop.ensures.0)) (rw c.in-Some.is at c.pass_row.ensures)
 
 pub loop-at-preserved : goal.loop-at-preserved
 loop-at-preserved c =
-    passes (omega (arith, c.loop-at-test.true, c.lesser-stop.ensures.0)) (rw c.in-On.is at c.pass_row-passed.ensures) c.loop-at.invariant
+    passes (omega (arith, c.loop-at-test.true, c.lesser-stop.ensures.0)) (rw c.in-Some.is at c.pass_row.ensures) c.loop-at.invariant
 
 pub returns : goal.returns
 returns c =

@@ -11,8 +11,8 @@ pub loop-place-init : goal.loop-place-init
 loop-place-init c =
     rest_stays _
 
-pub skip_row-skipped-requires : goal.skip_row-skipped-requires
-skip_row-skipped-requires c =
+pub skip_row-requires : goal.skip_row-requires
+skip_row-requires c =
     omega (arith, c.loop-place-test.true, c.lesser-stop.ensures.1, c.if-file-lt-LONGEST.false)
 
 pub returns-in_default : goal.returns-in_default
@@ -25,11 +25,11 @@ returns-then-end-next c =
 
 pub loop-place-smaller : goal.loop-place-smaller
 loop-place-smaller c =
-    skips_less (omega (arith, c.loop-place-test.true, c.lesser-stop.ensures.0)) (rw c.in-On.is at c.skip_row-skipped.ensures)
+    skips_less (omega (arith, c.loop-place-test.true, c.lesser-stop.ensures.0)) (rw c.in-Some.is at c.skip_row.ensures)
 
 pub loop-place-preserved : goal.loop-place-preserved
 loop-place-preserved c =
-    skips (omega (arith, c.loop-place-test.true, c.lesser-stop.ensures.0)) (rw c.in-On.is at c.skip_row-skipped.ensures) c.if-end-next.false c.loop-place.invariant
+    skips (omega (arith, c.loop-place-test.true, c.lesser-stop.ensures.0)) (rw c.in-Some.is at c.skip_row.ensures) c.if-end-next.false c.loop-place.invariant
 
 pub returns : goal.returns
 returns c =

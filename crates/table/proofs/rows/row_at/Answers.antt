@@ -1,17 +1,14 @@
--- `table::rows::row_at` meets its contract, by the entry's cases.
-use Rattle.numbers.proofs.Prelude.{rules, sym, ap, ◌∙◌}
-use Rattle.table.proofs.rows.{Entering.{row_read, row_failed, row_refused}}
-use Rattle.table.specs.Table.{told_entered}
+-- `table::rows::row_at` meets its contract.
+use Rattle.numbers.{proofs.{Laws.{exits}, Prelude.{sym, ap, ◌∙◌}}, specs.Varint.{told}}
+use Rattle.table.proofs.rows.{Entering.{row_read}}
+use Rattle.table.specs.Rows.{row_by}
 use Rattle.table.proofs.rows.row_at.Goals as goal
 
-pub returns-in-Entry : goal.returns-in-Entry
-returns-in-Entry c =
-    row_read _ _ (sym (ap told_entered c.in-Entry.is) ∙ c.entry_at-entered.ensures) c.row_of.ensures
+pub returns-in_err-entry : goal.returns-in_err-entry
+unfolding row_by
+returns-in_err-entry c =
+    exits c.from_residual.result c.in_err-entry.was c.entry_at.ensures c.from_residual.ensures.1 _
 
-pub returns-in-Failed : goal.returns-in-Failed
-returns-in-Failed c =
-    row_failed _ _ c.entry_at-entered.result ((search rules)) c.entry_at-entered.ensures
-
-pub returns-in-Refused : goal.returns-in-Refused
-returns-in-Refused c =
-    row_refused _ _ (sym (ap told_entered c.in-Refused.is) ∙ c.entry_at-entered.ensures)
+pub returns : goal.returns
+returns c =
+    row_read _ _ (sym (ap told c.in_ok-entry.was) ∙ c.entry_at.ensures) c.row_of.ensures

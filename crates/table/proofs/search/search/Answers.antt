@@ -1,9 +1,9 @@
 -- `table::search::search` meets its contract. The loop's invariant is `Going`: the hits so far stand at the front of words that are zero beyond them.
-use Rattle.numbers.{proofs.{Prelude.{rules, false, ◌≡◌, refl, sym, ap, ◌∙◌, arith}, Readings.{reading_grows}}, specs.{Answer.{found}, Varint.{reading_of}}}
+use Rattle.numbers.{proofs.{Prelude.{false, ◌≡◌, refl, sym, ap, ◌∙◌, arith}, Readings.{reading_grows}}, specs.{Answer.{found}, Varint.{told, reading_of}}}
 use Rattle.table.proofs.{TableRows.{at_end, at_row, at_unreadable, at_refused, row_less}, pass.Passing.{over_less}, rest.Remaining.{stopped_mark}}
 use Rattle.table.proofs.rows.Entering.{row_read, row_failed, row_refused}
-use Rattle.table.proofs.search.{Searching.{Going, starts, passed_on, early, stops, refuses, on, full, met}, SoFar.{kept_length}, Turns.{met_kind}}
-use Rattle.table.specs.{Rows.{row_by, rows_from, rows_in}, Search.{searched}, Table.{is_above, told_entered}, declared.rows.Row.{Row}}
+use Rattle.table.proofs.search.{Stopping.{stop_failed, stop_refused}, Searching.{Going, starts, passed_on, early, stops, refuses, on, full, met}, SoFar.{kept_length}, Turns.{met_kind}}
+use Rattle.table.specs.{Rows.{row_by, rows_from, rows_in}, Search.{searched}, Table.{is_above}, declared.rows.Row.{Row}}
 use Rattle.table.proofs.search.Searching as S
 use Rattle.table.proofs.search.search.Goals as goal
 
@@ -12,23 +12,24 @@ unfolding rows_in searched
 loop-at-init c =
     passed_on _ _ _ _ _ c.pass_over-at.ensures (starts _ _ _ _ _ _ c.requires (ap (rows_from _ _) c.start_at-start.ensures))
 
-pub shape_of-hits-in-Failed : goal.shape_of-hits-in-Failed
-shape_of-hits-in-Failed c =
+pub shape_of-hits-in_default : goal.shape_of-hits-in_default
+shape_of-hits-in_default c =
     kept_length c.loop-at.invariant
 
-pub returns-in-Failed : goal.returns-in-Failed
-returns-in-Failed c =
-    rw c.end_with.ensures (S.at_unreadable _ _ _ _ c.loop-at.invariant (at_unreadable _ (reading_grows _ _) _ c.loop-at-test.true (row_failed _ _ c.entry_at.result
-    ((search rules)) c.entry_at.ensures)))
+pub returns-in_default : goal.returns-in_default
+returns-in_default c =
+    rw c.end_with.ensures (S.at_unreadable _ _ _ _ c.loop-at.invariant (at_unreadable _ (reading_grows _ _) _ c.loop-at-test.true (row_failed _ _ (stop_failed c.in-Err.stop
+    (sym c.refusal.ensures ∙ c.in_default.is) ∙ (sym (ap told c.in-Err.is) ∙ c.entry_at.ensures)))))
 
-pub shape_of-hits-in-Refused : goal.shape_of-hits-in-Refused
-shape_of-hits-in-Refused c =
+pub shape_of-hits-in-Err : goal.shape_of-hits-in-Err
+shape_of-hits-in-Err c =
     kept_length c.loop-at.invariant
 
-pub returns-in-Refused : goal.returns-in-Refused
-returns-in-Refused c =
-    rw c.plain.ensures (S.at_refused _ _ _ _ c.loop-at.invariant _ (at_refused _ (reading_grows _ _) _ c.loop-at-test.true (row_refused _ _ (sym (ap told_entered
-    c.in-Refused.is) ∙ c.entry_at.ensures))))
+pub returns-in-Err : goal.returns-in-Err
+returns-in-Err c =
+    let stop = stop_refused c.in-Err.stop (sym c.refusal.ensures ∙ c.in-Some.is) in
+    rw (← stop.is) (S.at_refused _ _ _ _ c.loop-at.invariant _ (at_refused _ (reading_grows _ _) _ c.loop-at-test.true (row_refused _ _ (stop.reads ∙ (sym (ap told
+    c.in-Err.is) ∙ c.entry_at.ensures)))))
 
 pub rest_mark-requires : goal.rest_mark-requires
 rest_mark-requires c =
@@ -40,19 +41,19 @@ shape_of-hits-then-is_above c =
 
 pub returns-then-is_above : goal.returns-then-is_above
 returns-then-is_above c =
-    rw c.end_with-then-is_above.ensures (early _ _ _ _ c.loop-at.invariant (at_row _ (reading_grows _ _) _ c.loop-at-test.true (row_read _ _ (sym (ap told_entered
-    c.in-Entry.is) ∙ c.entry_at.ensures) refl) refl) (sym c.is_above.ensures ∙ c.if-is_above.true) (stopped_mark _ _ _ _ (sym c.is_above.ensures
+    rw c.end_with-then-is_above.ensures (early _ _ _ _ c.loop-at.invariant (at_row _ (reading_grows _ _) _ c.loop-at-test.true (row_read _ _ (sym (ap told
+    c.in-Ok.is) ∙ c.entry_at.ensures) refl) refl) (sym c.is_above.ensures ∙ c.if-is_above.true) (stopped_mark _ _ _ _ (sym c.is_above.ensures
     ∙ c.if-is_above.true) c.rest_mark.ensures))
 
 pub loop-at-smaller-in-On : goal.loop-at-smaller-in-On
 loop-at-smaller-in-On c =
-    let row_here : found c.row_of-row.result ≡ row_by (reading_of c.args.head.strict c.args.file.now) c.loop-at.at = row_read _ _ (sym (ap told_entered c.in-Entry.is)
+    let row_here : found c.row_of-row.result ≡ row_by (reading_of c.args.head.strict c.args.file.now) c.loop-at.at = row_read _ _ (sym (ap told c.in-Ok.is)
     ∙ c.entry_at.ensures) c.row_of-row.ensures in
     over_less _ (row_less _ (reading_grows _ _) _ c.loop-at-test.true row_here c.after-later.ensures) c.pass_over-at-in-loop-at.ensures
 
 pub loop-at-preserved-in-On : goal.loop-at-preserved-in-On
 loop-at-preserved-in-On c =
-    let row_here : found c.row_of-row.result ≡ row_by (reading_of c.args.head.strict c.args.file.now) c.loop-at.at = row_read _ _ (sym (ap told_entered c.in-Entry.is)
+    let row_here : found c.row_of-row.result ≡ row_by (reading_of c.args.head.strict c.args.file.now) c.loop-at.at = row_read _ _ (sym (ap told c.in-Ok.is)
     ∙ c.entry_at.ensures) c.row_of-row.ensures in
     let low_here : is_above c.row_of-row.result.bounds c.args.fix ≡ false = ap (λ (r : Row). is_above r.bounds c.args.fix) c.row_of-row.ensures
     ∙ sym c.is_above.ensures ∙ c.if-is_above.false in
@@ -65,11 +66,11 @@ shape_of-hits-then-room-count c =
 
 pub returns-then-room-count : goal.returns-then-room-count
 returns-then-room-count c =
-    let row_here : found c.row_of-row.result ≡ row_by (reading_of c.args.head.strict c.args.file.now) c.loop-at.at = row_read _ _ (sym (ap told_entered c.in-Entry.is)
+    let row_here : found c.row_of-row.result ≡ row_by (reading_of c.args.head.strict c.args.file.now) c.loop-at.at = row_read _ _ (sym (ap told c.in-Ok.is)
     ∙ c.entry_at.ensures) c.row_of-row.ensures in
     let low_here : is_above c.row_of-row.result.bounds c.args.fix ≡ false = ap (λ (r : Row). is_above r.bounds c.args.fix) c.row_of-row.ensures
     ∙ sym c.is_above.ensures ∙ c.if-is_above.false in
-    rw c.plain-then-room-count.ensures (full _ _ _ _ c.loop-at.invariant (at_row _ (reading_grows _ _) _ c.loop-at-test.true row_here c.after-later.ensures)
+    rw c.alone.ensures (full _ _ _ _ c.loop-at.invariant (at_row _ (reading_grows _ _) _ c.loop-at-test.true row_here c.after-later.ensures)
     low_here (sym c.in-Met.is ∙ c.on_row-turn.ensures) _ (omega (arith, c.if-room-count.true, c.room-room.ensures)))
 
 pub put_hit-requires : goal.put_hit-requires
@@ -82,13 +83,13 @@ overflow_add-count c =
 
 pub loop-at-smaller : goal.loop-at-smaller
 loop-at-smaller c =
-    let row_here : found c.row_of-row.result ≡ row_by (reading_of c.args.head.strict c.args.file.now) c.loop-at.at = row_read _ _ (sym (ap told_entered c.in-Entry.is)
+    let row_here : found c.row_of-row.result ≡ row_by (reading_of c.args.head.strict c.args.file.now) c.loop-at.at = row_read _ _ (sym (ap told c.in-Ok.is)
     ∙ c.entry_at.ensures) c.row_of-row.ensures in
     over_less _ (row_less _ (reading_grows _ _) _ c.loop-at-test.true row_here c.after-later.ensures) c.pass_over-at-in-loop-at.ensures
 
 pub loop-at-preserved : goal.loop-at-preserved
 loop-at-preserved c =
-    let row_here : found c.row_of-row.result ≡ row_by (reading_of c.args.head.strict c.args.file.now) c.loop-at.at = row_read _ _ (sym (ap told_entered c.in-Entry.is)
+    let row_here : found c.row_of-row.result ≡ row_by (reading_of c.args.head.strict c.args.file.now) c.loop-at.at = row_read _ _ (sym (ap told c.in-Ok.is)
     ∙ c.entry_at.ensures) c.row_of-row.ensures in
     let low_here : is_above c.row_of-row.result.bounds c.args.fix ≡ false = ap (λ (r : Row). is_above r.bounds c.args.fix) c.row_of-row.ensures
     ∙ sym c.is_above.ensures ∙ c.if-is_above.false in
@@ -102,25 +103,25 @@ shape_of-hits-in-Stopped c =
 
 pub returns-in-Stopped : goal.returns-in-Stopped
 returns-in-Stopped c =
-    let row_here : found c.row_of-row.result ≡ row_by (reading_of c.args.head.strict c.args.file.now) c.loop-at.at = row_read _ _ (sym (ap told_entered c.in-Entry.is)
+    let row_here : found c.row_of-row.result ≡ row_by (reading_of c.args.head.strict c.args.file.now) c.loop-at.at = row_read _ _ (sym (ap told c.in-Ok.is)
     ∙ c.entry_at.ensures) c.row_of-row.ensures in
     let low_here : is_above c.row_of-row.result.bounds c.args.fix ≡ false = ap (λ (r : Row). is_above r.bounds c.args.fix) c.row_of-row.ensures
     ∙ sym c.is_above.ensures ∙ c.if-is_above.false in
     rw c.end_with-in-Stopped.ensures (stops _ _ _ _ c.loop-at.invariant (at_row _ (reading_grows _ _) _ c.loop-at-test.true row_here c.after-later.ensures) low_here
     (sym c.in-Stopped.is ∙ c.on_row-turn.ensures))
 
-pub shape_of-hits-in-Refused-turn : goal.shape_of-hits-in-Refused-turn
-shape_of-hits-in-Refused-turn c =
+pub shape_of-hits-in-Refused : goal.shape_of-hits-in-Refused
+shape_of-hits-in-Refused c =
     kept_length c.loop-at.invariant
 
-pub returns-in-Refused-turn : goal.returns-in-Refused-turn
-returns-in-Refused-turn c =
-    let row_here : found c.row_of-row.result ≡ row_by (reading_of c.args.head.strict c.args.file.now) c.loop-at.at = row_read _ _ (sym (ap told_entered c.in-Entry.is)
+pub returns-in-Refused : goal.returns-in-Refused
+returns-in-Refused c =
+    let row_here : found c.row_of-row.result ≡ row_by (reading_of c.args.head.strict c.args.file.now) c.loop-at.at = row_read _ _ (sym (ap told c.in-Ok.is)
     ∙ c.entry_at.ensures) c.row_of-row.ensures in
     let low_here : is_above c.row_of-row.result.bounds c.args.fix ≡ false = ap (λ (r : Row). is_above r.bounds c.args.fix) c.row_of-row.ensures
     ∙ sym c.is_above.ensures ∙ c.if-is_above.false in
-    rw c.plain-in-Refused-turn.ensures (refuses _ _ _ _ c.loop-at.invariant (at_row _ (reading_grows _ _) _ c.loop-at-test.true row_here c.after-later.ensures)
-    low_here _ (sym c.in-Refused-turn.is ∙ c.on_row-turn.ensures))
+    rw c.plain.ensures (refuses _ _ _ _ c.loop-at.invariant (at_row _ (reading_grows _ _) _ c.loop-at-test.true row_here c.after-later.ensures)
+    low_here _ (sym c.in-Refused.is ∙ c.on_row-turn.ensures))
 
 pub shape_of-hits : goal.shape_of-hits
 shape_of-hits c =

@@ -1,22 +1,20 @@
--- `table::table::steps_at` meets its contract, by what `read_forward` promises.
-use Rattle.numbers.proofs.{Laws.{goes_on, stops}, Prelude.{◌∙◌}}
+-- `table::table::steps_at` meets its contract, by what `read_number` promises.
+use Rattle.numbers.proofs.{Laws.{exits, goes_on}, Prelude.{◌∙◌}}
 use Rattle.table.specs.Table.{steps_by}
-use borrow.Enum.Refused.{opened}
 use Rattle.table.proofs.table.steps_at.Goals as goal
 
-pub returns-in_default : goal.returns-in_default
+pub returns-in_err-metadata : goal.returns-in_err-metadata
 unfolding steps_by
-returns-in_default c =
-    c.stopped.ensures ∙ stops c.read_number-fifth.result c.read_number-fifth.ensures (opened c.in_default.in_default-own.keys2) _ _
+returns-in_err-metadata c =
+    exits c.from_residual.result c.in_err-metadata.was c.read_number.ensures c.from_residual.ensures.1 _
 
-pub returns-in_default-sixth : goal.returns-in_default-sixth
+pub returns-in_err-polygon : goal.returns-in_err-polygon
 unfolding steps_by
-returns-in_default-sixth c =
-    c.stopped-in_default-sixth.ensures ∙ stops c.read_number-sixth.result c.read_number-sixth.ensures (opened c.in_default-sixth.in_default-sixth-own.keys2) _ _
-    ∙ goes_on c.read_number-fifth.result c.read_number-fifth.ensures c.in-Number.is _
+returns-in_err-polygon c =
+    exits c.from_residual-in_err-polygon.result c.in_err-polygon.was c.read_number-2.ensures c.from_residual-in_err-polygon.ensures.1 _
+    ∙ goes_on c.read_number.result c.read_number.ensures c.in_ok-metadata.was _
 
 pub returns : goal.returns
 unfolding steps_by
 returns c =
-    goes_on c.read_number-sixth.result c.read_number-sixth.ensures c.in-Number-sixth.is _ ∙ goes_on c.read_number-fifth.result c.read_number-fifth.ensures
-    c.in-Number.is _
+    goes_on c.read_number-2.result c.read_number-2.ensures c.in_ok-polygon.was _ ∙ goes_on c.read_number.result c.read_number.ensures c.in_ok-metadata.was _

@@ -1,6 +1,6 @@
 -- `zones::fields::write_match` meets its contract. The loop's invariant is `Filling`: the text so far stands at the front of a buffer that is zero
 -- beyond it.
-use Rattle.numbers.proofs.Prelude.{refl, arith}
+use Rattle.numbers.proofs.{Prelude.{refl, arith}, Replies.{passed_on}}
 use Rattle.zones.proofs.fields.{Filling.{starts, filling_length, ends, faulted, kept_length, filled}}
 use Rattle.zones.proofs.fields.write_match.Goals as goal
 
@@ -16,20 +16,20 @@ pub slice_bounds-write_field-start : goal.slice_bounds-write_field-start
 slice_bounds-write_field-start c =
     omega (arith, c.loop-tag.invariant.held.fits, filling_length _ _ _ _ c.loop-tag.invariant)
 
-pub shape_of-text-in-Refused : goal.shape_of-text-in-Refused
-shape_of-text-in-Refused c =
+pub shape_of-text-in_err-field : goal.shape_of-text-in_err-field
+shape_of-text-in_err-field c =
     kept_length _ _ _ _ c.loop-tag.invariant c.loop-tag-test.true c.write_field.result c.write_field.new.text c.write_field.ensures.0 c.write_field.ensures.1
 
-pub returns-in-Refused : goal.returns-in-Refused
-returns-in-Refused c =
-    faulted _ _ _ _ c.loop-tag.invariant c.loop-tag-test.true c.write_field.result c.write_field.new.text c.write_field.ensures.0 _ c.in-Refused.is
+pub returns-in_err-field : goal.returns-in_err-field
+returns-in_err-field c =
+    rw (passed_on _ c.from_residual.ensures.1) (faulted _ _ _ _ c.loop-tag.invariant c.loop-tag-test.true c.write_field.result c.write_field.new.text c.write_field.ensures.0 _ c.in_err-field.was)
 
 pub overflow_add-at : goal.overflow_add-at
 overflow_add-at c =
     omega (
       arith,
       ((filled _ _ _ _ c.loop-tag.invariant c.loop-tag-test.true c.write_field.result c.write_field.new.text c.write_field.ensures.0
-          c.write_field.ensures.1 c.in-Field.is)).held.fits,
+          c.write_field.ensures.1 c.in_ok-field.was)).held.fits,
       c.well_formed,
     )
 
@@ -43,7 +43,7 @@ loop-tag-smaller c =
 
 pub loop-tag-preserved : goal.loop-tag-preserved
 loop-tag-preserved c =
-    filled _ _ _ _ c.loop-tag.invariant c.loop-tag-test.true c.write_field.result c.write_field.new.text c.write_field.ensures.0 c.write_field.ensures.1 c.in-Field.is
+    filled _ _ _ _ c.loop-tag.invariant c.loop-tag-test.true c.write_field.result c.write_field.new.text c.write_field.ensures.0 c.write_field.ensures.1 c.in_ok-field.was
 
 pub shape_of-text : goal.shape_of-text
 shape_of-text c =

@@ -1,24 +1,19 @@
--- `zones::marked::lookup_marked` meets its contract: a text of zeros, then the lookup, then zeros again where it refused.
-use Rattle.numbers.{proofs.Prelude.{rules, length, refl, ap, ◌∙◌}, specs.Lists.{zeros}}
-use Rattle.header.proofs.Buffers.{of_length, all_zero}
-use Rattle.zones.proofs.{Replying.{given_reply, refused_reply}}
-use Rattle.zones.specs.{Lookup.{told_looked}, Marked.{zones_marked, looked_marked}}
+-- `zones::marked::lookup_marked` meets its contract: the answer to what its search found.
+use Rattle.numbers.proofs.Prelude.{rules, length, ◌≡◌, ◌∙◌}
+use Rattle.table.proofs.Matches.{marked_agrees}
+use Rattle.zones.proofs.lookup.Keeping.{kept_in, matched_is}
+use Rattle.zones.specs.{Lent.{replied_of}, Lookup.{zones_from}}
+use Rattle.zones.specs.Marked.{zones_marked, looked_marked}
 use Rattle.zones.proofs.marked.lookup_marked.Goals as goal
 
-pub look_marked-requires : goal.look_marked-requires
-look_marked-requires c =
-    all_zero _ (length c.args.text.now) c.zero.ensures
-
-pub returns-in-Refused : goal.returns-in-Refused
-unfolding looked_marked
-returns-in-Refused c =
-    refused_reply (zones_marked c.args.file.now c.args.head c.args.location c.args.asked c.args.records.now c.args.numbers.now c.args.marks.now) (told_looked
-    c.look_marked.result) _ _ refl (of_length _ (length c.args.text.now) c.zero.ensures) c.look_marked.ensures (ap told_looked c.in-Refused.is) (all_zero _
-    (length c.look_marked.new.hits) c.zero_both.ensures.0 ∙ ap zeros ((search rules))) (all_zero _ (length c.look_marked.new.text) c.zero_both.ensures.1
-    ∙ ap zeros ((search rules)))
+pub answer-requires : goal.answer-requires
+answer-requires c =
+    let same : length c.find_marked-found.new.hits ≡ length c.args.hits.now = search rules in
+    kept_in _ same _ _ (marked_agrees c.args.file.now c.args.head c.args.location c.args.asked c.args.records.now c.args.numbers.now c.args.marks.now (length c.args.hits.now) _ _ c.find_marked-found.ensures)
 
 pub returns : goal.returns
-unfolding looked_marked
+unfolding looked_marked zones_marked
 returns c =
-    given_reply (zones_marked c.args.file.now c.args.head c.args.location c.args.asked c.args.records.now c.args.numbers.now c.args.marks.now) (told_looked
-    c.look_marked.result) _ _ refl (of_length _ (length c.args.text.now) c.zero.ensures) c.look_marked.ensures (ap told_looked c.in-Zones.is)
+    let same : length c.find_marked-found.new.hits ≡ length c.args.hits.now = search rules in
+    let found = marked_agrees c.args.file.now c.args.head c.args.location c.args.asked c.args.records.now c.args.numbers.now c.args.marks.now (length c.args.hits.now) _ _ c.find_marked-found.ensures in
+    c.answer.ensures ∙ (λ i. replied_of (same i) (length c.args.text.now) (zones_from c.args.file.now c.args.head c.args.asked (length c.args.text.now) (matched_is _ same _ _ found i)))

@@ -7,11 +7,11 @@ use Rattle.zones.proofs.simple.join.Goals as goal
 
 pub returns-then-text-size : goal.returns-then-text-size
 returns-then-text-size c =
-    rw c.plain.ensures (no_room _ _ _ _ _ c.requires.1 c.requires.2 (omega (arith, c.if-text-size.true)))
+    rw c.alone.ensures (no_room _ _ _ _ _ c.requires.1 c.requires.2 (omega (arith, c.if-text-size.true)))
 
 pub returns-then-text-size-2 : goal.returns-then-text-size-2
 returns-then-text-size-2 c =
-    rw c.plain-then-text-size-2.ensures (no_room _ _ _ _ _ c.requires.1 c.requires.2 (omega (arith, c.if-text-size.false, c.if-text-size-2.true)))
+    rw c.alone-then-text-size-2.ensures (no_room _ _ _ _ _ c.requires.1 c.requires.2 (omega (arith, c.if-text-size.false, c.if-text-size-2.true)))
 
 pub unmask-requires-2 : goal.unmask-requires-2
 unmask-requires-2 c =

@@ -1,23 +1,23 @@
 -- `zones::simple::simple_lookup_in` meets its contract: a text of zeros, then the lookup, then zeros again where it refused.
-use Rattle.numbers.{proofs.Prelude.{rules, length, refl, ap, ◌∙◌}, specs.Lists.{zeros}}
+use Rattle.numbers.{proofs.Prelude.{rules, length, refl, sym, ap, ◌∙◌}, specs.Lists.{zeros}}
 use Rattle.header.proofs.Buffers.{of_length, all_zero}
 use Rattle.zones.proofs.{Replying.{given_reply, refused_reply}}
-use Rattle.zones.specs.Simple.{described_with, simply_looked_with, told_simple}
+use Rattle.zones.specs.Simple.{described_with, simply_looked_with}
 use Rattle.zones.proofs.simple.simple_lookup_in.Goals as goal
 
-pub look-requires : goal.look-requires
-look-requires c =
+pub look-described-requires : goal.look-described-requires
+look-described-requires c =
     all_zero _ (length c.args.text.now) c.zero.ensures
 
-pub returns-in-Refused : goal.returns-in-Refused
+pub returns-then-is_err : goal.returns-then-is_err
 unfolding simply_looked_with
-returns-in-Refused c =
-    refused_reply (described_with c.args.file.now c.args.head c.args.location) (told_simple c.look.result) _ _ refl (of_length _ (length c.args.text.now)
-    c.zero.ensures) c.look.ensures (ap told_simple c.in-Refused.is) (all_zero _ (length c.look.new.hits) c.zero_both.ensures.0
-    ∙ ap zeros ((search rules))) (all_zero _ (length c.look.new.text) c.zero_both.ensures.1 ∙ ap zeros ((search rules)))
+returns-then-is_err c =
+    refused_reply (described_with c.args.file.now c.args.head c.args.location) c.look-described.result _ _ refl (of_length _ (length c.args.text.now) c.zero.ensures) c.look-described.ensures
+    (all_zero _ (length c.look-described.new.hits) c.zero_both.ensures.0 ∙ ap zeros ((search rules))) (all_zero _ (length c.look-described.new.text) c.zero_both.ensures.1 ∙ ap zeros ((search rules)))
+    (sym c.is_err.ensures.value ∙ c.if-is_err.true)
 
-pub returns : goal.returns
+pub returns-else-is_err : goal.returns-else-is_err
 unfolding simply_looked_with
-returns c =
-    given_reply (described_with c.args.file.now c.args.head c.args.location) (told_simple c.look.result) _ _ refl (of_length _ (length c.args.text.now)
-    c.zero.ensures) c.look.ensures (ap told_simple c.in-Described.is)
+returns-else-is_err c =
+    given_reply (described_with c.args.file.now c.args.head c.args.location) c.look-described.result _ _ refl (of_length _ (length c.args.text.now) c.zero.ensures) c.look-described.ensures
+    (sym c.is_err.ensures.value ∙ c.if-is_err.false)
