@@ -4,8 +4,8 @@ use Rattle.numbers.{proofs.Prelude.{refl, sym, ap, subst, ◌∙◌, arith}, spe
 use lib.IntN.{+ℤ-neg_ℤ_cancel}
 use Rattle.calendar.proofs.{Days.{short_year, day_date}, Laws.{days_in_all, epoch}, Rising.{Between}, SameCivil.{same_civil}, civil.Clock.{shows}, moment.Shift.{day_second, seconds_of}}
 use Rattle.calendar.specs.{Calendar.{is_leap, days_of_years, days_of_months}, Civil.{last_up_to, years_by, months_by, reading_of, reading_at, civil_at, Shows, CivilOf}}
-use Rattle.calendar.specs.{Moments.{seconds_to, instant_of, MomentOf}, declared.civil.Civil.{Civil}}
-use Rattle.calendar.specs.declared.civil.Civil.TheVariants as civil
+use Rattle.calendar.specs.{Moments.{seconds_to, instant_of, MomentOf}, declared.civil.Reading.{Reading}}
+use Rattle.std.specs.Prelude.{Option, Some, None}
 
 -- 1970 begins so many seconds after the year 1
 epoch_seconds : 62135596800 ≡ seconds_to (days_of_years 1969) 0
@@ -54,7 +54,7 @@ at_seconds local (pos n) e instant offset is = here (ltb (n / 86400) (days_of_ye
   back : pos n -ℤ pos 62135596800 ≡ local
   back = ap (λ (s : ℤ). s -ℤ pos 62135596800) (sym e) ∙ +ℤ-neg_ℤ_cancel local (pos 62135596800)
 
-  here : (t : Bool) → ltb (n / 86400) (days_of_years 9999) ≡ t → CivilOf instant offset (if t then civil.Shown (reading_of (n / 86400) (n % 86400)) else civil.Outside)
+  here : (t : Bool) → ltb (n / 86400) (days_of_years 9999) ≡ t → CivilOf instant offset (if t then Some (reading_of (n / 86400) (n % 86400)) else None)
   here true d = let there = day_second local n (omega (arith, ltb-true (n / 86400) (days_of_years 9999) d, days_in_all)) back in
       subst (λ (z : ℤ). Shows z (reading_of (n / 86400) (n % 86400))) (there.1 ∙ sym is) (reading_shows (n / 86400) (ltb-true (n / 86400) (days_of_years 9999) d) (n % 86400) (omega arith))
   here false d = λ day second i m. let same : pos n ≡ pos (86400 * day + second) = sym e ∙ seconds_of local day second (m ∙ is) in
@@ -68,5 +68,5 @@ unfolding civil_at seconds_to
 civil_at_is instant offset = at_seconds (instant +ℤ offset) _ (ap (λ (n : ℕ). instant +ℤ offset +ℤ pos n) epoch_seconds) instant offset refl
 
 -- and so the only one
-pub is_civil_at : (instant offset : ℤ) (c : Civil) → CivilOf instant offset c → c ≡ civil_at instant offset
+pub is_civil_at : (instant offset : ℤ) (c : Option Reading) → CivilOf instant offset c → c ≡ civil_at instant offset
 is_civil_at instant offset c h = same_civil instant offset c (civil_at instant offset) h (civil_at_is instant offset)

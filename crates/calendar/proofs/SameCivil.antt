@@ -1,9 +1,9 @@
 -- The clock's answer is one, and the moment's. Assumes nothing.
 use Rattle.numbers.proofs.Prelude.{ℕ, ◌+◌, ◌*◌, ℤ, ◌≡◌, refl, sym, ap, ◌∙◌, arith}
 use Rattle.calendar.proofs.{Dates.{unique, number_short}, Laws.{days_in_all}, Unique.{one_moment}}
-use Rattle.calendar.specs.{Calendar.{day_number, weekday_of}, Civil.{Shows, CivilOf}, Moments.{InDays, MomentOf}, declared.civil.{Civil.{Civil, TheVariants.{Shown, Outside}}, Reading.{Reading}}}
+use Rattle.calendar.specs.{Calendar.{day_number, weekday_of}, Civil.{Shows, CivilOf}, Moments.{InDays, MomentOf}, declared.civil.Reading.{Reading}}
+use Rattle.std.specs.Prelude.{Option, Some, None}
 use Rattle.calendar.specs.declared.moment.Moment.{Moment}
-use Rattle.calendar.specs.declared.moment.Moment.TheVariants as m
 
 -- a reading is of a second of these days
 in_days : (local : ℤ) (r : Reading) → Shows local r → InDays (day_number r.year r.month r.day) (3600 * r.hour + 60 * r.minute + r.second)
@@ -29,17 +29,20 @@ same_reading local r q s t = let moment = one_moment _ _ _ _ (in_days local r s)
     (s.weekday ∙ ap weekday_of moment.0 ∙ sym t.weekday)
 
 -- two answers that the promise of `civil_time` permits are equal
-pub same_civil : (instant offset : ℤ) (a b : Civil) → CivilOf instant offset a → CivilOf instant offset b → a ≡ b
+pub same_civil : (instant offset : ℤ) (a b : Option Reading) → CivilOf instant offset a → CivilOf instant offset b → a ≡ b
 unfolding CivilOf MomentOf
-same_civil instant offset (Shown r) (Shown q) s t = ap Shown (same_reading _ r q s t)
-same_civil instant offset (Shown r) Outside s t = absurd (t _ _ (in_days _ r s) s.back)
-same_civil instant offset Outside (Shown q) s t = absurd (s _ _ (in_days _ q t) t.back)
-same_civil instant offset Outside Outside s t = refl
+same_civil instant offset (Some r) (Some q) s t = ap Some (same_reading _ r q s t)
+same_civil instant offset (Some r) None s t = absurd (t _ _ (in_days _ r s) s.back)
+same_civil instant offset None (Some q) s t = absurd (s _ _ (in_days _ q t) t.back)
+same_civil instant offset None None s t = refl
+
+same_at : (p q : Moment) → p.day ≡ q.day → p.second ≡ q.second → p ≡ q
+same_at p q d s = λ i. record { day = d i; second = s i }
 
 -- two answers that the promise of `moment_of` permits are equal
-pub same_moment : (instant : ℤ) (a b : Moment) → MomentOf instant a → MomentOf instant b → a ≡ b
+pub same_moment : (instant : ℤ) (a b : Option Moment) → MomentOf instant a → MomentOf instant b → a ≡ b
 unfolding MomentOf
-same_moment instant (m.At day second) (m.At day' second') p q = let one = one_moment day second day' second' p.0 q.0 (p.1 ∙ sym q.1) in λ i. m.At (one.0 i) (one.1 i)
-same_moment instant (m.At day second) m.Outside p q = absurd (q day second p.0 p.1)
-same_moment instant m.Outside (m.At day second) p q = absurd (p day second q.0 q.1)
-same_moment instant m.Outside m.Outside p q = refl
+same_moment instant (Some p) (Some q) h k = let one = one_moment p.day p.second q.day q.second h.0 k.0 (h.1 ∙ sym k.1) in ap Some (same_at p q one.0 one.1)
+same_moment instant (Some p) None h k = absurd (k p.day p.second h.0 h.1)
+same_moment instant None (Some q) h k = absurd (h q.day q.second k.0 k.1)
+same_moment instant None None h k = refl

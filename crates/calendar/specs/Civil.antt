@@ -1,10 +1,8 @@
 -- The date and the time of day that a clock shows, so many seconds east of UT.
-use Rattle.std.specs.Prelude.{if◌then◌else◌, ◌+◌, ◌-◌, ◌*◌, ◌/◌, ◌%◌, ◌≤◌, ◌+ℤ◌, ◌≡◌}
+use Rattle.std.specs.Prelude.{Option, Some, None, if◌then◌else◌, ◌+◌, ◌-◌, ◌*◌, ◌/◌, ◌%◌, ◌≤◌, ◌+ℤ◌, ◌≡◌}
 use Rattle.numbers.specs.Prelude.{ℕ, zero, suc, ltb, leb, ℤ, pos, negsuc, Bool}
-use Rattle.calendar.specs.{Calendar.{is_leap, days_of_years, days_of_months, day_number, weekday_of, IsDate}, Moments.{seconds_to, instant_of, MomentOf}, declared.civil.Civil.{Civil}}
+use Rattle.calendar.specs.{Calendar.{is_leap, days_of_years, days_of_months, day_number, weekday_of, IsDate}, Moments.{seconds_to, instant_of, MomentOf}}
 use Rattle.calendar.specs.declared.civil.Reading.{Reading}
-use Rattle.calendar.specs.declared.civil.Civil.TheVariants as civil
-use Rattle.calendar.specs.declared.moment.Moment.TheVariants as moments
 
 -- what the clock shows at an instant of its own
 pub record Shows (local : ℤ) (reading : Reading) : Type 0 where
@@ -17,9 +15,9 @@ pub record Shows (local : ℤ) (reading : Reading) : Type 0 where
   pub back : instant_of (day_number reading.year reading.month reading.day) (3600 * reading.hour + 60 * reading.minute + reading.second) ≡ local
 
 -- what the clock shows, or it is outside the years 1 to 9999
-unfoldable pub CivilOf : ℤ → ℤ → Civil → Type 0
-CivilOf instant offset (civil.Shown reading) = Shows (instant +ℤ offset) reading
-CivilOf instant offset civil.Outside = MomentOf (instant +ℤ offset) moments.Outside
+unfoldable pub CivilOf : ℤ → ℤ → Option Reading → Type 0
+CivilOf instant offset (Some reading) = Shows (instant +ℤ offset) reading
+CivilOf instant offset None = MomentOf (instant +ℤ offset) None
 
 -- ---- the same as a function
 -- the last step, of at most so many, whose count is not above a number
@@ -51,10 +49,10 @@ reading_of day second =
     }
 
 -- so many seconds from the start of the year 1; none before it
-unfoldable pub reading_at : ℤ → Civil
-reading_at (pos seconds) = if ltb (seconds / 86400) (days_of_years 9999) then civil.Shown (reading_of (seconds / 86400) (seconds % 86400)) else civil.Outside
-reading_at (negsuc seconds) = civil.Outside
+unfoldable pub reading_at : ℤ → Option Reading
+reading_at (pos seconds) = if ltb (seconds / 86400) (days_of_years 9999) then Some (reading_of (seconds / 86400) (seconds % 86400)) else None
+reading_at (negsuc seconds) = None
 
 -- what the clock shows at an instant, so many seconds east of UT: `CivilOf`'s one answer (`is_civil_at`)
-unfoldable pub civil_at : ℤ → ℤ → Civil
+unfoldable pub civil_at : ℤ → ℤ → Option Reading
 civil_at instant offset = reading_at (instant +ℤ offset +ℤ pos (seconds_to (days_of_years 1969) 0))

@@ -17,33 +17,27 @@ pub struct Reading {
     pub weekday: u64,
 }
 
-// What a clock shows, or it is outside the years 1 to 9999.
-#[derive(Clone, Copy)]
-pub enum Civil {
-    Shown(Reading),
-    Outside,
-}
-
 // The day and the second of an instant by a clock that is ahead. No i32 brings an instant back from beyond these bounds; inside them the sum
 // fits.
-fn local_moment(instant: i64, offset: i32) -> Moment
+fn local_moment(instant: i64, offset: i32) -> Option<Moment>
     ensures { MomentOf (instant +ℤ offset) result }
 {
     if instant < -70000000000 {
-        return Moment::Outside;
+        return None;
     }
     if 260000000000 < instant {
-        return Moment::Outside;
+        return None;
     }
     moment_of(instant + offset as i64)
 }
 
 // What a clock shows at a second of a day.
-fn shown(day: u64, second: u64) -> Reading
-    requires { InDays day second }
-    ensures { Shows (instant_of day second) result }
+fn shown(moment: Moment) -> Reading
+    requires { InDays moment.day moment.second }
+    ensures { Shows (instant_of moment.day moment.second) result }
 {
-    let date = date_at(day);
+    let date = date_at(moment.day);
+    let second = moment.second;
     Reading {
         year: date.year,
         month: date.month,
@@ -51,17 +45,14 @@ fn shown(day: u64, second: u64) -> Reading
         hour: second / 3600,
         minute: second / 60 % 60,
         second: second % 60,
-        weekday: weekday_of(day),
+        weekday: weekday_of(moment.day),
     }
 }
 
-// What a clock shows at an instant, so many seconds east of UT.
-pub fn civil_time(instant: i64, offset: i32) -> Civil
+// What a clock shows at an instant, so many seconds east of UT; none outside the years 1 to 9999.
+pub fn civil_time(instant: i64, offset: i32) -> Option<Reading>
     ensures { CivilOf instant offset result }
 {
-    let moment = local_moment(instant, offset);
-    match moment {
-        Moment::At { day, second } => Civil::Shown(shown(day, second)),
-        Moment::Outside => Civil::Outside,
-    }
+    let moment = local_moment(instant, offset)?;
+    Some(shown(moment))
 }

@@ -3,23 +3,23 @@ ghost use Rattle.calendar.specs.Moments.{MomentOf};
 
 // A second of a day of the years 1 to 9999.
 #[derive(Clone, Copy)]
-pub enum Moment {
-    At { day: u64, second: u64 },
-    Outside,
+pub struct Moment {
+    pub day: u64,
+    pub second: u64,
 }
 
-// The day and the second of an instant.
-pub fn moment_of(instant: i64) -> Moment
+// The day and the second of an instant; none outside these years.
+pub fn moment_of(instant: i64) -> Option<Moment>
     ensures { MomentOf instant result }
 {
     if instant < -62135596800 {
-        return Moment::Outside;
+        return None;
     }
     if 253402300799 < instant {
-        return Moment::Outside;
+        return None;
     }
     let since = (instant + 62135596800) as u64;
     let day = since / 86400;
     let second = since % 86400;
-    Moment::At { day, second }
+    Some(Moment { day, second })
 }

@@ -10,7 +10,7 @@ pub struct MonthDay {
 }
 
 // The days of the months from January to this one.
-pub(crate) fn days_of_months(leap: bool, month: u64) -> u64
+pub fn days_of_months(leap: bool, month: u64) -> u64
     requires { month ≤ 12 }
     ensures { result ≡ days_of_months leap month }
 {

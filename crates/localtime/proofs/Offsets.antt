@@ -2,19 +2,17 @@
 use Rattle.numbers.proofs.Prelude.{ℕ, suc, ◌+◌, ◌-◌, ◌*◌, ◌^◌, ◌≤◌, ◌<◌, ltb-true, ltb-false, eqb, ltb, ℤ, pos, negsuc, mag, Bool, true, false, List, ◌≡◌, refl, sym, subst, w32, SFits, to_z, arith}
 use Rattle.numbers.{proofs.Refusals.{either}, specs.Answer.{if◌then◌else◌}}
 use mir.Val.{sel}
+use Rattle.std.specs.Prelude.{Option, Some, None}
 use Rattle.localtime.proofs.found.Ways.{east_small}
-use Rattle.localtime.specs.{Found.{found_of}, Local.{ask_in, or_sixty, string_in, rules_in, agrees, is_ruled, by_rule, answer_by, answer_at}, declared.rule.Rules.{Rules}}
+use Rattle.localtime.specs.{Found.{found_of}, Local.{ask_in, or_sixty, string_in, rules_in, agrees, is_ruled, by_rule, answer_by, answer_at}}
 use Rattle.tzif.specs.{Check.{type_place}, Header.{Rfc}, Local.{type_in, is_after_last, by_table}, Number.{be32, lift}, Reply.{Reply, given, refused, demand, ◌>>=◌, ◌>>◌}, Zone.{read_zone_by}}
-use Rattle.tzif.specs.declared.{block.Block.{Block}, local.{Answer.{Answer}, Found.{Found}}, refusal.Refusal.{Refusal}, zone.Zone.{Zone}}
+use Rattle.tzif.specs.declared.{block.Block.{Block}, local.Found.{Found}, refusal.Refusal.{Refusal}, zone.Zone.{Zone}}
 use Rattle.tzrule.specs.{Ask.{clock_at, in_years, ask, since}, Grammar.{sixty, ranged, number_of, seconds_of, minutes_of}, Names.{name_of}, String.{day_hours, summer_of, change_of, changing_of, string_of}}
 use Rattle.tzrule.specs.{Summer.{is_summer}, Text.{digits_of, byte_at}, declared.{ask.Time.{Time}, number.{Digits.{Digits}, Shape.{Shape}}, rule.{Clock.{Clock}, Tz.{Tz}}}}
 use Rattle.tzrule.specs.declared.rule.Tz.TheVariants.{Fixed, Changing}
-use Rattle.localtime.specs.declared.rule.Rules.TheVariants as R
-use Rattle.tzif.specs.declared.local.Answer.TheVariants as A
 use Rattle.tzrule.specs.Answer as T
 use Rattle.tzrule.specs.Grammar as G
 use Rattle.tzrule.specs.String as S
-use Rattle.tzrule.specs.declared.ask.Asked.TheVariants as K
 
 -- ---- what was read has a property
 data Reads {A : Type 0} (P : A → Type 0) : T.Answer A → Type 0 where
@@ -120,13 +118,13 @@ anything (refused why) = stops
 abbrev Fits : Found → Type 0
 Fits found = SFits w32 found.offset
 
-unfoldable FitsAnswer : Answer → Type 0
-FitsAnswer (A.Found found) = Fits found
-FitsAnswer A.Unknown = Unit {0}
+unfoldable FitsAnswer : Option Found → Type 0
+FitsAnswer (Some found) = Fits found
+FitsAnswer None = Unit {0}
 
-unfoldable NearRules : Rules → Type 0
-NearRules R.Without = Unit {0}
-NearRules (R.By tz) = NearTz tz
+unfoldable NearRules : Option Tz → Type 0
+NearRules None = Unit {0}
+NearRules (Some tz) = NearTz tz
 
 -- four bytes, whatever they are
 signed_narrow : (n : ℕ) → mag (to_z w32 n) < 2 ^ 31
@@ -151,10 +149,10 @@ clock_near (Changing rule) u h = either (λ (time : Time). NearClock time.clock)
 asked_gives : (tz : Tz) (u : ℕ) → NearTz tz → Gives FitsAnswer (by_rule (ask tz u))
 unfolding ask by_rule FitsAnswer found_of
 asked_gives tz u h = go (in_years u) where
-  fits : FitsAnswer (A.Found (found_of (clock_at tz u)))
+  fits : FitsAnswer (Some (found_of (clock_at tz u)))
   fits = record { sfits = east_small (clock_at tz u).clock.west (clock_near tz u h) }
 
-  go : (t : Bool) → Gives FitsAnswer (by_rule (if t then K.Holds (clock_at tz u) else K.Outside))
+  go : (t : Bool) → Gives FitsAnswer (by_rule (if t then Some (clock_at tz u) else None))
   go true = gives fits
   go false = stops
 
@@ -167,18 +165,18 @@ rules_give file zone =
       string (reads h) = gives h
       string faults = stops
 
-by_gives : (file : List ℕ) (block : Block) (rules : Rules) (instant : ℕ) → NearRules rules → Gives FitsAnswer (answer_by file block rules instant)
+by_gives : (file : List ℕ) (block : Block) (rules : Option Tz) (instant : ℕ) → NearRules rules → Gives FitsAnswer (answer_by file block rules instant)
 unfolding answer_by NearRules ask_in
-by_gives file block R.Without instant h = gives (table_fits file block instant)
-by_gives file block (R.By tz) instant h = either (Gives FitsAnswer) (is_ruled file block instant) (asked_gives tz _ h) (gives (table_fits file block instant))
+by_gives file block None instant h = gives (table_fits file block instant)
+by_gives file block (Some tz) instant h = either (Gives FitsAnswer) (is_ruled file block instant) (asked_gives tz _ h) (gives (table_fits file block instant))
 
 at_gives : (rfc : Rfc) (file : List ℕ) (instant : ℤ) → Gives FitsAnswer (answer_at rfc file instant)
 unfolding answer_at
 at_gives rfc file instant = then_gives (anything (read_zone_by rfc file)) (λ zone u. then_gives (rules_give file zone) (λ rules h. by_gives file zone.block rules (lift instant) h))
 
 -- an offset that is found fits 32 bits
-pub offset_fits : (rfc : Rfc) (file : List ℕ) (instant : ℤ) {found : Found} → given (A.Found found) ≡ answer_at rfc file instant → SFits w32 found.offset
+pub offset_fits : (rfc : Rfc) (file : List ℕ) (instant : ℤ) {found : Found} → given (Some found) ≡ answer_at rfc file instant → SFits w32 found.offset
 unfolding FitsAnswer
 offset_fits rfc file instant {found} e = last (subst (Gives FitsAnswer) (sym e) (at_gives rfc file instant)) where
-  last : Gives FitsAnswer (given (A.Found found)) → SFits w32 found.offset
+  last : Gives FitsAnswer (given (Some found)) → SFits w32 found.offset
   last (gives h) = h

@@ -1,16 +1,14 @@
 -- What Q-10 keeps of Q-9, and what it adds, by name. Assumes nothing.
 use Rattle.numbers.{proofs.Prelude.{ℕ, ◌-◌, ◌<◌, eq-eqb, ne_eqb, lt-ltb, eqb, ℤ, lt_z, Bool, true, false, List, ◌≡◌, refl, sym, ap, ◌∙◌, w64, SFits, arith}, specs.Answer.{if◌then◌else◌}}
+use Rattle.std.specs.Prelude.{Option, Some, None}
 use Rattle.localtime.proofs.local.Ways.{no_transitions, after_last}
 use Rattle.localtime.specs.{Found.{found_of}, Local.{ask_in, rules_in, is_ruled, by_rule, answer_by, answer_at, local_time_by, local_time, scale_in, scale_or, scale_by, scale_at}}
-use Rattle.localtime.specs.declared.{local.Timed.{Timed}, rule.Rules.{Rules}, scale.Scale.{Scale}}
+use Rattle.localtime.specs.declared.{local.Timed.{Timed}, scale.Scale.{Scale}}
 use Rattle.tzif.specs.{Check.{correction_at}, Last.{Octets, transition_time}, Local.{is_after_last, by_table, lent, named, replied, Replied}, Number.{raised, lift}, Reply.{Reply, given, refused, ◌>>=◌}}
 use Rattle.tzif.specs.{Zone.{read_zone}, declared.{block.Block.{Block}, local.{Found.{Found}, Local.{Local}}, refusal.Refusal.{Refusal}, zone.Zone.{Zone}}}
 use Rattle.tzrule.specs.{Ask.{corrected, in_years, clock_at, ask}, declared.rule.Tz.{Tz}}
-use Rattle.localtime.specs.declared.rule.Rules.TheVariants as R
-use Rattle.tzif.specs.declared.local.LocalTime.TheVariants as L
 use Rattle.tzif.proofs.Theorems as last
 use Rattle.tzif.specs.Local as plain
-use Rattle.tzif.specs.declared.local.Answer.TheVariants as A
 
 -- two replies that the promise of `local_time` permits are equal, with all of the lent text and the scale
 pub same_local_time : (file : List ℕ) (instant : ℤ) (room : ℕ) (r q : Timed) (s t : List ℕ) → (replied r.time s ≡ local_time file instant room) × (r.scale ≡ scale_at file instant)
@@ -30,7 +28,7 @@ module _ (file : List ℕ) (instant : ℤ) where
   unfolding scale_by scale_or ◌>>=◌
   no_scale z r = simp (z, r)
 
-  module _ {zone : Zone} (z : read_zone file ≡ given zone) {rules : Rules} (r : rules_in file zone ≡ given rules) where
+  module _ {zone : Zone} (z : read_zone file ≡ given zone) {rules : Option Tz} (r : rules_in file zone ≡ given rules) where
     -- without leap-second records in the block that answers it is UNIX time's, and nothing is corrected
     pub unix_scale : zone.block.leapcnt ≡ 0 → scale_at file instant ≡ record { kind = 1; correction = 0 }
     unfolding scale_by scale_or scale_in ◌>>=◌
@@ -52,15 +50,15 @@ module _ (file : List ℕ) (instant : ℤ) where
     go false = own
 
   -- where local time is known, so is the scale
-  pub known_scale : (room : ℕ) {local : Local} → (local_time file instant room).reply ≡ L.Local local → Known (scale_at file instant).kind
+  pub known_scale : (room : ℕ) {local : Local} → (local_time file instant room).reply ≡ given (Some local) → Known (scale_at file instant).kind
   unfolding local_time_by answer_at scale_by scale_or lent ◌>>=◌
   known_scale room {local} e = zones (read_zone file) e where
-    rest : (zone : Zone) (rules : Reply Rules) → (lent file room (rules >>= λ by. answer_by file zone.block by (lift instant))).reply ≡ L.Local local
+    rest : (zone : Zone) (rules : Reply (Option Tz)) → (lent file room (rules >>= λ by. answer_by file zone.block by (lift instant))).reply ≡ given (Some local)
         → Known (scale_or (rules >>= λ by. given (scale_in file zone.block (lift instant)))).kind
     rest zone (given by) e = in_known zone
     rest zone (refused why) e = let z : ◌≡◌ {A = ℕ} 0 1 = cc in absurd (omega arith)
 
-    zones : (read : Reply Zone) → (lent file room (read >>= λ zone. rules_in file zone >>= λ by. answer_by file zone.block by (lift instant))).reply ≡ L.Local local
+    zones : (read : Reply Zone) → (lent file room (read >>= λ zone. rules_in file zone >>= λ by. answer_by file zone.block by (lift instant))).reply ≡ given (Some local)
         → Known (scale_or (read >>= λ zone. rules_in file zone >>= λ by. given (scale_in file zone.block (lift instant)))).kind
     zones (given zone) e = rest zone (rules_in file zone) e
     zones (refused why) e = let z : ◌≡◌ {A = ℕ} 0 1 = cc in absurd (omega arith)
@@ -73,20 +71,20 @@ unfolding local_time_by answer_at plain.local_time_by ◌>>=◌
 q10_refuses file instant room e = simp e
 
 -- an instant that the transitions answer is not after the last
-listed : (file : List ℕ) (block : Block) (instant : ℕ) {found : Found} → by_table file block instant ≡ A.Found found → is_after_last file block instant ≡ false
+listed : (file : List ℕ) (block : Block) (instant : ℕ) {found : Found} → by_table file block instant ≡ Some found → is_after_last file block instant ≡ false
 unfolding by_table
 listed file block instant {found} e = go (is_after_last file block instant) refl where
   go : (t : Bool) → is_after_last file block instant ≡ t → t ≡ false
-  go true a = let z : ◌≡◌ {A = ℕ} 0 1 = cc (let un : A.Unknown ≡ A.Found found = simp a at e in un) in absurd (omega arith)
+  go true a = let z : ◌≡◌ {A = ℕ} 0 1 = cc (let un : None ≡ Some found = simp a at e in un) in absurd (omega arith)
   go false a = refl
 
 module _ (file : List ℕ) (instant : ℤ) (room : ℕ) {zone : Zone} (z : read_zone file ≡ given zone) where
-  same_answer : {rules : Rules} → rules_in file zone ≡ given rules → answer_by file zone.block rules (lift instant) ≡ given (by_table file zone.block (lift instant)) →
+  same_answer : {rules : Option Tz} → rules_in file zone ≡ given rules → answer_by file zone.block rules (lift instant) ≡ given (by_table file zone.block (lift instant)) →
       local_time file instant room ≡ plain.local_time file instant room
   unfolding local_time_by answer_at plain.local_time_by ◌>>=◌
   same_answer r a = simp (z, r, a)
 
-  no_string : zone.size ≡ 0 → rules_in file zone ≡ given R.Without
+  no_string : zone.size ≡ 0 → rules_in file zone ≡ given None
   unfolding rules_in
   no_string e = simp (eq-eqb zone.size 0 e)
 
@@ -95,27 +93,27 @@ module _ (file : List ℕ) (instant : ℤ) (room : ℕ) {zone : Zone} (z : read_
   unfolding answer_by
   q10_without e = same_answer (no_string e) refl
 
-  by_cases : (rules : Rules) → (zone.block.timecnt ≡ 0 → rules ≡ R.Without) → is_after_last file zone.block (lift instant) ≡ false →
+  by_cases : (rules : Option Tz) → (zone.block.timecnt ≡ 0 → rules ≡ None) → is_after_last file zone.block (lift instant) ≡ false →
       answer_by file zone.block rules (lift instant) ≡ given (by_table file zone.block (lift instant))
   unfolding answer_by is_ruled
-  by_cases R.Without h a = refl
-  by_cases (R.By tz) h a = let some : zone.block.timecnt ≡ 0 → ⊥ = λ e. (let clash : ◌≡◌ {A = ℕ} 0 1 = cc (h e) in omega arith) in
+  by_cases None h a = refl
+  by_cases (Some tz) h a = let some : zone.block.timecnt ≡ 0 → ⊥ = λ e. (let clash : ◌≡◌ {A = ℕ} 0 1 = cc (h e) in omega arith) in
       simp (ne_eqb zone.block.timecnt 0 some, a)
 
   -- where Q-9 answers and the file is not refused 60 the answer stays, unless it has a string and no transitions
-  pub q10_extends : {rules : Rules} {found : Found} → rules_in file zone ≡ given rules → (zone.block.timecnt ≡ 0 → zone.size ≡ 0) →
-      by_table file zone.block (lift instant) ≡ A.Found found → local_time file instant room ≡ plain.local_time file instant room
+  pub q10_extends : {rules : Option Tz} {found : Found} → rules_in file zone ≡ given rules → (zone.block.timecnt ≡ 0 → zone.size ≡ 0) →
+      by_table file zone.block (lift instant) ≡ Some found → local_time file instant room ≡ plain.local_time file instant room
   q10_extends {rules} r h f =
-      let none : zone.block.timecnt ≡ 0 → rules ≡ R.Without = λ e. (let same : given rules ≡ given R.Without = sym r ∙ no_string (h e) in cc) in
+      let none : zone.block.timecnt ≡ 0 → rules ≡ None = λ e. (let same : given rules ≡ given None = sym r ∙ no_string (h e) in cc) in
       same_answer r (by_cases rules none (listed file zone.block (lift instant) f))
 
 -- ---- by the string
-module _ (file : List ℕ) (instant : ℤ) (room : ℕ) {zone : Zone} (z : read_zone file ≡ given zone) {tz : Tz} (r : rules_in file zone ≡ given (R.By tz)) where
+module _ (file : List ℕ) (instant : ℤ) (room : ℕ) {zone : Zone} (z : read_zone file ≡ given zone) {tz : Tz} (r : rules_in file zone ≡ given (Some tz)) where
   -- the instant in UNIX time, more 2 ^ 63: less the leap seconds that the file counts
   abbrev as_unix : ℕ
   as_unix = corrected (lift instant) (correction_at file zone.block (lift instant))
 
-  ruled : is_ruled file zone.block (lift instant) ≡ true → in_years as_unix ≡ true → answer_by file zone.block (R.By tz) (lift instant) ≡ given (A.Found (found_of (clock_at tz as_unix)))
+  ruled : is_ruled file zone.block (lift instant) ≡ true → in_years as_unix ≡ true → answer_by file zone.block (Some tz) (lift instant) ≡ given (Some (found_of (clock_at tz as_unix)))
   unfolding answer_by ask_in ask by_rule
   ruled h y = simp (h, y)
 

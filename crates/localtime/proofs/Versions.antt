@@ -1,21 +1,20 @@
 -- What version 4 leaves as it was: files of versions 1 to 3 answer as by RFC 8536, a version 4 file without its features as the same bytes marked 3. Assumes nothing.
 use Rattle.numbers.{proofs.Prelude.{ℕ, zero, suc, ◌+◌, ◌-◌, ◌≤◌, eqb, ℤ, Bool, true, false, List, ◌≡◌, refl, ap, ◌∙◌, arith}, specs.Answer.{if◌then◌else◌}}
 use mathlib.Core.Path.{ap₂}
+use Rattle.std.specs.Prelude.{Option, Some, None}
 use Rattle.localtime.specs.{Found.{found_of, same_octets, same_found}, Local.{ask_in, same_as, agrees, or_sixty, string_in, rules_in, is_ruled, by_rule, answer_by, answer_at, local_time_by, local_time}}
-use Rattle.localtime.specs.{Local.{scale_in, scale_or, scale_by, scale_at}, declared.{rule.Rules.{Rules}, scale.Scale.{Scale}}}
+use Rattle.localtime.specs.{Local.{scale_in, scale_or, scale_by, scale_at}, declared.scale.Scale.{Scale}}
 use Rattle.tzif.proofs.Beyond.{Beyond, Behind, found_behind, refused_one, transition_same, correction_same, type_same, type_place_behind, behind_same, after_same, table_same, table_behind, lent_same}
 use Rattle.tzif.{proofs.{Marked.{PlainFour, marked_three, second_version, beyond, renamed, Second, ReadAlike, refuses, gives, zone_read}, Versions.{zone_v3_unchanged}}, specs.Block.{end_of}}
 use Rattle.tzif.specs.{Header.{rfc8536}, Local.{type_in, type_behind, by_table, lent}, Number.{octet, raised, lift}, Reply.{Reply, given, refused, refusal, demand, ◌>>=◌, ◌>>◌}}
-use Rattle.tzif.specs.{Times.{time_in, transitions_of}, declared.{block.Block.{Block}, local.{Answer.{Answer}, Found.{Found}}, refusal.Refusal.{Refusal}, zone.Zone.{Zone}}}
-use Rattle.tzrule.{proofs.Tail.{Alike, faults, reads, TzFrom, string_alike}, specs.{Ask.{corrected, in_years, since, clock_at, ask}, String.{string_of}, Summer.{is_summer}, declared.ask.Asked.{Asked}}}
+use Rattle.tzif.specs.{Times.{time_in, transitions_of}, declared.{block.Block.{Block}, local.Found.{Found}, refusal.Refusal.{Refusal}, zone.Zone.{Zone}}}
+use Rattle.tzrule.{proofs.Tail.{Alike, faults, reads, TzFrom, string_alike}, specs.{Ask.{corrected, in_years, since, clock_at, ask}, String.{string_of}, Summer.{is_summer}}}
 use Rattle.tzrule.specs.declared.{ask.Time.{Time}, rule.Tz.{Tz}}
-use Rattle.localtime.specs.declared.rule.Rules.TheVariants as R
 use Rattle.tzrule.specs.Answer as T
-use Rattle.tzrule.specs.declared.ask.Asked.TheVariants as K
 use Rattle.tzrule.specs.declared.rule.Tz.TheVariants as Z
 
 -- what a file that was read says of an instant
-answer_of : ℤ → List ℕ → Zone → Reply Answer
+answer_of : ℤ → List ℕ → Zone → Reply (Option Found)
 answer_of instant file zone = rules_in file zone >>= λ rules. answer_by file zone.block rules (lift instant)
 
 -- files of versions 1 to 3 answer as before, at every instant, with whatever room
@@ -30,9 +29,9 @@ unfolding scale_by
 v3_scale file older instant = ap (λ (z : Reply Zone). scale_or (z >>= λ zone. rules_in file zone >>= λ rules. given (scale_in file zone.block (lift instant)))) (zone_v3_unchanged file older)
 
 -- ---- what the rule says stands behind the place where its string begins
-data AskedFrom (from : ℕ) : Asked → Type 0 where
-  holds_from : {time : Time} → from ≤ time.clock.name.start → AskedFrom from (K.Holds time)
-  outside : AskedFrom from K.Outside
+data AskedFrom (from : ℕ) : Option Time → Type 0 where
+  holds_from : {time : Time} → from ≤ time.clock.name.start → AskedFrom from (Some time)
+  outside : AskedFrom from None
 
 -- where its name begins
 abbrev start_of : Time → ℕ
@@ -49,15 +48,15 @@ clock_from from (Z.Changing rule) u t = go (is_summer rule (since u)) where
 ask_from : (from : ℕ) (tz : Tz) (u : ℕ) → TzFrom from tz → AskedFrom from (ask tz u)
 unfolding ask
 ask_from from tz u t = go (in_years u) where
-  go : (s : Bool) → AskedFrom from (if s then K.Holds (clock_at tz u) else K.Outside)
+  go : (s : Bool) → AskedFrom from (if s then Some (clock_at tz u) else None)
   go true = holds_from {time = clock_at tz u} (clock_from from tz u t)
   go false = outside
 
 -- refused alike, or given alike with a rule whose names stand there
-data RulesAlike (from : ℕ) : Reply Rules → Reply Rules → Type 0 where
+data RulesAlike (from : ℕ) : Reply (Option Tz) → Reply (Option Tz) → Type 0 where
   no_rules : {why : Refusal} → RulesAlike from (refused why) (refused why)
-  without : RulesAlike from (given R.Without) (given R.Without)
-  rule_alike : {tz : Tz} → TzFrom from tz → RulesAlike from (given (R.By tz)) (given (R.By tz))
+  without : RulesAlike from (given None) (given None)
+  rule_alike : {tz : Tz} → TzFrom from tz → RulesAlike from (given (Some tz)) (given (Some tz))
 
 -- ---- two files that are the same from a place on
 module _ (file other : List ℕ) (from : ℕ) (b : Beyond file other from) where
@@ -70,7 +69,7 @@ module _ (file other : List ℕ) (from : ℕ) (b : Beyond file other from) where
   unfolding same_found
   found_same one two h k = rw (octets_same one.place two.place one.length h k) refl
 
-  as_same : (found : Found) {asked : Asked} → from ≤ found.place → AskedFrom from asked → same_as file found asked ≡ same_as other found asked
+  as_same : (found : Found) {asked : Option Time} → from ≤ found.place → AskedFrom from asked → same_as file found asked ≡ same_as other found asked
   unfolding same_as found_of
   as_same found h (holds_from {time = time} k) = found_same found (found_of time) h k
   as_same found h outside = refl
@@ -103,19 +102,19 @@ module _ (file other : List ℕ) (from : ℕ) (b : Beyond file other from) where
     unfolding is_ruled
     ruled_same instant = rw (after_same file other from b block behind wide instant) refl
 
-    rule_behind : {asked : Asked} → AskedFrom from asked → Behind from (by_rule asked)
+    rule_behind : {asked : Option Time} → AskedFrom from asked → Behind from (by_rule asked)
     unfolding by_rule found_of
     rule_behind (holds_from {time = time} k) = found_behind {found = found_of time} k
     rule_behind outside = refused_one
 
     -- the answer, and that its abbreviation stands there
-    answer_same : (instant : ℕ) {one two : Reply Rules} → RulesAlike from one two → (one >>= λ rules. answer_by file block rules instant) ≡ (two >>= λ rules. answer_by other block rules instant)
+    answer_same : (instant : ℕ) {one two : Reply (Option Tz)} → RulesAlike from one two → (one >>= λ rules. answer_by file block rules instant) ≡ (two >>= λ rules. answer_by other block rules instant)
     unfolding ◌>>=◌ answer_by
     answer_same instant no_rules = refl
     answer_same instant without = ap given (table_same file other from b block behind wide instant)
     answer_same instant (rule_alike {tz = tz} t) = λ i. if ruled_same instant i then by_rule (asked_same tz instant i) else given (table_same file other from b block behind wide instant i)
 
-    answer_behind : (instant : ℕ) {one two : Reply Rules} → RulesAlike from one two → Behind from (one >>= λ rules. answer_by file block rules instant)
+    answer_behind : (instant : ℕ) {one two : Reply (Option Tz)} → RulesAlike from one two → Behind from (one >>= λ rules. answer_by file block rules instant)
     unfolding ◌>>=◌ answer_by
     answer_behind instant no_rules = refused_one
     answer_behind instant without = table_behind file other from b block behind instant
@@ -126,18 +125,18 @@ module _ (file other : List ℕ) (from : ℕ) (b : Beyond file other from) where
 
   -- the rule of a zone, by both files
   module _ (zone : Zone) (second : Second from zone) where
-    passed : (tz : Tz) → TzFrom from tz → (s : Bool) → RulesAlike from (demand s (refusal 60 (end_of zone.block)) >> given (R.By tz))
-        (demand s (refusal 60 (end_of zone.block)) >> given (R.By tz))
+    passed : (tz : Tz) → TzFrom from tz → (s : Bool) → RulesAlike from (demand s (refusal 60 (end_of zone.block)) >> given (Some tz))
+        (demand s (refusal 60 (end_of zone.block)) >> given (Some tz))
     unfolding demand ◌>>◌
     passed tz t true = rule_alike t
     passed tz t false = no_rules
 
-    rule : (tz : Tz) → TzFrom from tz → RulesAlike from (demand (agrees file zone.block tz) (refusal 60 (end_of zone.block)) >> given (R.By tz))
-        (demand (agrees other zone.block tz) (refusal 60 (end_of zone.block)) >> given (R.By tz))
+    rule : (tz : Tz) → TzFrom from tz → RulesAlike from (demand (agrees file zone.block tz) (refusal 60 (end_of zone.block)) >> given (Some tz))
+        (demand (agrees other zone.block tz) (refusal 60 (end_of zone.block)) >> given (Some tz))
     rule tz t = rw (← agrees_same zone.block second.block second.wide tz t) (passed tz t (agrees file zone.block tz))
 
     string : {one two : T.Answer Tz} → Alike from (TzFrom from) one two → RulesAlike from (or_sixty one >>= λ tz. demand (agrees file zone.block tz)
-        (refusal 60 (end_of zone.block)) >> given (R.By tz)) (or_sixty two >>= λ tz. demand (agrees other zone.block tz) (refusal 60 (end_of zone.block)) >> given (R.By tz))
+        (refusal 60 (end_of zone.block)) >> given (Some tz)) (or_sixty two >>= λ tz. demand (agrees other zone.block tz) (refusal 60 (end_of zone.block)) >> given (Some tz))
     unfolding or_sixty ◌>>=◌
     string faults = no_rules
     string (reads {a = tz} h t) = rule tz t
@@ -145,9 +144,9 @@ module _ (file other : List ℕ) (from : ℕ) (b : Beyond file other from) where
     rules_alike : RulesAlike from (rules_in file zone) (rules_in other (renamed zone))
     unfolding rules_in string_in
     rules_alike = rw second.version (go (eqb zone.size 0)) where
-      go : (s : Bool) → RulesAlike from (if s then given R.Without else (or_sixty (string_of true file zone.string) >>= λ tz. demand (agrees file zone.block tz)
-          (refusal 60 (end_of zone.block)) >> given (R.By tz))) (if s then given R.Without else (or_sixty (string_of true other zone.string) >>= λ tz.
-          demand (agrees other zone.block tz) (refusal 60 (end_of zone.block)) >> given (R.By tz)))
+      go : (s : Bool) → RulesAlike from (if s then given None else (or_sixty (string_of true file zone.string) >>= λ tz. demand (agrees file zone.block tz)
+          (refusal 60 (end_of zone.block)) >> given (Some tz))) (if s then given None else (or_sixty (string_of true other zone.string) >>= λ tz.
+          demand (agrees other zone.block tz) (refusal 60 (end_of zone.block)) >> given (Some tz)))
       go true = without
       go false = string (string_alike file other from b.size b.at true zone.string second.string)
 
@@ -160,7 +159,7 @@ module _ (file other : List ℕ) (from : ℕ) (b : Beyond file other from) where
       ∙ ap (lent other room) (answer_same zone.block second.block second.wide (lift instant) rules)
 
   -- the scale
-  scale_rest : (one two : Scale) → one ≡ two → {a b : Reply Rules} → RulesAlike from a b → scale_or (a >>= λ rules. given one) ≡ scale_or (b >>= λ rules. given two)
+  scale_rest : (one two : Scale) → one ≡ two → {a b : Reply (Option Tz)} → RulesAlike from a b → scale_or (a >>= λ rules. given one) ≡ scale_or (b >>= λ rules. given two)
   unfolding scale_or ◌>>=◌
   scale_rest one two e no_rules = refl
   scale_rest one two e without = e

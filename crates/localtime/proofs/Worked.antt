@@ -2,6 +2,7 @@
 use Rattle.numbers.proofs.Prelude.{ℕ, ◌+◌, ◌-◌, ◌*◌, ◌%◌, ◌^◌, lt-ltb, pos, negsuc, true, false, List, [], ◌∷◌, ◌≡◌, refl, sym, ap, ◌∙◌, arith}
 use Rattle.calendar.{proofs.Laws.{days_closed, weekday_closed}, specs.{Calendar.{is_leap, month_length, days_of_years, days_of_months, weekday_of}, Rules.{last_on, first_of, weeks_of, day_of, IsMonth, IsWhen}}}
 use Rattle.calendar.specs.declared.rule.When.TheVariants.{Month}
+use Rattle.std.specs.Prelude.{Some}
 use Rattle.localtime.proofs.Theorems.{throughout_by_string, after_last_by_string}
 use Rattle.localtime.specs.Found.{east_of, found_of, same_octets, same_found}
 use Rattle.localtime.specs.Local.{ask_in, same_as, agrees, or_sixty, string_in, rules_in, is_ruled, by_rule, answer_by, answer_at, local_time_by, local_time, scale_in, scale_or, scale_by, scale_at}
@@ -13,8 +14,6 @@ use Rattle.tzif.specs.{Zone.{read_long, read_zone_by, read_zone}, declared.zone.
 use Rattle.tzrule.{proofs.{Latest.{summer_latest}, SummerAt.{summer_some, says_is}}, specs.{Answer.{onward}, Ask.{corrected, in_years, since, clock_at, ask}}}
 use Rattle.tzrule.specs.{Names.{is_letter, in_name, name_end, bare_of, name_of}, String.{hours_of, time_of, change_of, clock_of, summer_of, changing_of, string_of}}
 use Rattle.tzrule.specs.{Summer.{start_of, close_of, is_summer, Says, IsRule}, Text.{byte_at, is_digit, digits_of}, declared.{ask.Time.{Time}, rule.{Rule.{Rule}, Tz.TheVariants.{Fixed, Changing}}}}
-use Rattle.localtime.specs.declared.rule.Rules.TheVariants as R
-use Rattle.tzif.specs.declared.local.LocalTime.TheVariants as L
 use Rattle.tzrule.specs.Grammar as G
 use Rattle.tzrule.specs.Names as N
 use Rattle.tzrule.specs.Summer as summer
@@ -52,8 +51,8 @@ pub record Worked : Type 0 where
   pub first : scale_at utc (pos 78796800) ≡ record { kind = 2; correction = 1 }
   pub before : scale_at utc (pos 78796799) ≡ record { kind = 2; correction = 0 }
   pub plain : scale_at honolulu (pos 1782907199) ≡ record { kind = 1; correction = 0 }
-  pub after : local_time honolulu (pos 1782907199) 3 ≡ replied (L.Local (record { offset = negsuc 35999; daylight = 0; length = 3 })) (72 ∷ 83 ∷ 84 ∷ [])
-  pub listed : local_time honolulu (negsuc 769395600) 3 ≡ replied (L.Local (record { offset = negsuc 34199; daylight = 1; length = 3 })) (72 ∷ 87 ∷ 84 ∷ [])
+  pub after : local_time honolulu (pos 1782907199) 3 ≡ replied (given (Some (record { offset = negsuc 35999; daylight = 0; length = 3 }))) (72 ∷ 83 ∷ 84 ∷ [])
+  pub listed : local_time honolulu (negsuc 769395600) 3 ≡ replied (given (Some (record { offset = negsuc 34199; daylight = 1; length = 3 }))) (72 ∷ 87 ∷ 84 ∷ [])
 
 pub worked : Worked
 unfolding occurs_later correction_before correction_at correction_of one_apart is_expiry nul_end check_time check_index check_type check_leap check_leaps check_standard
@@ -140,8 +139,8 @@ in_winter =
 
 -- what the file says then
 pub record WorkedSouth : Type 0 where
-  pub january : local_time sydney (pos 1768435200) 4 ≡ replied (L.Local (record { offset = pos 39600; daylight = 1; length = 4 })) (65 ∷ 69 ∷ 68 ∷ 84 ∷ [])
-  pub july : local_time sydney (pos 1782864000) 4 ≡ replied (L.Local (record { offset = pos 36000; daylight = 0; length = 4 })) (65 ∷ 69 ∷ 83 ∷ 84 ∷ [])
+  pub january : local_time sydney (pos 1768435200) 4 ≡ replied (given (Some (record { offset = pos 39600; daylight = 1; length = 4 }))) (65 ∷ 69 ∷ 68 ∷ 84 ∷ [])
+  pub july : local_time sydney (pos 1782864000) 4 ≡ replied (given (Some (record { offset = pos 36000; daylight = 0; length = 4 }))) (65 ∷ 69 ∷ 83 ∷ 84 ∷ [])
 
 -- its zone, and the rule that its string means
 abbrev zone : Zone
@@ -158,7 +157,7 @@ unfolding occurs_later correction_before correction_at correction_of one_apart i
     count_of check_of check_part demand each ◌>>=◌ ◌>>◌ first_with is_stop run_to time_in last_with last_not_after newline_at read_footer read_short read_long read_zone_by
 is_read = refl
 
-tz_is_ruled : rules_in sydney zone ≡ given (R.By (Changing rule))
+tz_is_ruled : rules_in sydney zone ≡ given (Some (Changing rule))
 unfolding rules_in string_in or_sixty agrees string_of clock_of changing_of change_of time_of hours_of summer_of G.ranged G.number_of G.seconds_of G.minutes_of G.clock_of
     G.later_of G.earlier_of G.signed_of G.dotted_of G.weekday_from G.week_from G.month_from G.date_of is_letter in_name name_end N.end_of bare_of name_of byte_at is_digit
     digits_of onward demand ◌>>=◌ ◌>>◌
@@ -194,7 +193,7 @@ unfolding occurs_later correction_before correction_at correction_of one_apart i
     count_of check_of check_part demand each ◌>>=◌ ◌>>◌ first_with is_stop run_to time_in last_with last_not_after newline_at read_footer read_short read_long read_zone_by
 island_read = refl
 
-island_ruled : rules_in honolulu island ≡ given (R.By (Fixed (record { name = record { start = 323; end = 326 }; west = 640800 })))
+island_ruled : rules_in honolulu island ≡ given (Some (Fixed (record { name = record { start = 323; end = 326 }; west = 640800 })))
 unfolding rules_in string_in or_sixty agrees string_of clock_of changing_of change_of time_of hours_of summer_of G.ranged G.number_of G.seconds_of G.minutes_of G.clock_of
     G.later_of G.earlier_of G.signed_of G.dotted_of G.weekday_from G.week_from G.month_from G.date_of is_letter in_name name_end N.end_of bare_of name_of byte_at is_digit
     digits_of onward same_as ask_in type_in type_behind east_of found_of same_octets same_found corrected correction_at correction_before last_not_after last_with time_in

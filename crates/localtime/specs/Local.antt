@@ -1,26 +1,21 @@
 -- Local time with the footer's TZ string.
-use Rattle.std.specs.Prelude.{if◌then◌else◌, ◌-◌}
+use Rattle.std.specs.Prelude.{Option, Some, None, IfSome, IfOk, if◌then◌else◌, ◌-◌}
 use Rattle.numbers.specs.Prelude.{ℕ, eqb, ltb, ℤ, Bool, true, List}
-use Rattle.localtime.specs.{Found.{found_of, same_found}, declared.{local.Said.{Said}, rule.{Rules.{Rules}, Stated.{Stated}}, scale.Scale.{Scale}}}
+use Rattle.localtime.specs.{Found.{found_of, same_found}, declared.scale.Scale.{Scale}}
 use Rattle.tzif.specs.{Block.{end_of}, Check.{correction_at}, Header.{Rfc, rfc9636}, Local.{type_in, type_behind, is_after_last, by_table, lent, Replied, Good, Held}, Number.{raised, lift}}
 use Rattle.tzif.specs.{Reply.{Reply, given, refused, refusal, demand, ◌>>=◌, ◌>>◌}, Times.{time_in, transitions_of, occurrences_of, Rises}, Zone.{read_zone_by}, declared.block.Block.{Block}}
-use Rattle.tzif.specs.declared.{local.{Answer.{Answer}, Found.{Found}}, zone.Zone.{Zone}}
-use Rattle.tzrule.specs.{Ask.{corrected, ask}, String.{string_of}, declared.{ask.Asked.{Asked}, rule.Tz.{Tz}}, inner.String.{IsClock, IsTz}}
-use Rattle.localtime.specs.declared.local.Said.TheVariants as S
-use Rattle.localtime.specs.declared.rule.Rules.TheVariants as R
-use Rattle.localtime.specs.declared.rule.Stated.TheVariants as Q
-use Rattle.tzif.specs.declared.local.Answer.TheVariants as A
+use Rattle.tzif.specs.declared.{local.Found.{Found}, zone.Zone.{Zone}}
+use Rattle.tzrule.specs.{Ask.{corrected, ask}, String.{string_of}, declared.{ask.Time.{Time}, rule.Tz.{Tz}}, inner.String.{IsClock, IsTz}}
 use Rattle.tzrule.specs.Answer as T
-use Rattle.tzrule.specs.declared.ask.Asked.TheVariants as K
 
 -- the string is in UNIX time, the file's own scale less its leap seconds
-unfoldable pub ask_in : List ℕ → Block → Tz → ℕ → Asked
+unfoldable pub ask_in : List ℕ → Block → Tz → ℕ → Option Time
 ask_in file block tz instant = ask tz (corrected instant (correction_at file block instant))
 
 -- it gives what the last transition's type has, if there is one and its year is answered
-unfoldable pub same_as : List ℕ → Found → Asked → Bool
-same_as file found (K.Holds time) = same_found file found (found_of time)
-same_as file found K.Outside = true
+unfoldable pub same_as : List ℕ → Found → Option Time → Bool
+same_as file found (Some time) = same_found file found (found_of time)
+same_as file found None = true
 
 unfoldable pub agrees : List ℕ → Block → Tz → Bool
 agrees file block tz =
@@ -36,28 +31,28 @@ unfoldable pub string_in : List ℕ → Zone → Reply Tz
 string_in file zone = or_sixty (string_of (ltb 50 zone.version) file zone.string)
 
 -- 60: it contradicts the last transition, with the place of the newline before it
-unfoldable pub rules_in : List ℕ → Zone → Reply Rules
+unfoldable pub rules_in : List ℕ → Zone → Reply (Option Tz)
 rules_in file zone =
-    if eqb zone.size 0 then given R.Without
+    if eqb zone.size 0 then given None
     else (do
       tz ← string_in file zone
       demand (agrees file zone.block tz) (refusal 60 (end_of zone.block))
-      given (R.By tz))
+      given (Some tz))
 
 -- the rule is asked after the last transition, and throughout where there are none
 unfoldable pub is_ruled : List ℕ → Block → ℕ → Bool
 is_ruled file block instant = if eqb block.timecnt 0 then true else is_after_last file block instant
 
 -- 61: outside the years 1 to 9999
-unfoldable pub by_rule : Asked → Reply Answer
-by_rule (K.Holds time) = given (A.Found (found_of time))
-by_rule K.Outside = refused (refusal 61 0)
+unfoldable pub by_rule : Option Time → Reply (Option Found)
+by_rule (Some time) = given (Some (found_of time))
+by_rule None = refused (refusal 61 0)
 
-unfoldable pub answer_by : List ℕ → Block → Rules → ℕ → Reply Answer
-answer_by file block R.Without instant = given (by_table file block instant)
-answer_by file block (R.By tz) instant = if is_ruled file block instant then by_rule (ask_in file block tz instant) else given (by_table file block instant)
+unfoldable pub answer_by : List ℕ → Block → Option Tz → ℕ → Reply (Option Found)
+answer_by file block None instant = given (by_table file block instant)
+answer_by file block (Some tz) instant = if is_ruled file block instant then by_rule (ask_in file block tz instant) else given (by_table file block instant)
 
-unfoldable pub answer_at : Rfc → List ℕ → ℤ → Reply Answer
+unfoldable pub answer_at : Rfc → List ℕ → ℤ → Reply (Option Found)
 answer_at rfc file instant = do
   zone ← read_zone_by rfc file
   rules ← rules_in file zone
@@ -94,16 +89,6 @@ scale_by rfc file instant = scale_or (do
 abbrev pub scale_at : List ℕ → ℤ → Scale
 scale_at = scale_by rfc9636
 
--- what the code's answers say
-unfoldable pub told_rules : Stated → Reply Rules
-told_rules (Q.Rules rules) = given rules
-told_rules (Q.Refused why) = refused why
-
-unfoldable pub told_said : Said → Reply Answer
-told_said (S.Found found) = given (A.Found found)
-told_said S.Unknown = given A.Unknown
-told_said (S.Refused why) = refused why
-
 -- ---- what the checks leave behind
 -- a block in which nothing is at fault
 pub record Sound (file : List ℕ) (block : Block) : Type 0 where
@@ -111,20 +96,13 @@ pub record Sound (file : List ℕ) (block : Block) : Type 0 where
   pub leaps : Rises file (occurrences_of block)
 
 -- a rule whose names the file holds
-unfoldable pub HeldRules : ℕ → Rules → Type 0
-HeldRules end R.Without = Unit {0}
-HeldRules end (R.By tz) = IsTz end tz
+abbrev pub HeldRules : ℕ → Option Tz → Type 0
+HeldRules end rules = IfSome rules (IsTz end)
 
-unfoldable pub HeldStated : ℕ → Stated → Type 0
-HeldStated end (Q.Rules rules) = HeldRules end rules
-HeldStated end (Q.Refused why) = Unit {0}
-
-unfoldable pub HeldSaid : ℕ → Said → Type 0
-HeldSaid end (S.Found found) = Held end found
-HeldSaid end S.Unknown = Unit {0}
-HeldSaid end (S.Refused why) = Unit {0}
+-- an abbreviation that the file holds, where there is one
+abbrev pub HeldSaid : ℕ → Reply (Option Found) → Type 0
+HeldSaid end said = IfOk said (λ answer. IfSome answer (Held end))
 
 -- a clock whose name the file holds
-unfoldable pub HeldAsked : ℕ → Asked → Type 0
-HeldAsked end (K.Holds time) = IsClock end time.clock
-HeldAsked end K.Outside = Unit {0}
+abbrev pub HeldAsked : ℕ → Option Time → Type 0
+HeldAsked end asked = IfSome asked (λ time. IsClock end time.clock)

@@ -1,35 +1,23 @@
 // The TZ string of a file: refusal 60, and what it says of an instant.
-ghost use Rattle.std.specs.Prelude.{◌≡◌, ◌^◌, ◌≤◌, length};
-ghost use Rattle.localtime.specs.Local.{ask_in, agrees, rules_in, told_rules, Sound, HeldAsked, HeldStated};
+ghost use Rattle.std.specs.Prelude.{IfOk, ◌≡◌, ◌^◌, ◌≤◌, length};
+ghost use Rattle.localtime.specs.Local.{ask_in, agrees, string_in, rules_in, Sound, HeldRules, HeldAsked};
 ghost use Rattle.tzrule.specs.inner.String.{IsTz};
 
 use crate::found::{found_of, same_found};
+use numbers::fault::Fault;
 use tzif::block::Block;
 use tzif::leap::correction_at;
 use tzif::local::{type_behind, type_in};
 use tzif::place::end_of;
-use tzif::refusal::Refusal;
+use tzif::refusal::{Refusal, demand, refuse};
 use tzif::times::{time_in, transitions_of};
 use tzif::zone::Zone;
-use tzrule::ask::{Asked, ask_at};
+use tzrule::ask::{Time, ask_at};
 use tzrule::rule::Tz;
-use tzrule::string::{Parsed, string_at};
-
-// A file without a TZ string, or by the rule of one.
-#[derive(Clone, Copy)]
-pub enum Rules {
-    Without,
-    By(Tz),
-}
-
-#[derive(Clone, Copy)]
-pub enum Stated {
-    Rules(Rules),
-    Refused(Refusal),
-}
+use tzrule::string::string_at;
 
 // What the string says of an instant of the file's own scale.
-pub(crate) fn ask_in(file: &[u8], block: Block, tz: Tz, instant: usize) -> Asked
+pub(crate) fn ask_in(file: &[u8], block: Block, tz: Tz, instant: usize) -> Option<Time>
     requires { Sound file.now block × IsTz (length file.now) tz }
     ensures { (result ≡ ask_in file.now block tz instant) × HeldAsked (length file.now) result }
 {
@@ -47,39 +35,37 @@ fn agrees(file: &[u8], block: Block, tz: Tz) -> bool
         return true;
     }
     let last = time_in(file, transitions_of(block), count - 1);
-    let asked = ask_in(file, block, tz, last);
-    match asked {
-        Asked::Holds(time) => {
-            let found = type_in(file, block, type_behind(file, block, count));
-            same_found(file, found, found_of(time))
-        }
-        Asked::Outside => true,
+    let Some(time) = ask_in(file, block, tz, last) else {
+        return true;
+    };
+    let found = type_in(file, block, type_behind(file, block, count));
+    same_found(file, found, found_of(time))
+}
+
+// The TZ string of a checked file, with its hours wider from version 3 on.
+fn string_in(file: &[u8], zone: Zone) -> Result<Tz, Refusal>
+    requires { (length file.now ≤ 2 ^ 30) × (zone.string ≤ length file.now) }
+    ensures { (result ≡ string_in file.now zone) × IfOk result (IsTz (length file.now)) }
+{
+    match string_at(file, zone.string, 50 < zone.version) {
+        Ok(at) => Ok(at.tz),
+        Err(at) => Err(refuse(Fault::TzifString, at.place)),
     }
 }
 
-// The rule of a checked file.
-pub(crate) fn rules_in(file: &[u8], zone: Zone) -> Stated
+// The rule of a checked file; none without a TZ string.
+pub(crate) fn rules_in(file: &[u8], zone: Zone) -> Result<Option<Tz>, Refusal>
     requires { Sound file.now zone.block × (length file.now ≤ 2 ^ 30) × (zone.string ≤ length file.now) }
-    ensures { (told_rules result ≡ rules_in file.now zone) × HeldStated (length file.now) result }
+    ensures { (result ≡ rules_in file.now zone) × IfOk result (HeldRules (length file.now)) }
 {
     if zone.size == 0 {
-        return Stated::Rules(Rules::Without);
+        return Ok(None);
     }
-    let parsed = match string_at(file, zone.string, 50 < zone.version) {
-        Parsed::String(parsed) => parsed,
-        Parsed::Fault(place) => {
-            return Stated::Refused(Refusal {
-                number: 60,
-                detail: place,
-            });
-        }
-    };
-    let tz = parsed.tz;
-    let block = zone.block;
-    if agrees(file, block, tz) {
-        let rules = Rules::By(tz);
-        return Stated::Rules(rules);
-    }
-    let detail = end_of(block);
-    Stated::Refused(Refusal { number: 60, detail })
+    let tz = string_in(file, zone)?;
+    demand(
+        agrees(file, zone.block, tz),
+        Fault::TzifString,
+        end_of(zone.block),
+    )?;
+    Ok(Some(tz))
 }

@@ -3,9 +3,9 @@ use Rattle.numbers.{proofs.Prelude.{ℕ, zero, suc, ◌+◌, ◌-◌, ◌*◌, �
 use Rattle.tzif.proofs.{Lasts.{last_same}, Widths.{row}}
 use Rattle.tzif.specs.Block.{time_place, indices_of, designations_of, standards_of, uts_of, end_of}
 use Rattle.tzif.specs.Check.{nul_end, is_nul, type_place, leap_place, correction_of, correction_before, occurs_later, is_expiry, is_standard, check_time, check_index, check_type, check_leap, check_leaps}
-use Rattle.tzif.specs.{Check.{check_standard, check_ut}, Header.{check_block}, Number.{octet, be32, raised, time_at}, Part.{count_of, check_of, check_part}, Reply.{Reply, each, ◌>>◌}}
-use Rattle.tzif.specs.{Text.{first_with}, Times.{time_in, transitions_of, occurrences_of}, declared.{block.Block.{Block}, part.Part.{Part}}}
-use Rattle.tzif.specs.declared.part.Part.TheVariants as P
+use Rattle.tzif.specs.{Check.{check_standard, check_ut}, Header.{check_block}, Number.{octet, be32, raised, time_at}, Part.{Part, count_of, check_of, check_part}, Reply.{Reply, each, ◌>>◌}}
+use Rattle.tzif.specs.{Text.{first_with}, Times.{time_in, transitions_of, occurrences_of}, declared.block.Block.{Block}}
+use Rattle.tzif.specs.Part as P
 
 pub each_same : (check check' : ℕ → Reply (Unit {0})) (n : ℕ) → ((i : ℕ) → i < n → check i ≡ check' i) → each n check ≡ each n check'
 unfolding each

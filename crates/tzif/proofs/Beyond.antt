@@ -3,8 +3,8 @@ use Rattle.numbers.{proofs.Prelude.{ℕ, ◌+◌, ◌-◌, ◌≤◌, eqb, ltb, 
 use Rattle.tzif.proofs.{Alike.{be32_same, time_same, first_same}, Lasts.{last_same}}
 use Rattle.tzif.specs.{Block.{time_place, indices_of, designations_of}, Check.{type_place, leap_place, correction_of, correction_before, correction_at}, Local.{type_in, type_behind, is_after_last}}
 use Rattle.tzif.specs.{Local.{by_table, lent}, Number.{octet, be32}, Reply.{Reply, given, refused, refusal, demand, ◌>>◌}, Text.{is_stop, run_to}, Times.{time_in, transitions_of, occurrences_of}}
-use Rattle.tzif.specs.{Times.{last_not_after}, Zone.{string_size, newline_at, read_footer}, declared.{block.Block.{Block}, local.{Answer.{Answer}, Found.{Found}}, refusal.Refusal.{Refusal}}}
-use Rattle.tzif.specs.declared.local.Answer.TheVariants as A
+use Rattle.tzif.specs.{Times.{last_not_after}, Zone.{string_size, newline_at, read_footer}, declared.{block.Block.{Block}, local.Found.{Found}, refusal.Refusal.{Refusal}}}
+use Rattle.std.specs.Prelude.{Option, Some, None}
 
 pub record Beyond (file other : List ℕ) (from : ℕ) : Type 0 where
   pub size : length file ≡ length other
@@ -12,9 +12,9 @@ pub record Beyond (file other : List ℕ) (from : ℕ) : Type 0 where
   pub tail : (p : ℕ) → from ≤ p → drop p file ≡ drop p other
 
 -- an answer whose abbreviation stands behind the place
-pub data Behind (from : ℕ) : Reply Answer → Type 0 where
-  found_behind : {found : Found} → from ≤ found.place → Behind from (given (A.Found found))
-  unknown_one : Behind from (given A.Unknown)
+pub data Behind (from : ℕ) : Reply (Option Found) → Type 0 where
+  found_behind : {found : Found} → from ≤ found.place → Behind from (given (Some found))
+  unknown_one : Behind from (given None)
   refused_one : {why : Refusal} → Behind from (refused why)
 
 module _ (file other : List ℕ) (from : ℕ) (b : Beyond file other from) where
@@ -103,7 +103,7 @@ module _ (file other : List ℕ) (from : ℕ) (b : Beyond file other from) where
 
     pub table_same : (instant : ℕ) → by_table file block instant ≡ by_table other block instant
     unfolding by_table
-    table_same instant = λ i. if after_same instant i then A.Unknown else A.Found (type i) where
+    table_same instant = λ i. if after_same instant i then None else Some (type i) where
       index : type_behind file block (last_not_after file (transitions_of block) instant) ≡ type_behind other block (last_not_after other (transitions_of block) instant)
       index = behind_same (last_not_after file (transitions_of block) instant) ∙ ap (type_behind other block) (last_transition instant)
 
@@ -115,11 +115,11 @@ module _ (file other : List ℕ) (from : ℕ) (b : Beyond file other from) where
   pub table_behind : (block : Block) → from ≤ block.begin → (instant : ℕ) → Behind from (given (by_table file block instant))
   unfolding by_table type_in
   table_behind block h instant = go (is_after_last file block instant) where
-    go : (t : Bool) → Behind from (given (if t then A.Unknown else A.Found (type_in file block (type_behind file block (last_not_after file (transitions_of block) instant)))))
+    go : (t : Bool) → Behind from (given (if t then None else Some (type_in file block (type_behind file block (last_not_after file (transitions_of block) instant)))))
     go true = unknown_one
     go false = found_behind {found = type_in file block (type_behind file block (last_not_after file (transitions_of block) instant))} (omega arith)
 
-  pub lent_same : (room : ℕ) {answer : Reply Answer} → Behind from answer → lent file room answer ≡ lent other room answer
+  pub lent_same : (room : ℕ) {answer : Reply (Option Found)} → Behind from answer → lent file room answer ≡ lent other room answer
   unfolding lent
   lent_same room (found_behind {found = found} h) = rw (b.tail found.place h) refl
   lent_same room unknown_one = refl

@@ -4,9 +4,9 @@ use Rattle.tzif.proofs.{Firsts.{first_within}, Lasts.{last_within}, Rises.{both_
 use Rattle.tzif.proofs.Zones.{ReadFrom, zone_from}
 use Rattle.tzif.specs.{Block.{Within, indices_of, designations_of, end_of}, Check.{type_place, nul_end, check_index, check_type, check_leaps}, Header.{rfc9636, is_fourth, block_at, check_counts}}
 use Rattle.tzif.specs.{Header.{check_block, read_block}, Local.{type_in, type_behind, is_after_last, by_table, Good, Held}, Number.{octet}, Part.{count_of, check_of, check_part}, Reply.{given}}
-use Rattle.tzif.specs.{Text.{is_stop, run_to}, Times.{transitions_of, occurrences_of, last_not_after, Rises}, Zone.{read_zone_by}, declared.{block.Block.{Block}, local.Found.{Found}, zone.Zone.{Zone}}}
-use Rattle.tzif.specs.declared.local.Answer.TheVariants as A
-use Rattle.tzif.specs.declared.part.Part.TheVariants as P
+use Rattle.tzif.specs.{Text.{is_stop, run_to}, Times.{transitions_of, occurrences_of, last_not_after, Rises}, Zone.{read_zone_by}, declared.{block.Block.{Block}, zone.Zone.{Zone}}}
+use Rattle.std.specs.Prelude.{Some, None, IfSome}
+use Rattle.tzif.specs.Part as P
 
 -- ---- the parts of a block that was read
 pub record Passed (file : List ℕ) (fourth : Bool) (block : Block) : Type 0 where
@@ -141,10 +141,9 @@ module _ {file : List ℕ} {block : Block} (g : Good file block) where
   }
 
   -- and so does that of an answer
-  pub found_held : (instant : ℕ) {found : Found} → by_table file block instant ≡ A.Found found → Held (length file) found
+  pub table_held : (instant : ℕ) → IfSome (by_table file block instant) (Held (length file))
   unfolding by_table
-  found_held instant {found} = go (is_after_last file block instant) where
-    go : (t : Bool) → (if t then A.Unknown else A.Found (type_in file block (type_behind file block (last_not_after file (transitions_of block) instant)))) ≡ A.Found found → Held (length file) found
-    go true e = let z : ◌≡◌ {A = ℕ} 0 1 = cc in absurd (omega arith)
-    go false e = let same : type_in file block (type_behind file block (last_not_after file (transitions_of block) instant)) ≡ found = cc in
-        rw (← same) (type_held _ (type_below _ (behind_within instant)))
+  table_held instant = go (is_after_last file block instant) where
+    go : (t : Bool) → IfSome (if t then None else Some (type_in file block (type_behind file block (last_not_after file (transitions_of block) instant)))) (Held (length file))
+    go true = tt
+    go false = type_held _ (type_below _ (behind_within instant))

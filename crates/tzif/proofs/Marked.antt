@@ -5,8 +5,9 @@ use Rattle.tzif.proofs.{Alike.{be32_same, each_same, block_checked}, Beyond.{Bey
 use Rattle.tzif.specs.{Block.{end_of}, Check.{nul_end, correction_of, correction_before, one_apart, is_expiry, check_leap, check_leaps}}
 use Rattle.tzif.specs.{Header.{rfc9636, begins, is_fourth, is_version, version_fits, check_header, block_at, check_counts, check_block, read_block}, Local.{by_table, lent, local_time_by, local_time}}
 use Rattle.tzif.specs.{Number.{octet, be32, octets, lift}, Part.{check_part}, Reply.{Reply, given, refused, refusal, demand, ◌>>=◌, ◌>>◌}, Zone.{read_footer, read_long, read_zone_by, read_zone}}
-use Rattle.tzif.specs.declared.{block.Block.{Block}, local.Answer.{Answer}, refusal.Refusal.{Refusal}, zone.Zone.{Zone}}
-use Rattle.tzif.specs.declared.part.Part.TheVariants as P
+use Rattle.tzif.specs.declared.{block.Block.{Block}, local.Found.{Found}, refusal.Refusal.{Refusal}, zone.Zone.{Zone}}
+use Rattle.tzif.specs.Part as P
+use Rattle.std.specs.Prelude.{Option}
 
 -- ---- what is said
 abbrev pub first_block : List ℕ → Block
@@ -258,7 +259,7 @@ module _ (file : List ℕ) (h : PlainFour file) where
     whole false = refuses
 
   -- ---- the answer by the transitions
-  answer : ℤ → List ℕ → Zone → Reply Answer
+  answer : ℤ → List ℕ → Zone → Reply (Option Found)
   answer instant text zone = given (by_table text zone.block (lift instant))
 
   answered : (instant : ℤ) (room : ℕ) {one two : Reply Zone} → ReadAlike (mark + 1) one two → lent file room (one >>= answer instant file) ≡ lent other room (two >>= answer instant other)
@@ -266,7 +267,7 @@ module _ (file : List ℕ) (h : PlainFour file) where
   answered instant room refuses = lent_same file other (mark + 1) beyond room refused_one
   answered instant room (gives {zone = zone} second) =
       lent_same file other (mark + 1) beyond room (table_behind file other (mark + 1) beyond zone.block second.block (lift instant))
-      ∙ ap (λ (a : Answer). lent other room (given a)) (table_same file other (mark + 1) beyond zone.block second.block second.wide (lift instant))
+      ∙ ap (λ (a : Option Found). lent other room (given a)) (table_same file other (mark + 1) beyond zone.block second.block second.wide (lift instant))
 
   pub v4_as_v3 : (instant : ℤ) (room : ℕ) → local_time file instant room ≡ local_time (marked_three file) instant room
   unfolding local_time_by answer

@@ -4,10 +4,9 @@ use Rattle.numbers.{proofs.Refusals.{Listed}, specs.{Answer.{if◌then◌else◌
 use Rattle.tzif.specs.{Block.{end_of}, Check.{is_expiry, nul_end, check_time, check_index, check_type, check_leap, check_leaps, check_standard, check_ut}}
 use Rattle.tzif.specs.{Header.{rfc9636, is_fourth, check_header, block_at, check_counts, check_block, read_block}, Local.{Replied, replied, lent, local_time_by, local_time}, Number.{octet}}
 use Rattle.tzif.specs.{Part.{count_of, check_of, check_part}, Reply.{Reply, given, refused, refusal, demand, each, ◌>>=◌, ◌>>◌}, Text.{slice}, Zone.{read_footer, read_short, read_long, read_zone_by}}
-use Rattle.tzif.specs.declared.{block.Block.{Block}, local.{Answer.{Answer}, LocalTime.{LocalTime}}, part.Part.{Part}, refusal.Refusal.{Refusal}}
-use Rattle.tzif.specs.declared.local.Answer.TheVariants as A
-use Rattle.tzif.specs.declared.local.LocalTime.TheVariants as L
-use Rattle.tzif.specs.declared.part.Part.TheVariants as P
+use Rattle.tzif.specs.{Part.{Part}, declared.{block.Block.{Block}, local.{Found.{Found}, Local.{Local}}, refusal.Refusal.{Refusal}}}
+use Rattle.std.specs.Prelude.{Option, Some, None}
+use Rattle.tzif.specs.Part as P
 
 -- 1 for the length, 18 for the room, and one for each rule of the RFC
 abbrev pub local_numbers : List ℕ
@@ -105,22 +104,22 @@ module _ (file : List ℕ) where
 -- ---- the whole call
 -- a reply is refused with 18, or with what its answer is
 module _ (P : ℕ → Type 0) (room-number : P 18) where
-  number_of_lem : {why : Refusal} {r : LocalTime} → r ≡ L.Refused why → {why' : Refusal} → r ≡ L.Refused why' → P why'.number → P why.number
+  number_of_lem : {why : Refusal} {r : Reply (Option Local)} → r ≡ refused why → {why' : Refusal} → r ≡ refused why' → P why'.number → P why.number
   number_of_lem {why} {r} e {why'} e' h = let same : why' ≡ why = cc in subst (λ (w : Refusal). P w.number) same h
 
-  pub of_lent : (file : List ℕ) (room : ℕ) {answer : Reply Answer} → NumberedReply P answer → (why : Refusal) → (lent file room answer).reply ≡ L.Refused why → P why.number
+  pub of_lent : (file : List ℕ) (room : ℕ) {answer : Reply (Option Found)} → NumberedReply P answer → (why : Refusal) → (lent file room answer).reply ≡ refused why → P why.number
   unfolding lent
-  of_lent file room (answers {a = A.Found found}) why e = go (leb found.length room) e where
+  of_lent file room (answers {a = Some found}) why e = go (leb found.length room) e where
     local : Replied
-    local = replied (L.Local (record { offset = found.offset; daylight = found.daylight; length = found.length })) (padded room (slice file found.place found.length))
+    local = replied (given (Some (record { offset = found.offset; daylight = found.daylight; length = found.length }))) (padded room (slice file found.place found.length))
 
-    go : (t : Bool) → (if t then local else replied (L.Refused (refusal 18 0)) (zeros room)).reply ≡ L.Refused why → P why.number
+    go : (t : Bool) → (if t then local else replied (refused (refusal 18 0)) (zeros room)).reply ≡ refused why → P why.number
     go true e = let z : ◌≡◌ {A = ℕ} 0 1 = cc in absurd (omega arith)
     go false e = number_of_lem e refl room-number
-  of_lent file room (answers {a = A.Unknown}) why e = let z : ◌≡◌ {A = ℕ} 0 1 = cc in absurd (omega arith)
+  of_lent file room (answers {a = None}) why e = let z : ◌≡◌ {A = ℕ} 0 1 = cc in absurd (omega arith)
   of_lent file room (refuses h) why e = number_of_lem e refl h
 
 -- a call that is refused is refused with one of these
-pub local_time_refusals : (file : List ℕ) (instant : ℤ) (room : ℕ) (why : Refusal) → (local_time file instant room).reply ≡ L.Refused why → Listed local_numbers why.number
+pub local_time_refusals : (file : List ℕ) (instant : ℤ) (room : ℕ) (why : Refusal) → (local_time file instant room).reply ≡ refused why → Listed local_numbers why.number
 unfolding local_time_by
 local_time_refusals file instant room = of_lent (Listed local_numbers) refl file room (then_reply (zone_numbered file) (λ zone. answers))

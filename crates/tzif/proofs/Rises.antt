@@ -4,7 +4,7 @@ use Rattle.numbers.specs.Answer.{if◌then◌else◌}
 use Rattle.tzif.specs.{Check.{leap_place, correction_of, correction_before, one_apart, occurs_later, is_expiry, check_time, check_leap, check_leaps}, Part.{count_of, check_of, check_part}}
 use Rattle.tzif.specs.{Reply.{Reply, given, refused, refusal, demand, each, ◌>>◌}, Times.{time_in, transitions_of, occurrences_of, Rises}, declared.block.Block.{Block}}
 use Rattle.tzif.specs.declared.{refusal.Refusal.{Refusal}, times.Times.{Times}}
-use Rattle.tzif.specs.declared.part.Part.TheVariants as P
+use Rattle.tzif.specs.Part as P
 
 -- ---- one check after another
 pub both_given : {B : Type 0} {it : B} (a : Reply (Unit {0})) (b : Reply B) → (a >> b) ≡ given it → (a ≡ given tt) × (b ≡ given it)

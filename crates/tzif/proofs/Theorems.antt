@@ -4,12 +4,9 @@ use Rattle.numbers.{proofs.Prelude.{◌∙◌, w64, SFits, arith}, specs.{Answer
 use Rattle.tzif.proofs.{Lasts.{last_within, last_holds, last_fails, last_same}, Laws.{Least, least_fault, fault_of_least}, Signs.{time_is_signed, signed_fits, lift_keeps}}
 use Rattle.tzif.specs.{Block.{time_place, indices_of}, Header.{rfc9636, read_block}, Last.{Octets, transition_time, LastNotAfter, by_transition, by_type_0}}
 use Rattle.tzif.specs.{Local.{type_behind, is_after_last, by_table, Replied, replied, lent, local_time_by, local_time}, Number.{octet, lift}, Reply.{Reply, given, refused, refusal, each, ◌>>=◌}}
-use Rattle.tzif.specs.{Text.{slice}, Times.{time_in, transitions_of, last_with, last_not_after, Rises}, Zone.{read_zone}, declared.{block.Block.{Block}, header.Reading.{Reading}}}
-use Rattle.tzif.specs.{declared.{local.{Answer.{Answer}, Local.{Local}, LocalTime.{LocalTime}}, refusal.Refusal.{Refusal}, zone.Read.{Read}}, inner.Told.{told_block, told_zone}}
-use Rattle.tzif.specs.declared.header.Reading.TheVariants as R
-use Rattle.tzif.specs.declared.zone.Read.TheVariants as Z
-use Rattle.tzif.specs.declared.local.Answer.TheVariants as A
-use Rattle.tzif.specs.declared.local.LocalTime.TheVariants as L
+use Rattle.tzif.specs.{Text.{slice}, Times.{time_in, transitions_of, last_with, last_not_after, Rises}, Zone.{read_zone}, declared.block.Block.{Block}}
+use Rattle.tzif.specs.declared.{local.{Found.{Found}, Local.{Local}}, refusal.Refusal.{Refusal}, zone.Zone.{Zone}}
+use Rattle.std.specs.Prelude.{Option, Some, None}
 
 -- ---- last_not_after_lem
 module _ (file : List ℕ) (octets : Octets file) (block : Block) (instant : ℤ) (fits : SFits w64 instant) where
@@ -79,49 +76,37 @@ first_fault check n why = (least_fault check n why, fault_of_least)
 
 -- ---- same_local_time
 -- two replies that the promise permits are equal, with all of the lent text
-pub same_local_time : (file : List ℕ) (instant : ℤ) (room : ℕ) {r r' : LocalTime} {text text' : List ℕ}
+pub same_local_time : (file : List ℕ) (instant : ℤ) (room : ℕ) {r r' : Reply (Option Local)} {text text' : List ℕ}
     → replied r text ≡ local_time file instant room → replied r' text' ≡ local_time file instant room → (r ≡ r') × (text ≡ text')
 same_local_time file instant room e e' = let same = e ∙ sym e' in (ap (λ (s : Replied). s.reply) same, ap (λ (s : Replied). s.text) same)
 
 -- the same of a block that was read, and of a whole file
-pub same_read_block : (file : List ℕ) (wide : Bool) (at : ℕ) (r q : Reading) → told_block r ≡ read_block rfc9636 file wide at → told_block q ≡ read_block rfc9636 file wide at → r ≡ q
-unfolding told_block
-same_read_block file wide at r q e f = go r q (e ∙ sym f) where
-  go : (r q : Reading) → told_block r ≡ told_block q → r ≡ q
-  go (R.Block a) (R.Block b) h = cc
-  go (R.Block a) (R.Refused why) h = let z : ◌≡◌ {A = ℕ} 0 1 = cc in absurd (omega arith)
-  go (R.Refused why) (R.Block b) h = let z : ◌≡◌ {A = ℕ} 0 1 = cc in absurd (omega arith)
-  go (R.Refused why) (R.Refused other) h = cc
+pub same_read_block : (file : List ℕ) (wide : Bool) (at : ℕ) (r q : Reply Block) → r ≡ read_block rfc9636 file wide at → q ≡ read_block rfc9636 file wide at → r ≡ q
+same_read_block file wide at r q e f = e ∙ sym f
 
-pub same_read_zone : (file : List ℕ) (r q : Read) → told_zone r ≡ read_zone file → told_zone q ≡ read_zone file → r ≡ q
-unfolding told_zone
-same_read_zone file r q e f = go r q (e ∙ sym f) where
-  go : (r q : Read) → told_zone r ≡ told_zone q → r ≡ q
-  go (Z.Zone a) (Z.Zone b) h = cc
-  go (Z.Zone a) (Z.Refused why) h = let z : ◌≡◌ {A = ℕ} 0 1 = cc in absurd (omega arith)
-  go (Z.Refused why) (Z.Zone b) h = let z : ◌≡◌ {A = ℕ} 0 1 = cc in absurd (omega arith)
-  go (Z.Refused why) (Z.Refused other) h = cc
+pub same_read_zone : (file : List ℕ) (r q : Reply Zone) → r ≡ read_zone file → q ≡ read_zone file → r ≡ q
+same_read_zone file r q e f = e ∙ sym f
 
 -- ---- a refusal and unknown leave all lent text zero
 -- no local time in a reply
-pub data NoLocal : LocalTime → Type 0 where
-  refused_one : {why : Refusal} → NoLocal (L.Refused why)
-  unknown_one : NoLocal L.Unknown
+pub data NoLocal : Reply (Option Local) → Type 0 where
+  refused_one : {why : Refusal} → NoLocal (refused why)
+  unknown_one : NoLocal (given None)
 
-no_local : {r : LocalTime} → NoLocal r → {local : Local} → r ≡ L.Local local → ⊥
+no_local : {r : Reply (Option Local)} → NoLocal r → {local : Local} → r ≡ given (Some local) → ⊥
 no_local refused_one e = let z : ◌≡◌ {A = ℕ} 0 1 = cc in omega arith
 no_local unknown_one e = let z : ◌≡◌ {A = ℕ} 0 1 = cc in omega arith
 
-zeroed : (file : List ℕ) (room : ℕ) (answer : Reply Answer) → NoLocal (lent file room answer).reply → (lent file room answer).text ≡ zeros room
+zeroed : (file : List ℕ) (room : ℕ) (answer : Reply (Option Found)) → NoLocal (lent file room answer).reply → (lent file room answer).text ≡ zeros room
 unfolding lent
-zeroed file room (given (A.Found found)) n = go (leb found.length room) n where
+zeroed file room (given (Some found)) n = go (leb found.length room) n where
   local : Replied
-  local = replied (L.Local (record { offset = found.offset; daylight = found.daylight; length = found.length })) (padded room (slice file found.place found.length))
+  local = replied (given (Some (record { offset = found.offset; daylight = found.daylight; length = found.length }))) (padded room (slice file found.place found.length))
 
-  go : (t : Bool) → NoLocal (if t then local else replied (L.Refused (refusal 18 0)) (zeros room)).reply → (if t then local else replied (L.Refused (refusal 18 0)) (zeros room)).text ≡ zeros room
+  go : (t : Bool) → NoLocal (if t then local else replied (refused (refusal 18 0)) (zeros room)).reply → (if t then local else replied (refused (refusal 18 0)) (zeros room)).text ≡ zeros room
   go true n = absurd (no_local n refl)
   go false n = refl
-zeroed file room (given A.Unknown) n = refl
+zeroed file room (given None) n = refl
 zeroed file room (refused why) n = refl
 
 pub zero_unless_local : (file : List ℕ) (instant : ℤ) (room : ℕ) → NoLocal (local_time file instant room).reply → (local_time file instant room).text ≡ zeros room

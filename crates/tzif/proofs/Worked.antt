@@ -4,9 +4,9 @@ use Rattle.tzif.proofs.{Marked.{second_version, marked_three, PlainFour}, Signs.
 use Rattle.tzif.specs.Check.{occurs_later, correction_before, correction_of, one_apart, is_expiry, nul_end, check_time, check_index, check_type, check_leap, check_leaps, check_standard, is_standard}
 use Rattle.tzif.specs.{Check.{check_ut}, Header.{rfc8536, begins, is_version, is_fourth, version_fits, check_header, block_at, none_or_all, check_counts, check_block, read_block}, Last.{Octets}}
 use Rattle.tzif.specs.{Last.{LastNotAfter, transition_time}, Local.{type_in, type_behind, is_after_last, by_table, replied, lent, local_time_by, local_time}, Number.{octets, be32, raised, time_at}}
-use Rattle.tzif.specs.{Number.{signed_at, lift}, Part.{count_of, check_of, check_part}, Reply.{given, demand, each, refusal, ◌>>=◌, ◌>>◌}, Text.{first_with, is_stop, run_to}, Times.{time_in}}
+use Rattle.tzif.specs.{Number.{signed_at, lift}, Part.{count_of, check_of, check_part}, Reply.{given, refused, demand, each, refusal, ◌>>=◌, ◌>>◌}, Text.{first_with, is_stop, run_to}, Times.{time_in}}
 use Rattle.tzif.specs.{Times.{transitions_of, last_with, last_not_after}, Zone.{newline_at, read_footer, read_short, read_long, read_zone_by, read_zone}, declared.block.Block.{Block}}
-use Rattle.tzif.specs.declared.local.LocalTime.TheVariants as L
+use Rattle.std.specs.Prelude.{Some, None}
 
 -- version 1: `A` at UT, and from instant 0 on `B`, an hour east of it, daylight time
 abbrev small : List ℕ
@@ -20,11 +20,11 @@ table = record { width = 4; isutcnt = 0; isstdcnt = 0; leapcnt = 0; timecnt = 1;
 
 -- before the first transition, at it, after it; and where the abbreviation has no room
 pub record Worked : Type 0 where
-  pub before : local_time small (negsuc 0) 2 ≡ replied (L.Local (record { offset = pos 0; daylight = 0; length = 1 })) (65 ∷ 0 ∷ [])
-  pub there : local_time small (pos 0) 2 ≡ replied (L.Local (record { offset = pos 3600; daylight = 1; length = 1 })) (66 ∷ 0 ∷ [])
-  pub behind : local_time small (pos 1) 2 ≡ replied L.Unknown (0 ∷ 0 ∷ [])
+  pub before : local_time small (negsuc 0) 2 ≡ replied (given (Some (record { offset = pos 0; daylight = 0; length = 1 }))) (65 ∷ 0 ∷ [])
+  pub there : local_time small (pos 0) 2 ≡ replied (given (Some (record { offset = pos 3600; daylight = 1; length = 1 }))) (66 ∷ 0 ∷ [])
+  pub behind : local_time small (pos 1) 2 ≡ replied (given None) (0 ∷ 0 ∷ [])
   pub read : read_zone small ≡ given (record { version = 0; block = table; string = 65; size = 0 })
-  pub no_room : local_time small (pos 0) 0 ≡ replied (L.Refused (refusal 18 0)) []
+  pub no_room : local_time small (pos 0) 0 ≡ replied (refused (refusal 18 0)) []
 
 pub worked : Worked
 unfolding local_time_by lent read_zone_by read_short read_block begins is_version is_fourth version_fits check_header block_at none_or_all check_counts check_block check_part
@@ -99,10 +99,10 @@ cut =
 
 -- both are answered; before version 4 they were 41, and marked 3 the table is 55
 pub record WorkedFour : Type 0 where
-  pub plain : local_time four (pos 0) 1 ≡ replied (L.Local (record { offset = pos 0; daylight = 0; length = 1 })) (65 ∷ [])
-  pub features : local_time cut (pos 0) 1 ≡ replied (L.Local (record { offset = pos 0; daylight = 0; length = 1 })) (65 ∷ [])
-  pub before : local_time_by rfc8536 cut (pos 0) 1 ≡ replied (L.Refused (refusal 41 4)) (0 ∷ [])
-  pub marked : local_time (marked_three cut) (pos 0) 1 ≡ replied (L.Refused (refusal 55 56)) (0 ∷ [])
+  pub plain : local_time four (pos 0) 1 ≡ replied (given (Some (record { offset = pos 0; daylight = 0; length = 1 }))) (65 ∷ [])
+  pub features : local_time cut (pos 0) 1 ≡ replied (given (Some (record { offset = pos 0; daylight = 0; length = 1 }))) (65 ∷ [])
+  pub before : local_time_by rfc8536 cut (pos 0) 1 ≡ replied (refused (refusal 41 4)) (0 ∷ [])
+  pub marked : local_time (marked_three cut) (pos 0) 1 ≡ replied (refused (refusal 55 56)) (0 ∷ [])
 
 pub worked_four : WorkedFour
 unfolding marked_three second_version newline_at read_footer read_long occurs_later correction_before correction_of one_apart is_expiry local_time_by lent read_zone_by

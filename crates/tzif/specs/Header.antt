@@ -2,7 +2,7 @@
 use Rattle.std.specs.Prelude.{if◌then◌else◌, ◌+◌, ◌^◌, ◌≤◌, ◌<◌, ◌&&◌, ◌||◌, ◌≡◌}
 use Rattle.numbers.specs.Prelude.{ℕ, eqb, leb, length, Bool, false, not, List}
 use Rattle.tzif.specs.{Block.{end_of}, Check.{nul_end, check_leaps}, Number.{octet, be32, octets}, Part.{check_part}, Reply.{Reply, given, refusal, demand, ◌>>◌}, declared.block.Block.{Block}}
-use Rattle.tzif.specs.declared.part.Part.TheVariants as P
+use Rattle.tzif.specs.Part as P
 
 -- `TZif`
 unfoldable pub begins : List ℕ → ℕ → Bool

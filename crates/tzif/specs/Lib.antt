@@ -9,4 +9,3 @@ pub mod Text
 pub mod Zone
 pub mod Local
 pub mod Last
-pub mod inner

@@ -1,35 +1,40 @@
 // The rules for one entry of each part of a data block.
 ghost use Rattle.std.specs.Prelude.{◌≡◌, ◌<◌, length};
-ghost use Rattle.tzif.specs.{Block.{Within}, inner.Told.{told}, Check.{nul_end, check_time, check_index, check_type, is_standard, check_standard, check_ut}};
+ghost use Rattle.tzif.specs.{Block.{Within}, Check.{nul_end, check_time, check_index, check_type, is_standard, check_standard, check_ut}};
 
 use crate::block::Block;
 use crate::number::{be32, octet};
 use crate::place::{designations_of, indices_of, standards_of, types_of, uts_of};
-use crate::refusal::{Checked, both, demand};
+use crate::refusal::{Refusal, demand};
 use crate::times::{time_in, transitions_of};
+use numbers::fault::Fault;
 
-pub fn check_time(file: &[u8], block: Block, i: usize) -> Checked
+pub fn check_time(file: &[u8], block: Block, i: usize) -> Result<(), Refusal>
     requires within { Within (length file.now) block }
     requires i_lt_timecnt { i < block.timecnt }
-    ensures { told result ≡ check_time file.now block i }
+    ensures { result ≡ check_time file.now block i }
 {
     if i == 0 {
-        return Checked::Fine;
+        return Ok(());
     }
     let times = transitions_of(block);
     let before = time_in(file, times, i - 1);
     let time = time_in(file, times, i);
-    demand(before < time, 48, block.begin + i * block.width)
+    demand(
+        before < time,
+        Fault::TzifTime,
+        block.begin + i * block.width,
+    )
 }
 
-pub fn check_index(file: &[u8], block: Block, i: usize) -> Checked
+pub fn check_index(file: &[u8], block: Block, i: usize) -> Result<(), Refusal>
     requires within { Within (length file.now) block }
     requires i_lt_timecnt { i < block.timecnt }
-    ensures { told result ≡ check_index file.now block i }
+    ensures { result ≡ check_index file.now block i }
 {
     let place = indices_of(block) + i;
     let index = octet(file, place);
-    demand(index < block.typecnt, 49, place)
+    demand(index < block.typecnt, Fault::TzifType, place)
 }
 
 // Behind the last NUL of the designations, by its index.
@@ -49,32 +54,29 @@ pub fn nul_end(file: &[u8], block: Block) -> usize
     n
 }
 
-pub fn check_type(file: &[u8], block: Block, nul: usize, i: usize) -> Checked
+pub fn check_type(file: &[u8], block: Block, nul: usize, i: usize) -> Result<(), Refusal>
     requires within { Within (length file.now) block }
     requires i_lt_typecnt { i < block.typecnt }
-    ensures { told result ≡ check_type file.now block nul i }
+    ensures { result ≡ check_type file.now block nul i }
 {
     let place = types_of(block) + 6 * i;
     let utoff = be32(file, place);
     let isdst = octet(file, place + 4);
     let desigidx = octet(file, place + 5);
-    let offset = demand(!(utoff == 0x8000_0000), 50, place);
-    let daylight = demand(isdst < 2, 51, place + 4);
-    let inside = demand(desigidx < block.charcnt, 52, place + 5);
-    let ended = demand(desigidx < nul, 53, place + 5);
-    let designation = both(inside, ended);
-    let rest = both(daylight, designation);
-    both(offset, rest)
+    demand(utoff != 0x8000_0000, Fault::TzifOffset, place)?;
+    demand(isdst < 2, Fault::TzifDaylight, place + 4)?;
+    demand(desigidx < block.charcnt, Fault::TzifIndex, place + 5)?;
+    demand(desigidx < nul, Fault::TzifDesignation, place + 5)
 }
 
-pub fn check_standard(file: &[u8], block: Block, i: usize) -> Checked
+pub fn check_standard(file: &[u8], block: Block, i: usize) -> Result<(), Refusal>
     requires within { Within (length file.now) block }
     requires i_lt_isstdcnt { i < block.isstdcnt }
-    ensures { told result ≡ check_standard file.now block i }
+    ensures { result ≡ check_standard file.now block i }
 {
     let place = standards_of(block) + i;
     let indicator = octet(file, place);
-    demand(indicator < 2, 56, place)
+    demand(indicator < 2, Fault::TzifStandard, place)
 }
 
 fn is_standard(file: &[u8], block: Block, i: usize) -> bool
@@ -87,16 +89,13 @@ fn is_standard(file: &[u8], block: Block, i: usize) -> bool
     octet(file, standards_of(block) + i) == 1
 }
 
-pub fn check_ut(file: &[u8], block: Block, i: usize) -> Checked
+pub fn check_ut(file: &[u8], block: Block, i: usize) -> Result<(), Refusal>
     requires within { Within (length file.now) block }
     requires i_lt_isutcnt { i < block.isutcnt }
-    ensures { told result ≡ check_ut file.now block i }
+    ensures { result ≡ check_ut file.now block i }
 {
     let place = uts_of(block) + i;
     let indicator = octet(file, place);
-    if is_standard(file, block, i) {
-        demand(indicator < 2, 57, place)
-    } else {
-        demand(indicator < 1, 57, place)
-    }
+    let most = if is_standard(file, block, i) { 2 } else { 1 };
+    demand(indicator < most, Fault::TzifUt, place)
 }

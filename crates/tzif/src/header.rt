@@ -1,22 +1,17 @@
 // A header and the data block behind it: refusals 40 to 57, the first fault in file order.
 ghost use Rattle.std.specs.Prelude.{◌≡◌, ◌+◌, ◌^◌, ◌≤◌, ◌<◌};
 ghost use lib.{Dec.{leb}, ListN.{length}};
-ghost use Rattle.tzif.specs.{Block.{Within, end_of}, Number.{octet}, inner.Told.{told, told_block}};
+ghost use Rattle.tzif.specs.{Block.{Within, end_of}, Number.{octet}};
 ghost use Rattle.tzif.specs.Header.{rfc9636, begins, is_version, is_fourth, version_fits, check_header, block_at, Counted, none_or_all, check_counts, check_block, read_block};
 
 use crate::block::Block;
-use crate::check::nul_end;
-use crate::leap::check_leaps;
+use crate::check::{check_index, check_standard, check_time, check_type, check_ut, nul_end};
+use crate::leap::check_leap;
 use crate::number::{be32, octet, octets};
-use crate::part::{Part, check_part};
+use crate::part::first_fault;
 use crate::place::end_of;
-use crate::refusal::{Checked, Refusal, both, demand};
-
-#[derive(Clone, Copy)]
-pub enum Reading {
-    Block(Block),
-    Refused(Refusal),
-}
+use crate::refusal::{Refusal, demand};
+use numbers::fault::Fault;
 
 // Whether so many octets at a place lie within the file.
 fn holds(length: usize, at: usize, size: usize) -> bool
@@ -66,18 +61,12 @@ fn version_fits(file: &[u8], wide: bool, at: usize) -> bool
     is_version(version)
 }
 
-fn check_header(file: &[u8], wide: bool, at: usize) -> Checked
-    ensures { told result ≡ check_header rfc9636 file.now wide at }
+fn check_header(file: &[u8], wide: bool, at: usize) -> Result<(), Refusal>
+    ensures { result ≡ check_header rfc9636 file.now wide at }
 {
-    let begun = begins(file, at);
-    if !begun {
-        return demand(begun, 40, at);
-    }
-    let fits = version_fits(file, wide, at);
-    let whole = holds(file.len(), at, 44);
-    let version = demand(fits, 41, at + 4);
-    let rest = demand(whole, 42, at);
-    both(version, rest)
+    demand(begins(file, at), Fault::TzifMagic, at)?;
+    demand(version_fits(file, wide, at), Fault::TzifVersion, at + 4)?;
+    demand(holds(file.len(), at, 44), Fault::TzifHeader, at)
 }
 
 // The counts, unchecked.
@@ -114,23 +103,19 @@ fn none_or_all(count: usize, all: usize) -> bool
     count == all
 }
 
-fn check_counts(file: &[u8], at: usize, block: Block) -> Checked
+fn check_counts(file: &[u8], at: usize, block: Block) -> Result<(), Refusal>
     requires at_in_bounds { at + 44 ≤ length file.now }
     requires block_bound { end_of block < 2 ^ 64 }
-    ensures { told result ≡ check_counts file.now at block }
+    ensures { result ≡ check_counts file.now at block }
 {
     let end = end_of(block);
     let some_ut = none_or_all(block.isutcnt, block.typecnt);
     let some_standard = none_or_all(block.isstdcnt, block.typecnt);
-    let uts = demand(some_ut, 43, at + 20);
-    let standards = demand(some_standard, 44, at + 24);
-    let types = demand(!(block.typecnt == 0), 45, at + 36);
-    let chars = demand(!(block.charcnt == 0), 46, at + 40);
-    let inside = demand(end <= file.len(), 47, block.begin);
-    let last = both(chars, inside);
-    let later = both(types, last);
-    let second = both(standards, later);
-    both(uts, second)
+    demand(some_ut, Fault::TzifUts, at + 20)?;
+    demand(some_standard, Fault::TzifStandards, at + 24)?;
+    demand(block.typecnt != 0, Fault::TzifTypes, at + 36)?;
+    demand(block.charcnt != 0, Fault::TzifCharacters, at + 40)?;
+    demand(end <= file.len(), Fault::TzifBlock, block.begin)
 }
 
 fn is_fourth(file: &[u8]) -> bool
@@ -140,41 +125,27 @@ fn is_fourth(file: &[u8]) -> bool
     octet(file, 4) == 0x34
 }
 
-fn check_block(file: &[u8], fourth: bool, block: Block) -> Checked
+fn check_block(file: &[u8], fourth: bool, block: Block) -> Result<(), Refusal>
     requires { Within (length file.now) block }
-    ensures { told result ≡ check_block file.now fourth block }
+    ensures { result ≡ check_block file.now fourth block }
 {
     let nul = nul_end(file, block);
-    let times = check_part(file, block, Part::Times);
-    let indices = check_part(file, block, Part::Indices);
-    let types = check_part(file, block, Part::Types(nul));
-    let leaps = check_leaps(file, fourth, block);
-    let standards = check_part(file, block, Part::Standards);
-    let uts = check_part(file, block, Part::Uts);
-    let indicators = both(standards, uts);
-    let fifth = both(leaps, indicators);
-    let fourth = both(types, fifth);
-    let third = both(indices, fourth);
-    both(times, third)
+    first_fault(block.timecnt, |i| check_time(file, block, i))?;
+    first_fault(block.timecnt, |i| check_index(file, block, i))?;
+    first_fault(block.typecnt, |i| check_type(file, block, nul, i))?;
+    first_fault(block.leapcnt, |i| check_leap(file, fourth, block, i))?;
+    first_fault(block.isstdcnt, |i| check_standard(file, block, i))?;
+    first_fault(block.isutcnt, |i| check_ut(file, block, i))
 }
 
 // The block behind a header, if all of it is as the RFC requires.
-pub fn read_block(file: &[u8], wide: bool, at: usize) -> Reading
-    ensures { told_block result ≡ read_block rfc9636 file.now wide at }
+pub fn read_block(file: &[u8], wide: bool, at: usize) -> Result<Block, Refusal>
+    ensures { result ≡ read_block rfc9636 file.now wide at }
 {
-    let head = check_header(file, wide, at);
-    if let Checked::Refused(why) = head {
-        return Reading::Refused(why);
-    }
+    check_header(file, wide, at)?;
     let block = read_counts(file, wide, at);
-    let counted = check_counts(file, at, block);
-    if let Checked::Refused(why) = counted {
-        return Reading::Refused(why);
-    }
+    check_counts(file, at, block)?;
     let fourth = is_fourth(file);
-    let checked = check_block(file, fourth, block);
-    if let Checked::Refused(why) = checked {
-        return Reading::Refused(why);
-    }
-    Reading::Block(block)
+    check_block(file, fourth, block)?;
+    Ok(block)
 }

@@ -2,14 +2,15 @@
 ghost use mathlib.Core.{Path.{◌≡◌}, Bool.{◌&&◌, ◌||◌}};
 ghost use Rattle.std.specs.Prelude.{◌+◌, ◌-◌, ◌^◌, ◌≤◌, ◌<◌};
 ghost use lib.{Dec.{ltb, leb, eqb}, ListN.{length}};
-ghost use Rattle.tzif.specs.{Block.{Within}, inner.Told.{told}, Number.{Word}, Reply.{demand, refusal}, Times.{time_in, occurrences_of, Rises}};
-ghost use Rattle.tzif.specs.Check.{leap_place, correction_of, occurs_later, correction_before, correction_at, one_apart, is_expiry, check_leap, check_leaps};
+ghost use Rattle.tzif.specs.{Block.{Within}, Number.{Word}, Reply.{demand, refusal}, Times.{time_in, occurrences_of, Rises}};
+ghost use Rattle.tzif.specs.Check.{leap_place, correction_of, occurs_later, correction_before, correction_at, one_apart, is_expiry, check_leap};
 
 use crate::block::Block;
 use crate::number::{be32, raised};
 use crate::place::leaps_of;
-use crate::refusal::{Checked, both, demand};
+use crate::refusal::{Refusal, demand};
 use crate::times::{last_not_after, occurrences_of, time_in};
+use numbers::fault::Fault;
 
 fn leap_place(block: Block, i: usize) -> usize
     requires { (leap_place block i < 2 ^ 64) × (block.width + 4 < 2 ^ 64) }
@@ -127,47 +128,33 @@ fn corrects(fourth: bool, i: usize, before: usize, correction: usize) -> bool
 }
 
 // An expiry.
-fn check_expiry(file: &[u8], block: Block, i: usize) -> Checked
+fn check_expiry(file: &[u8], block: Block, i: usize) -> Result<(), Refusal>
     requires within { Within (length file.now) block }
     requires i_nonzero { (0 < i) × (i < block.leapcnt) }
-    ensures { told result ≡ demand (ltb (time_in file.now (occurrences_of block) (i - 1)) (time_in file.now (occurrences_of block) i)) (refusal 54 (leap_place block i)) }
+    ensures { result ≡ demand (ltb (time_in file.now (occurrences_of block) (i - 1)) (time_in file.now (occurrences_of block) i)) (refusal 54 (leap_place block i)) }
 {
     let occurrences = occurrences_of(block);
     let before = time_in(file, occurrences, i - 1);
     let occurrence = time_in(file, occurrences, i);
-    demand(before < occurrence, 54, leap_place(block, i))
+    demand(
+        before < occurrence,
+        Fault::TzifOccurrence,
+        leap_place(block, i),
+    )
 }
 
-fn check_leap(file: &[u8], fourth: bool, block: Block, i: usize) -> Checked
+pub(crate) fn check_leap(file: &[u8], fourth: bool, block: Block, i: usize) -> Result<(), Refusal>
     requires within { Within (length file.now) block }
     requires i_lt_leapcnt { i < block.leapcnt }
-    ensures { told result ≡ check_leap file.now fourth block i }
+    ensures { result ≡ check_leap file.now fourth block i }
 {
     if expires(file, fourth, block, i) {
         return check_expiry(file, block, i);
     }
     let place = leap_place(block, i);
-    let later = occurs_later(file, block, i);
+    demand(occurs_later(file, block, i), Fault::TzifOccurrence, place)?;
     let before = correction_before(file, block, i);
     let correction = correction_of(file, block, i);
     let follows = corrects(fourth, i, before, correction);
-    let first = demand(later, 54, place);
-    let second = demand(follows, 55, place + block.width);
-    both(first, second)
-}
-
-// The first fault of all records.
-pub(crate) fn check_leaps(file: &[u8], fourth: bool, block: Block) -> Checked
-    requires { Within (length file.now) block }
-    ensures { told result ≡ check_leaps file.now fourth block }
-{
-    let mut i = 0;
-    while i < block.leapcnt {
-        let answer = check_leap(file, fourth, block, i);
-        let Checked::Fine = answer else {
-            return answer;
-        };
-        i += 1;
-    }
-    Checked::Fine
+    demand(follows, Fault::TzifCorrection, place + block.width)
 }

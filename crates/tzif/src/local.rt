@@ -1,16 +1,17 @@
 // Local time from a file: offset, daylight flag and abbreviation by its transitions.
-ghost use Rattle.std.specs.Prelude.{◌≡◌, ◌+◌, ◌≤◌, ◌<◌, length};
+ghost use Rattle.std.specs.Prelude.{IfOk, IfSome, ◌≡◌, ◌+◌, ◌≤◌, ◌<◌, length};
 ghost use mir.{Syntax.{w32}, Val.{of_z}};
 ghost use Rattle.numbers.specs.Lists.{zeros};
-ghost use Rattle.tzif.specs.Local.{type_in, type_behind, is_after_last, by_table, replied, named, local_time, Good, Held};
+ghost use Rattle.tzif.specs.{Header.{rfc9636}, Local.{type_in, type_behind, is_after_last, by_table, found_at, replied, named, lent, local_time, Good, Held}};
 
 use crate::block::Block;
 use crate::number::{be32, lifted, octet, signed};
 use crate::place::{designations_of, indices_of, types_of};
-use crate::refusal::Refusal;
+use crate::refusal::{Refusal, refuse};
 use crate::text::{lend, run_to};
 use crate::times::{last_not_after, time_in, transitions_of};
-use crate::zone::{Read, read_zone};
+use crate::zone::read_zone;
+use numbers::fault::Fault;
 use numbers::point::bits_of;
 
 // A local time whose abbreviation stands in the file: seconds east of UT, 1 for daylight time and else 0, the place and length of the abbreviation.
@@ -22,25 +23,12 @@ pub struct Found {
     pub length: usize,
 }
 
-#[derive(Clone, Copy)]
-pub enum Answer {
-    Found(Found),
-    Unknown,
-}
-
 // A local time whose abbreviation stands at the start of the lent text, so long.
 #[derive(Clone, Copy)]
 pub struct Local {
     pub offset: i32,
     pub daylight: u8,
     pub length: usize,
-}
-
-#[derive(Clone, Copy)]
-pub enum LocalTime {
-    Local(Local),
-    Unknown,
-    Refused(Refusal),
 }
 
 // The offset's 32 bits.
@@ -94,15 +82,15 @@ pub fn is_after_last(file: &[u8], block: Block, instant: usize) -> bool
 }
 
 // What the transitions say of an instant, given more 2^63.
-pub fn by_table(file: &[u8], block: Block, instant: usize) -> Answer
+pub fn by_table(file: &[u8], block: Block, instant: usize) -> Option<Found>
     requires { Good file.now block }
     ensures { result ≡ by_table file.now block instant }
 {
     if is_after_last(file, block, instant) {
-        return Answer::Unknown;
+        return None;
     }
     let behind = last_not_after(file, transitions_of(block), instant);
-    Answer::Found(type_in(file, block, type_behind(file, block, behind)))
+    Some(type_in(file, block, type_behind(file, block, behind)))
 }
 
 pub fn clear(text: &mut [u8])
@@ -112,7 +100,7 @@ pub fn clear(text: &mut [u8])
 }
 
 // The reply to a local time that was found, with its abbreviation in the lent text.
-pub fn reply_found(file: &[u8], found: Found, text: &mut [u8]) -> LocalTime
+pub fn reply_found(file: &[u8], found: Found, text: &mut [u8]) -> Result<Option<Local>, Refusal>
     requires { Held (length file.now) found }
     ensures { replied result text.new ≡ named file.now (length text.old) found }
 {
@@ -120,36 +108,49 @@ pub fn reply_found(file: &[u8], found: Found, text: &mut [u8]) -> LocalTime
     let length = found.length;
     if text.len() < length {
         clear(text);
-        return LocalTime::Refused(Refusal {
-            number: 18,
-            detail: 0,
-        });
+        return Err(refuse(Fault::TextFull, 0));
     }
     lend(&file[place..place + length], text);
-    LocalTime::Local(Local {
+    Ok(Some(Local {
         offset: found.offset,
         daylight: found.daylight,
         length,
-    })
+    }))
 }
 
-// Local time at an instant, by a file that is checked first.
-pub fn local_time(file: &[u8], instant: i64, text: &mut [u8]) -> LocalTime
+// The reply to what a file says, with the abbreviation in the lent text.
+pub fn reply(
+    file: &[u8],
+    said: Result<Option<Found>, Refusal>,
+    text: &mut [u8],
+) -> Result<Option<Local>, Refusal>
+    requires { IfOk said (λ answer. IfSome answer (Held (length file.now))) }
+    ensures { replied result text.new ≡ lent file.now (length text.old) said }
+{
+    match said {
+        Ok(Some(found)) => reply_found(file, found, text),
+        Ok(None) => {
+            clear(text);
+            Ok(None)
+        }
+        Err(why) => {
+            clear(text);
+            Err(why)
+        }
+    }
+}
+
+// What the transitions of a file say of an instant.
+fn found_at(file: &[u8], instant: i64) -> Result<Option<Found>, Refusal>
+    ensures { (result ≡ found_at rfc9636 file.now instant) × IfOk result (λ answer. IfSome answer (Held (length file.now))) }
+{
+    let zone = read_zone(file)?;
+    Ok(by_table(file, zone.block, lifted(instant)))
+}
+
+// Local time at an instant, by a file that is checked first: none after its last transition, a refusal with the place that it blames.
+pub fn local_time(file: &[u8], instant: i64, text: &mut [u8]) -> Result<Option<Local>, Refusal>
     ensures { replied result text.new ≡ local_time file.now instant (length text.old) }
 {
-    let zone = match read_zone(file) {
-        Read::Zone(zone) => zone,
-        Read::Refused(why) => {
-            clear(text);
-            return LocalTime::Refused(why);
-        }
-    };
-    let found = match by_table(file, zone.block, lifted(instant)) {
-        Answer::Found(found) => found,
-        Answer::Unknown => {
-            clear(text);
-            return LocalTime::Unknown;
-        }
-    };
-    reply_found(file, found, text)
+    reply(file, found_at(file, instant), text)
 }

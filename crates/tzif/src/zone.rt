@@ -1,13 +1,14 @@
 // A whole file: refusals 1 and 40 to 59, the first fault in file order.
 ghost use Rattle.std.specs.Prelude.{◌≡◌, ◌<◌, length};
-ghost use Rattle.tzif.specs.{Block.{Within}, Header.{rfc9636}, inner.Told.{told_footer, told_zone}, Zone.{newline_at, read_footer, read_short, read_long, read_zone}};
+ghost use Rattle.tzif.specs.{Block.{Within}, Header.{rfc9636}, Zone.{newline_at, read_footer, read_short, read_long, read_zone}};
 
 use crate::block::Block;
-use crate::header::{Reading, read_block};
+use crate::header::read_block;
 use crate::number::octet;
 use crate::place::end_of;
-use crate::refusal::Refusal;
+use crate::refusal::{Refusal, demand};
 use crate::text::run_to;
+use numbers::fault::Fault;
 use numbers::limits::LARGEST_FILE;
 
 // What the checks of a file leave: its version's octet, the block that answers, the place and length of its TZ string.
@@ -19,19 +20,6 @@ pub struct Zone {
     pub size: usize,
 }
 
-#[derive(Clone, Copy)]
-pub enum Read {
-    Zone(Zone),
-    Refused(Refusal),
-}
-
-#[derive(Clone, Copy)]
-pub enum Footer {
-    // How long its string is.
-    Size(usize),
-    Refused(Refusal),
-}
-
 fn newline_at(file: &[u8], at: usize) -> bool
     ensures { result ≡ newline_at file.now at }
 {
@@ -41,47 +29,27 @@ fn newline_at(file: &[u8], at: usize) -> bool
     octet(file, at) == 10
 }
 
-fn read_footer(file: &[u8], at: usize) -> Footer
-    ensures { told_footer result ≡ read_footer file.now at }
+fn read_footer(file: &[u8], at: usize) -> Result<usize, Refusal>
+    ensures { result ≡ read_footer file.now at }
 {
-    if !newline_at(file, at) {
-        return Footer::Refused(Refusal {
-            number: 58,
-            detail: at,
-        });
-    }
+    demand(newline_at(file, at), Fault::TzifFooter, at)?;
     let place = at + 1;
     let size = run_to(10, file, place, file.len() - place);
     let stop = place + size;
-    if !newline_at(file, stop) {
-        return Footer::Refused(Refusal {
-            number: 58,
-            detail: stop,
-        });
-    }
+    demand(newline_at(file, stop), Fault::TzifFooter, stop)?;
     let end = stop + 1;
-    if end < file.len() {
-        return Footer::Refused(Refusal {
-            number: 59,
-            detail: end,
-        });
-    }
-    Footer::Size(size)
+    demand(file.len() <= end, Fault::TzifRest, end)?;
+    Ok(size)
 }
 
 // Version 1.
-fn read_short(file: &[u8], block: Block) -> Read
+fn read_short(file: &[u8], block: Block) -> Result<Zone, Refusal>
     requires { Within (length file.now) block }
-    ensures { told_zone result ≡ read_short file.now block }
+    ensures { result ≡ read_short file.now block }
 {
     let end = end_of(block);
-    if end < file.len() {
-        return Read::Refused(Refusal {
-            number: 59,
-            detail: end,
-        });
-    }
-    Read::Zone(Zone {
+    demand(file.len() <= end, Fault::TzifRest, end)?;
+    Ok(Zone {
         version: 0,
         block,
         string: end,
@@ -90,23 +58,17 @@ fn read_short(file: &[u8], block: Block) -> Read
 }
 
 // Later versions.
-fn read_long(file: &[u8], first: Block) -> Read
+fn read_long(file: &[u8], first: Block) -> Result<Zone, Refusal>
     requires within { Within (length file.now) first }
     requires in_bounds { 4 < length file.now }
-    ensures { told_zone result ≡ read_long rfc9636 file.now first }
+    ensures { result ≡ read_long rfc9636 file.now first }
 {
-    let block = match read_block(file, true, end_of(first)) {
-        Reading::Block(block) => block,
-        Reading::Refused(why) => return Read::Refused(why),
-    };
+    let block = read_block(file, true, end_of(first))?;
     let end = end_of(block);
-    let size = match read_footer(file, end) {
-        Footer::Size(size) => size,
-        Footer::Refused(why) => return Read::Refused(why),
-    };
+    let size = read_footer(file, end)?;
     let version = octet(file, 4);
     let string = end + 1;
-    Read::Zone(Zone {
+    Ok(Zone {
         version,
         block,
         string,
@@ -114,19 +76,11 @@ fn read_long(file: &[u8], first: Block) -> Read
     })
 }
 
-pub fn read_zone(file: &[u8]) -> Read
-    ensures { told_zone result ≡ read_zone file.now }
+pub fn read_zone(file: &[u8]) -> Result<Zone, Refusal>
+    ensures { result ≡ read_zone file.now }
 {
-    if LARGEST_FILE < file.len() {
-        return Read::Refused(Refusal {
-            number: 1,
-            detail: 0,
-        });
-    }
-    let first = match read_block(file, false, 0) {
-        Reading::Block(first) => first,
-        Reading::Refused(why) => return Read::Refused(why),
-    };
+    demand(file.len() <= LARGEST_FILE, Fault::FileTooLarge, 0)?;
+    let first = read_block(file, false, 0)?;
     if octet(file, 4) == 0 {
         return read_short(file, first);
     }

@@ -1,24 +1,23 @@
 -- Reading names. Assumes nothing.
-use Rattle.numbers.proofs.Prelude.{ℕ, suc, ◌+◌, ◌-◌, ◌≤◌, ◌<◌, eq-eqb, ne_eqb, lt-ltb, le-ltb, eqb, ltb, length, Bool, true, false, List, ◌≡◌, refl, sym, ap, ◌∙◌, arith}
-use Rattle.tzrule.specs.{Answer.{read, fault}, Names.{is_letter, in_name, name_end, end_of, bare_of, quoted_of, name_of, told_name}, Text.{byte_at, is_digit}}
-use Rattle.tzrule.specs.declared.name.Named.TheVariants.{Name, Fault}
+use Rattle.numbers.proofs.Prelude.{ℕ, suc, ◌+◌, ◌-◌, ◌≤◌, ◌<◌, eq-eqb, ne_eqb, lt-ltb, le-ltb, le-leb, lt-leb, ltb-true, ltb-false, eqb, ltb, leb, length, Bool, true, false, List, ◌≡◌, refl, sym, ap, ◌∙◌, arith}
+use Rattle.numbers.specs.Answer.{if◌then◌else◌}
+use Rattle.tzrule.specs.{Answer.{read, fault}, Names.{is_letter, in_name, name_end, end_of, bare_of, quoted_of}, Text.{byte_at, is_digit}}
 
 module _ (byte : ℕ) where
-  pub below_capitals : byte < 65 → false ≡ is_letter byte
+  pub up_to_capitals : byte < 91 → leb 65 byte ≡ is_letter byte
   unfolding is_letter
-  below_capitals h = simp (lt-ltb byte 65 h)
+  up_to_capitals h = go (ltb byte 65) refl where
+    go : (t : Bool) → ltb byte 65 ≡ t → leb 65 byte ≡ (if t then false else if ltb byte 91 then true else if ltb byte 97 then false else ltb byte 123)
+    go true e = lt-leb 65 byte (ltb-true byte 65 e)
+    go false e = simp (lt-ltb byte 91 h) (le-leb 65 byte (ltb-false byte 65 e))
 
-  pub capital : 65 ≤ byte → byte < 91 → true ≡ is_letter byte
+  pub below_smalls : 91 ≤ byte → byte < 97 → false ≡ is_letter byte
   unfolding is_letter
-  capital h k = simp (le-ltb byte 65 h, lt-ltb byte 91 k)
+  below_smalls k l = simp (le-ltb byte 65 (omega arith), le-ltb byte 91 k, lt-ltb byte 97 l)
 
-  pub below_smalls : 65 ≤ byte → 91 ≤ byte → byte < 97 → false ≡ is_letter byte
+  pub small : 91 ≤ byte → 97 ≤ byte → ltb byte 123 ≡ is_letter byte
   unfolding is_letter
-  below_smalls h k l = simp (le-ltb byte 65 h, le-ltb byte 91 k, lt-ltb byte 97 l)
-
-  pub small : 65 ≤ byte → 91 ≤ byte → 97 ≤ byte → ltb byte 123 ≡ is_letter byte
-  unfolding is_letter
-  small h k l = simp (le-ltb byte 65 h, le-ltb byte 91 k, le-ltb byte 97 l)
+  small k l = simp (le-ltb byte 65 (omega arith), le-ltb byte 91 k, le-ltb byte 97 l)
 
   module _ (quoted : Bool) {letter : Bool} (p : letter ≡ is_letter byte) where
     pub by_letter : letter ≡ true → true ≡ in_name quoted byte
@@ -77,37 +76,25 @@ module _ (quoted : Bool) (text : List ℕ) (next : ℕ) where
 
 -- the ways of a name
 module _ (text : List ℕ) (at : ℕ) where
-  pub bare_short : {end : ℕ} → end ≡ end_of false text at → end < at + 3 → told_name (Fault end) ≡ bare_of text at
-  unfolding told_name bare_of
+  pub bare_short : {end : ℕ} → end ≡ end_of false text at → end < at + 3 → fault end ≡ bare_of text at
+  unfolding bare_of
   bare_short e h = ap fault e ∙ simp (lt-ltb (end_of false text at) (at + 3) (rw e at h))
 
-  pub bare_read : {end : ℕ} → end ≡ end_of false text at → at + 3 ≤ end → told_name (Name (record { start = at; end = end }) end) ≡ bare_of text at
-  unfolding told_name bare_of
+  pub bare_read : {end : ℕ} → end ≡ end_of false text at → at + 3 ≤ end → read (record { start = at; end = end }) end ≡ bare_of text at
+  unfolding bare_of
   bare_read e h = ap (λ (x : ℕ). read (record { start = at; end = x }) x) e ∙ simp (le-ltb (end_of false text at) (at + 3) (rw e at h))
 
   module _ {end : ℕ} (e : end ≡ end_of true text at) where
-    pub quoted_short : end < at + 3 → told_name (Fault end) ≡ quoted_of text at
-    unfolding told_name quoted_of
+    pub quoted_short : end < at + 3 → fault end ≡ quoted_of text at
+    unfolding quoted_of
     quoted_short h = ap fault e ∙ simp (lt-ltb (end_of true text at) (at + 3) (rw e at h))
 
-    module _ {byte : ℕ} (b : byte ≡ byte_at text end) (h : at + 3 ≤ end) where
-      byte_there : byte_at text (end_of true text at) ≡ byte
-      byte_there = sym (b ∙ ap (byte_at text) e)
+    -- behind three bytes or more: the bracket
+    module _ (h : at + 3 ≤ end) where
+      pub quoted_read : eqb (byte_at text end) 62 ≡ true → quoted_of text at ≡ read (record { start = at; end = end }) (end + 1)
+      unfolding quoted_of
+      quoted_read t = rw (← e, le-ltb end (at + 3) h, t) refl
 
-      pub quoted_read : byte ≡ 62 → told_name (Name (record { start = at; end = end }) (end + 1)) ≡ quoted_of text at
-      unfolding told_name quoted_of
-      quoted_read t = ap (λ (x : ℕ). read (record { start = at; end = x }) (x + 1)) e ∙
-          simp (le-ltb (end_of true text at) (at + 3) (rw e at h), eq-eqb (byte_at text (end_of true text at)) 62 (byte_there ∙ t))
-
-      pub quoted_open : (byte ≡ 62 → ⊥) → told_name (Fault end) ≡ quoted_of text at
-      unfolding told_name quoted_of
-      quoted_open t = ap fault e ∙ simp (le-ltb (end_of true text at) (at + 3) (rw e at h), ne_eqb (byte_at text (end_of true text at)) 62 (λ x. t (sym byte_there ∙ x)))
-
-  module _ {byte : ℕ} (b : byte ≡ byte_at text at) where
-    pub name_quoted : byte ≡ 60 → quoted_of text (at + 1) ≡ name_of text at
-    unfolding name_of
-    name_quoted h = simp (eq-eqb (byte_at text at) 60 (sym b ∙ h))
-
-    pub name_bare : (byte ≡ 60 → ⊥) → bare_of text at ≡ name_of text at
-    unfolding name_of
-    name_bare h = simp (ne_eqb (byte_at text at) 60 (λ e. h (b ∙ e)))
+      pub quoted_open : eqb (byte_at text end) 62 ≡ false → quoted_of text at ≡ fault end
+      unfolding quoted_of
+      quoted_open t = rw (← e, le-ltb end (at + 3) h, t) refl

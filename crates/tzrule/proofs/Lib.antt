@@ -4,8 +4,8 @@ pub mod Guess
 pub mod SummerAt
 pub mod AllYear
 pub mod Numbers
+pub mod Steps
 pub mod Times
-pub mod Signs
 pub mod Letters
 pub mod Laws
 pub mod Years

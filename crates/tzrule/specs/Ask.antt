@@ -1,7 +1,7 @@
 -- What a TZ string says of an instant.
-use Rattle.std.specs.Prelude.{if◌then◌else◌, ◌+◌, ◌-◌, ◌^◌, ◌&&◌}
+use Rattle.std.specs.Prelude.{Option, Some, None, if◌then◌else◌, ◌+◌, ◌-◌, ◌^◌, ◌&&◌}
 use Rattle.numbers.specs.Prelude.{ℕ, leb, Bool}
-use Rattle.tzrule.specs.{Summer.{is_summer, IsRule}, declared.{ask.{Asked.{Asked, TheVariants.{Holds, Outside}}, Time.{Time}}, rule.Tz.{Tz, TheVariants.{Fixed, Changing}}}}
+use Rattle.tzrule.specs.{Summer.{is_summer, IsRule}, declared.{ask.Time.{Time}, rule.Tz.{Tz, TheVariants.{Fixed, Changing}}}}
 
 -- an instant, which is given more 2 ^ 63, less a correction, which is given more 2 ^ 31
 unfoldable pub corrected : ℕ → ℕ → ℕ
@@ -28,5 +28,5 @@ clock_at (Changing rule) u =
     else record { clock = rule.standard; daylight = 0 }
 
 -- the string answers in these years alone
-unfoldable pub ask : Tz → ℕ → Asked
-ask tz u = if in_years u then Holds (clock_at tz u) else Outside
+unfoldable pub ask : Tz → ℕ → Option Time
+ask tz u = if in_years u then Some (clock_at tz u) else None

@@ -1,8 +1,7 @@
 -- The names of a TZ string.
-use Rattle.std.specs.Prelude.{if◌then◌else◌, ◌+◌, ◌-◌, ◌≤◌}
+use Rattle.std.specs.Prelude.{if◌then◌else◌, ◌+◌, ◌-◌}
 use Rattle.numbers.specs.Prelude.{ℕ, zero, suc, eqb, ltb, length, Bool, true, false, List}
-use Rattle.tzrule.specs.{Answer.{Answer, read, fault, if_byte}, Text.{byte_at, is_digit}, declared.name.{Named.{Named}, Span.{Span}}}
-use Rattle.tzrule.specs.declared.name.Named.TheVariants as N
+use Rattle.tzrule.specs.{Answer.{Answer, read, fault, if_byte}, Text.{byte_at, is_digit}, declared.name.Span.{Span}}
 
 -- A to Z, a to z
 unfoldable pub is_letter : ℕ → Bool
@@ -37,13 +36,3 @@ quoted_of text at =
 -- a name
 unfoldable pub name_of : List ℕ → ℕ → Answer Span
 name_of text = if_byte text 60 (quoted_of text) (bare_of text)
-
--- what the code's answer says
-unfoldable pub told_name : Named → Answer Span
-told_name (N.Name span next) = read span next
-told_name (N.Fault place) = fault place
-
--- the name is before the place behind it, which is in the text or at its end
-unfoldable pub Inside : ℕ → Named → Type 0
-Inside end (N.Name span next) = (span.start ≤ span.end) × (span.end ≤ next) × (next ≤ end)
-Inside end (N.Fault place) = place ≤ end

@@ -12,12 +12,6 @@ pub struct Time {
     pub daylight: u8,
 }
 
-#[derive(Clone, Copy)]
-pub enum Asked {
-    Holds(Time),
-    Outside,
-}
-
 // Years 1 to 9999. Instants are given more 2^63.
 fn in_years(u: u64) -> bool
     ensures { result ≡ in_years u }
@@ -46,27 +40,27 @@ fn clock_at(tz: Tz, u: u64) -> Time
     }
 }
 
-// What the string says in these years.
-fn ask_in_years(tz: Tz, u: u64) -> Asked
+// What the string says in these years, and nothing outside them.
+fn ask_in_years(tz: Tz, u: u64) -> Option<Time>
     requires { Ruled tz }
     ensures { result ≡ ask tz u }
 {
     if in_years(u) {
-        return Asked::Holds(clock_at(tz, u));
+        return Some(clock_at(tz, u));
     }
-    Asked::Outside
+    None
 }
 
 // The same at an instant less a correction, which is given more 2^31. Far outside these years nothing is added, so that nothing overflows.
-pub fn ask_at(tz: Tz, instant: usize, correction: usize) -> Asked
+pub fn ask_at(tz: Tz, instant: usize, correction: usize) -> Option<Time>
     requires { Ruled tz × (correction < 2 ^ 32) }
     ensures { result ≡ ask tz (corrected instant correction) }
 {
     if instant < 9223371900000000000 {
-        return Asked::Outside;
+        return None;
     }
     if 9223373000000000000 < instant {
-        return Asked::Outside;
+        return None;
     }
     let u = instant + 0x8000_0000 - correction;
     ask_in_years(tz, u as u64)

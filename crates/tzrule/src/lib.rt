@@ -2,7 +2,9 @@
 #![tactic(auto)]
 
 pub mod ask;
+mod cursor;
 pub mod date;
+pub mod fault;
 pub mod name;
 pub mod number;
 pub mod rule;

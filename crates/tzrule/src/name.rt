@@ -1,55 +1,32 @@
 // Names in a TZ string.
-ghost use Rattle.std.specs.Prelude.{◌≡◌, ◌≤◌, length};
-ghost use Rattle.tzrule.specs.Names.{is_letter, in_name, end_of, bare_of, quoted_of, name_of, told_name, Inside};
+ghost use Rattle.std.specs.Prelude.{IfOk, ◌≡◌, ◌≤◌, length};
+ghost use Rattle.tzrule.specs.{Names.{is_letter, in_name, end_of, bare_of, quoted_of, name_of}, inner.Reads.{Reads, Spans}};
 
-use crate::number::{byte_at, is_digit, wide};
+use crate::cursor::{Cursor, Read};
+use crate::fault::Fault;
+use crate::number::{byte_at, is_digit};
 
 // Where a name stands.
-#[derive(Clone, Copy)]
+#[derive(Clone, Copy, Debug, PartialEq, Eq)]
 pub struct Span {
     pub start: usize,
     pub end: usize,
 }
 
-// A name and the place behind it, or the place of a fault.
-#[derive(Clone, Copy)]
-pub enum Named {
-    Name { span: Span, next: usize },
-    Fault(usize),
-}
-
 fn is_letter(byte: u64) -> bool
     ensures { result ≡ is_letter byte }
 {
-    if byte < 65 {
-        return false;
-    }
     if byte < 91 {
-        return true;
+        return 65 <= byte;
     }
-    if byte < 97 {
-        return false;
-    }
-    byte < 123
+    97 <= byte && byte < 123
 }
 
 // A byte of a name; in brackets digits and signs too.
 fn in_name(quoted: bool, byte: u64) -> bool
     ensures { result ≡ in_name quoted byte }
 {
-    if is_letter(byte) {
-        return true;
-    }
-    if quoted {
-        if is_digit(byte) {
-            return true;
-        }
-        if byte == 43 {
-            return true;
-        }
-        return byte == 45;
-    }
-    false
+    is_letter(byte) || quoted && (is_digit(byte) || (byte == 43 || byte == 45))
 }
 
 // The place behind the bytes of a name.
@@ -58,56 +35,57 @@ fn name_end(quoted: bool, text: &[u8], at: usize) -> usize
     ensures { (result ≡ end_of quoted text.now at) × (result ≤ length text.now) }
 {
     let mut next = at;
-    while next < text.len() {
-        let byte = wide(byte_at(text, next));
-        if in_name(quoted, byte) {
-            next += 1;
-        } else {
-            return next;
-        }
+    while next < text.len() && in_name(quoted, u64::from(text[next])) {
+        next += 1;
     }
     next
 }
 
 // Three letters or more.
-fn bare_at(text: &[u8], at: usize) -> Named
-    requires { (length text.now ≤ 1073741824) × (at ≤ length text.now) }
-    ensures { (told_name result ≡ bare_of text.now at) × Inside (length text.now) result }
+fn bare_at<'a>(here: Cursor<'a>) -> Read<'a, Span>
+    ensures { Reads here.entry bare_of result × IfOk result (λ read. Spans (length here.entry.text.now) read.0) }
 {
-    let end = name_end(false, text, at);
-    if end < at + 3 {
-        return Named::Fault(end);
+    let end = name_end(false, here.text, here.at);
+    if end < here.at + 3 {
+        return Err(Fault { place: end });
     }
-    let span = Span { start: at, end };
-    Named::Name { span, next: end }
+    let span = Span {
+        start: here.at,
+        end,
+    };
+    let rest = Cursor {
+        text: here.text,
+        at: end,
+    };
+    Ok((span, rest))
 }
 
 // Three bytes or more and the closing bracket, behind the opening one.
-fn quoted_at(text: &[u8], at: usize) -> Named
-    requires { (length text.now ≤ 1073741824) × (at ≤ length text.now) }
-    ensures { (told_name result ≡ quoted_of text.now at) × Inside (length text.now) result }
+fn quoted_at<'a>(here: Cursor<'a>) -> Read<'a, Span>
+    ensures { Reads here.entry quoted_of result × IfOk result (λ read. Spans (length here.entry.text.now) read.0) }
 {
-    let end = name_end(true, text, at);
-    if end < at + 3 {
-        return Named::Fault(end);
+    let end = name_end(true, here.text, here.at);
+    if end < here.at + 3 {
+        return Err(Fault { place: end });
     }
-    let byte = byte_at(text, end);
-    if byte == 62 {
-        let span = Span { start: at, end };
-        let next = end + 1;
-        return Named::Name { span, next };
-    }
-    Named::Fault(end)
+    let last = Cursor {
+        text: here.text,
+        at: end,
+    };
+    let rest = last.behind(b'>')?;
+    let span = Span {
+        start: here.at,
+        end,
+    };
+    Ok((span, rest))
 }
 
 // A name.
-pub(crate) fn name_at(text: &[u8], at: usize) -> Named
-    requires { (length text.now ≤ 1073741824) × (at ≤ length text.now) }
-    ensures { (told_name result ≡ name_of text.now at) × Inside (length text.now) result }
+pub(crate) fn name_at<'a>(here: Cursor<'a>) -> Read<'a, Span>
+    ensures { Reads here.entry name_of result × IfOk result (λ read. Spans (length here.entry.text.now) read.0) }
 {
-    let byte = byte_at(text, at);
-    if byte == 60 {
-        return quoted_at(text, at + 1);
+    match here.eat(b'<') {
+        Some(rest) => quoted_at(rest),
+        None => bare_at(here),
     }
-    bare_at(text, at)
 }

@@ -1,6 +1,9 @@
-// Numbers in a TZ string.
-ghost use Rattle.std.specs.Prelude.{◌≡◌, ◌+◌, ◌≤◌, ◌<◌, length};
-ghost use Rattle.tzrule.specs.{Answer.{told, Within}, Grammar.{IsShape, number_of}, Text.{byte_at, is_digit, digits_of}};
+// Bytes and numbers in a TZ string.
+ghost use Rattle.std.specs.Prelude.{IfOk, ◌≡◌, ◌+◌, ◌≤◌, ◌<◌, length};
+ghost use Rattle.tzrule.specs.{Grammar.{IsShape, number_of}, Text.{byte_at, is_digit, digits_of}, inner.Reads.{Reads, Eaten, Behind}};
+
+use crate::cursor::{Cursor, Read};
+use crate::fault::Fault;
 
 // Digits that were read: their number, and the place behind them.
 #[derive(Clone, Copy)]
@@ -18,36 +21,17 @@ pub struct Shape {
     pub high: u64,
 }
 
-// A number and the place behind it, or the place of a fault.
-#[derive(Clone, Copy)]
-pub enum Number {
-    Read { value: u64, next: usize },
-    Fault(usize),
-}
-
 // The byte at a place; 0 past the end.
 pub fn byte_at(text: &[u8], at: usize) -> u8
     ensures { result ≡ byte_at text.now at }
 {
-    if at < text.len() {
-        return text[at];
-    }
-    0
-}
-
-pub fn wide(byte: u8) -> u64
-    ensures { result ≡ byte }
-{
-    byte as u64
+    text.get(at).copied().unwrap_or(0)
 }
 
 pub fn is_digit(byte: u64) -> bool
     ensures { result ≡ is_digit byte }
 {
-    if byte < 48 {
-        return false;
-    }
-    byte < 58
+    48 <= byte && byte < 58
 }
 
 // The digits at a place, up to so many.
@@ -56,35 +40,64 @@ fn digits_at(text: &[u8], at: usize, most: usize) -> Digits
     ensures { (result ≡ digits_of most text.now at 0) × (result.next ≤ length text.now) }
 {
     let mut value: u64 = 0;
-    let mut next = at;
     let end = at + most;
-    while next < end {
-        let byte = wide(byte_at(text, next));
+    for next in at..end {
+        let byte = u64::from(byte_at(text, next));
         if !is_digit(byte) {
             return Digits { value, next };
         }
         value = 10 * value + (byte - 48);
-        next += 1;
     }
-    Digits { value, next }
+    Digits { value, next: end }
 }
 
-// A number at a place.
-pub(crate) fn number_at(text: &[u8], at: usize, shape: Shape) -> Number
-    requires { (length text.now ≤ 1073741824) × (at ≤ length text.now) × IsShape shape }
-    ensures { (told result ≡ number_of shape text.now at) × Within shape.high (length text.now) result }
-{
-    let digits = digits_at(text, at, shape.most);
-    let next = digits.next;
-    let value = digits.value;
-    if next < at + shape.least {
-        return Number::Fault(next);
+impl<'a> Cursor<'a> {
+    // Behind a byte that is not 0, if it stands here.
+    pub(crate) fn eat(self, byte: u8) -> Option<Cursor<'a>>
+        requires { 0 < byte }
+        ensures { Eaten self.entry byte result }
+    {
+        if byte_at(self.text, self.at) != byte {
+            return None;
+        }
+        let at = self.at + 1;
+        Some(Cursor {
+            text: self.text,
+            at,
+        })
     }
-    if value < shape.low {
-        return Number::Fault(at);
+
+    // Behind a byte that is not 0 and must stand here.
+    pub(crate) fn behind(self, byte: u8) -> Result<Cursor<'a>, Fault>
+        requires { 0 < byte }
+        ensures { Behind self.entry byte result }
+    {
+        match self.eat(byte) {
+            Some(rest) => Ok(rest),
+            None => Err(Fault { place: self.at }),
+        }
     }
-    if shape.high < value {
-        return Number::Fault(at);
+
+    pub(crate) fn number(self, shape: Shape) -> Read<'a, u64>
+        requires { IsShape shape }
+        ensures { Reads self.entry (number_of shape) result × IfOk result (λ read. (shape.low ≤ read.0) × (read.0 ≤ shape.high)) }
+    {
+        let digits = digits_at(self.text, self.at, shape.most);
+        let next = digits.next;
+        let value = digits.value;
+        if next < self.at + shape.least {
+            return Err(Fault { place: next });
+        }
+        if value < shape.low {
+            return Err(Fault { place: self.at });
+        }
+        if shape.high < value {
+            return Err(Fault { place: self.at });
+        }
+        let rest = Cursor {
+            text: self.text,
+            at: next,
+        };
+        Ok((value, rest))
     }
-    Number::Read { value, next }
 }

@@ -1,115 +1,79 @@
 // Times of day and offsets in a TZ string, in seconds.
-ghost use Rattle.std.specs.Prelude.{◌≡◌, ◌+◌, ◌*◌, ◌≤◌, length};
-ghost use Rattle.tzrule.specs.{Answer.{told, Within, Around}, Grammar.{IsShape, seconds_of, minutes_of, clock_of, later_of, earlier_of, signed_of}};
+ghost use Rattle.std.specs.Prelude.{IfOk, ◌≡◌, ◌+◌, ◌*◌, ◌≤◌, length};
+ghost use Rattle.tzrule.specs.{Grammar.{IsShape, seconds_of, minutes_of, clock_of, later_of, earlier_of, signed_of}, inner.Reads.{Reads, Around}};
 
-use crate::number::{Number, Shape, byte_at, number_at};
+use crate::cursor::{Cursor, Read};
+use crate::number::Shape;
+
+// Minutes and seconds: two digits, 0 to 59.
+const SIXTY: Shape = Shape {
+    least: 2,
+    most: 2,
+    low: 0,
+    high: 59,
+};
 
 // [:ss], more what was read before.
-fn seconds_at(text: &[u8], at: usize, sum: u64) -> Number
-    requires { (length text.now ≤ 1073741824) × (at ≤ length text.now) × (sum ≤ 10000000) }
-    ensures { (told result ≡ seconds_of text.now sum at) × Within (sum + 59) (length text.now) result }
+fn seconds_at<'a>(here: Cursor<'a>, sum: u64) -> Read<'a, u64>
+    requires { sum ≤ 10000000 }
+    ensures { Reads here.entry (λ text. seconds_of text sum) result × IfOk result (λ read. read.0 ≤ sum + 59) }
 {
-    let byte = byte_at(text, at);
-    if byte != 58 {
-        return Number::Read {
-            value: sum,
-            next: at,
-        };
-    }
-    let sixty = Shape {
-        least: 2,
-        most: 2,
-        low: 0,
-        high: 59,
+    let Some(rest) = here.eat(b':') else {
+        return Ok((sum, here));
     };
-    let part = number_at(text, at + 1, sixty);
-    match part {
-        Number::Read { value, next } => {
-            let total = sum + value;
-            Number::Read { value: total, next }
-        }
-        Number::Fault(place) => Number::Fault(place),
-    }
+    let (seconds, rest) = rest.number(SIXTY)?;
+    Ok((sum + seconds, rest))
 }
 
 // [:mm[:ss]], more what was read before.
-fn minutes_at(text: &[u8], at: usize, sum: u64) -> Number
-    requires { (length text.now ≤ 1073741824) × (at ≤ length text.now) × (sum ≤ 9000000) }
-    ensures { (told result ≡ minutes_of text.now sum at) × Within (sum + 3599) (length text.now) result }
+fn minutes_at<'a>(here: Cursor<'a>, sum: u64) -> Read<'a, u64>
+    requires { sum ≤ 9000000 }
+    ensures { Reads here.entry (λ text. minutes_of text sum) result × IfOk result (λ read. read.0 ≤ sum + 3599) }
 {
-    let byte = byte_at(text, at);
-    if byte != 58 {
-        return Number::Read {
-            value: sum,
-            next: at,
-        };
-    }
-    let sixty = Shape {
-        least: 2,
-        most: 2,
-        low: 0,
-        high: 59,
+    let Some(rest) = here.eat(b':') else {
+        return Ok((sum, here));
     };
-    let part = number_at(text, at + 1, sixty);
-    match part {
-        Number::Read { value, next } => seconds_at(text, next, sum + 60 * value),
-        Number::Fault(place) => Number::Fault(place),
-    }
+    let (minutes, rest) = rest.number(SIXTY)?;
+    seconds_at(rest, sum + 60 * minutes)
 }
 
 // hh[:mm[:ss]].
-pub(crate) fn clock_at(text: &[u8], at: usize, hours: Shape) -> Number
-    requires { (length text.now ≤ 1073741824) × (at ≤ length text.now) × IsShape hours }
-    ensures { (told result ≡ clock_of hours text.now at) × Within (3600 * hours.high + 3599) (length text.now) result }
+pub(crate) fn clock_at<'a>(here: Cursor<'a>, hours: Shape) -> Read<'a, u64>
+    requires { IsShape hours }
+    ensures { Reads here.entry (clock_of hours) result × IfOk result (λ read. read.0 ≤ 3600 * hours.high + 3599) }
 {
-    let part = number_at(text, at, hours);
-    match part {
-        Number::Read { value, next } => minutes_at(text, next, 3600 * value),
-        Number::Fault(place) => Number::Fault(place),
-    }
+    let (hour, rest) = here.number(hours)?;
+    minutes_at(rest, 3600 * hour)
 }
 
 // A time after midnight, more 604800.
-pub(crate) fn later_at(text: &[u8], at: usize, hours: Shape) -> Number
-    requires { (length text.now ≤ 1073741824) × (at ≤ length text.now) × IsShape hours × (hours.high ≤ 167) }
-    ensures { (told result ≡ later_of hours text.now at) × Around (3600 * hours.high + 3599) (length text.now) result }
+pub(crate) fn later_at<'a>(here: Cursor<'a>, hours: Shape) -> Read<'a, u64>
+    requires { IsShape hours × (hours.high ≤ 167) }
+    ensures { Reads here.entry (later_of hours) result × IfOk result (λ read. Around (3600 * hours.high + 3599) read.0) }
 {
-    let part = clock_at(text, at, hours);
-    match part {
-        Number::Read { value, next } => {
-            let total = 604800 + value;
-            Number::Read { value: total, next }
-        }
-        Number::Fault(place) => Number::Fault(place),
-    }
+    let (time, rest) = clock_at(here, hours)?;
+    Ok((604800 + time, rest))
 }
 
 // A time before midnight, from 604800.
-fn earlier_at(text: &[u8], at: usize, hours: Shape) -> Number
-    requires { (length text.now ≤ 1073741824) × (at ≤ length text.now) × IsShape hours × (hours.high ≤ 167) }
-    ensures { (told result ≡ earlier_of hours text.now at) × Around (3600 * hours.high + 3599) (length text.now) result }
+fn earlier_at<'a>(here: Cursor<'a>, hours: Shape) -> Read<'a, u64>
+    requires { IsShape hours × (hours.high ≤ 167) }
+    ensures { Reads here.entry (earlier_of hours) result × IfOk result (λ read. Around (3600 * hours.high + 3599) read.0) }
 {
-    let part = clock_at(text, at, hours);
-    match part {
-        Number::Read { value, next } => {
-            let total = 604800 - value;
-            Number::Read { value: total, next }
-        }
-        Number::Fault(place) => Number::Fault(place),
-    }
+    let (time, rest) = clock_at(here, hours)?;
+    Ok((604800 - time, rest))
 }
 
 // With or without a sign, which is of the whole.
-pub(crate) fn signed_at(text: &[u8], at: usize, hours: Shape) -> Number
-    requires { (length text.now ≤ 1073741824) × (at ≤ length text.now) × IsShape hours × (hours.high ≤ 167) }
-    ensures { (told result ≡ signed_of hours text.now at) × Around (3600 * hours.high + 3599) (length text.now) result }
+pub(crate) fn signed_at<'a>(here: Cursor<'a>, hours: Shape) -> Read<'a, u64>
+    requires { IsShape hours × (hours.high ≤ 167) }
+    ensures { Reads here.entry (signed_of hours) result × IfOk result (λ read. Around (3600 * hours.high + 3599) read.0) }
 {
-    let byte = byte_at(text, at);
-    if byte == 45 {
-        return earlier_at(text, at + 1, hours);
+    if let Some(rest) = here.eat(b'-') {
+        return earlier_at(rest, hours);
     }
-    if byte == 43 {
-        return later_at(text, at + 1, hours);
+    if let Some(rest) = here.eat(b'+') {
+        return later_at(rest, hours);
     }
-    later_at(text, at, hours)
+    later_at(here, hours)
 }

@@ -3,8 +3,7 @@ use Rattle.numbers.proofs.Prelude.{ℕ, suc, ◌+◌, ◌-◌, ◌*◌, ◌/◌,
 use Rattle.numbers.proofs.Prelude.{subst, ◌∙◌, w32, w64, SFits, of_z, to_z, to_z-of_z, arith}
 use Rattle.calendar.proofs.{Laws.{days_in_all}, moment.Shift.{before, after}}
 use Rattle.calendar.specs.{Calendar.{weekday_of}, Civil.{Shows, CivilOf}, Dates.{DateOf}, Moments.{instant_of, InDays, MomentOf}, declared.{civil.Reading.{Reading}, moment.Moment.{Moment}}}
-use Rattle.calendar.specs.declared.moment.Moment.TheVariants.{At, Outside}
-use Rattle.calendar.specs.declared.civil.Civil.TheVariants as civil
+use Rattle.std.specs.Prelude.{Option, Some, None}
 
 -- from far before the year 1 no i32 leads into it
 stays_before : (b o : ℤ) → mag o < 2147483648 → lt_z b (negsuc 69999999999) ≡ true → lt_z (b +ℤ o) (negsuc 62135596799) ≡ true
@@ -33,10 +32,10 @@ near_sum (negsuc n) (negsuc m) h k l = record { sfits = omega (arith, ltb-false 
 
 -- what the machine works out, whose numbers read back as themselves
 module _ (instant offset b : ℤ) (same : b ≡ instant) (fits : SFits w32 offset) where
-  pub too_early : lt_z b (negsuc 69999999999) ≡ true → MomentOf (instant +ℤ offset) Outside
+  pub too_early : lt_z b (negsuc 69999999999) ≡ true → MomentOf (instant +ℤ offset) None
   too_early h = before _ _ refl (stays_before instant offset fits.sfits (rw same at h))
 
-  pub too_late : lt_z (pos 260000000000) b ≡ true → MomentOf (instant +ℤ offset) Outside
+  pub too_late : lt_z (pos 260000000000) b ≡ true → MomentOf (instant +ℤ offset) None
   too_late h = after _ _ refl (stays_after instant offset fits.sfits (rw same at h))
 
   pub near_fits : lt_z b (negsuc 69999999999) ≡ false → lt_z (pos 260000000000) b ≡ false → SFits w64 (instant +ℤ offset)
@@ -62,7 +61,7 @@ module _ (instant offset b : ℤ) (same : b ≡ instant) (fits : SFits w32 offse
     pub sum_fits : SFits w64 (b +ℤ to_z w64 (of_z w64 (to_z w32 (of_z w32 offset))))
     sum_fits = rw sum_is (near_fits low high)
 
-    pub of_sum : (moment : Moment) → MomentOf (to_z w64 (of_z w64 (b +ℤ to_z w64 (of_z w64 (to_z w32 (of_z w32 offset)))))) moment → MomentOf (instant +ℤ offset) moment
+    pub of_sum : (moment : Option Moment) → MomentOf (to_z w64 (of_z w64 (b +ℤ to_z w64 (of_z w64 (to_z w32 (of_z w32 offset)))))) moment → MomentOf (instant +ℤ offset) moment
     of_sum moment m = subst (λ (z : ℤ). MomentOf z moment) (to_z-of_z w64 _ sum_fits ∙ sum_is) m
 
 -- what the clock shows at a second of a day
@@ -84,18 +83,18 @@ module _ (day second : ℕ) (d : InDays day second) where
       }
 
 -- the two ways to the answer
-module _ (instant offset a b : ℤ) (p : a ≡ instant) (q : b ≡ offset) (moment : Moment) (given : MomentOf (a +ℤ b) moment) where
+module _ (instant offset a b : ℤ) (p : a ≡ instant) (q : b ≡ offset) (moment : Option Moment) (given : MomentOf (a +ℤ b) moment) where
   is : MomentOf (instant +ℤ offset) moment
   is = subst (λ (z : ℤ). MomentOf z moment) (let e : a +ℤ b ≡ instant +ℤ offset = cc in e) given
 
-  pub at_days : {day second : ℕ} → moment ≡ At day second → InDays day second × (instant_of day second ≡ instant +ℤ offset)
+  pub at_days : {at : Moment} → moment ≡ Some at → InDays at.day at.second × (instant_of at.day at.second ≡ instant +ℤ offset)
   unfolding MomentOf
   at_days e = rw e at is
 
-  pub civil_shown_at : {day second : ℕ} {reading : Reading} → moment ≡ At day second → Shows (instant_of day second) reading → CivilOf instant offset (civil.Shown reading)
+  pub civil_shown_at : {at : Moment} {reading : Reading} → moment ≡ Some at → Shows (instant_of at.day at.second) reading → CivilOf instant offset (Some reading)
   unfolding CivilOf
   civil_shown_at {reading = reading} e s = subst (λ (z : ℤ). Shows z reading) (at_days e).1 s
 
-  pub civil_outside : moment ≡ Outside → CivilOf instant offset civil.Outside
+  pub civil_outside : {civil : Option Reading} → moment ≡ None → civil ≡ None → CivilOf instant offset civil
   unfolding CivilOf
-  civil_outside e = rw e at is
+  civil_outside e n = rw n (rw e at is)

@@ -4,7 +4,12 @@ use Rattle.numbers.proofs.Prelude.{w64, SFits, of_z, to_z, to_z-of_z, arith}
 use lib.{IntN.{+ℤ-neg_ℤ_cancel, -ℤ-+ℤ_cancel}, Signed.{non_neg}}
 use mir.Val.{Fits}
 use Rattle.calendar.proofs.Laws.{days_in_all, epoch}
-use Rattle.calendar.specs.{Moments.{seconds_to, instant_of, MomentOf}, declared.moment.Moment.TheVariants.{At, Outside}}
+use Rattle.calendar.specs.{Moments.{seconds_to, instant_of, MomentOf}, declared.moment.Moment.{Moment}}
+use Rattle.std.specs.Prelude.{Option, Some, None}
+
+-- a moment by its two numbers
+abbrev pub At : ℕ → ℕ → Option Moment
+At day second = Some (record { day = day; second = second })
 
 -- 1970 begins 62135596800 seconds after the year 1
 pub instant_plain : (day second : ℕ) → instant_of day second ≡ pos (86400 * day + second) -ℤ pos 62135596800
@@ -69,10 +74,10 @@ not_after (pos n) s k h e = omega (arith, ltb-true 253402300799 n h, ap nat_abs 
 not_after (negsuc n) s k h e = let z : ◌≡◌ {A = ℕ} 0 1 = cc in omega arith
 
 module _ (z b : ℤ) (same : b ≡ z) where
-  pub before : lt_z b (negsuc 62135596799) ≡ true → MomentOf z Outside
+  pub before : lt_z b (negsuc 62135596799) ≡ true → MomentOf z None
   unfolding MomentOf
   before h day second d e = not_before b (86400 * day + second) h (seconds_of b day second (e ∙ sym same))
 
-  pub after : lt_z (pos 253402300799) b ≡ true → MomentOf z Outside
+  pub after : lt_z (pos 253402300799) b ≡ true → MomentOf z None
   unfolding MomentOf
   after h day second d e = not_after b (86400 * day + second) (omega (arith, d.day_to, d.second_to, days_in_all)) h (seconds_of b day second (e ∙ sym same))

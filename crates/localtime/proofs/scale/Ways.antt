@@ -1,6 +1,8 @@
 -- The ways to the scale of a file. Assumes nothing.
 use Rattle.numbers.proofs.Prelude.{ℕ, eq-eqb, ne_eqb, ℤ, List, ◌≡◌, sym, ap, ◌∙◌}
-use Rattle.localtime.specs.{Local.{rules_in, scale_in, scale_or, scale_by, scale_at}, declared.{rule.Rules.{Rules}, scale.Scale.{Scale}}}
+use Rattle.localtime.specs.{Local.{rules_in, scale_in, scale_or, scale_by, scale_at}, declared.scale.Scale.{Scale}}
+use Rattle.std.specs.Prelude.{Option}
+use Rattle.tzrule.specs.declared.rule.Tz.{Tz}
 use Rattle.tzif.specs.{Check.{correction_at}, Number.{raised, lift}, Reply.{given, refused, ◌>>=◌}, Zone.{read_zone}, declared.{block.Block.{Block}, refusal.Refusal.{Refusal}, zone.Zone.{Zone}}}
 
 -- ---- a checked file's scale
@@ -25,6 +27,6 @@ module _ (file : List ℕ) (instant : ℤ) where
     unfolding scale_by scale_or ◌>>=◌
     not_ruled e = simp (z, e)
 
-    pub scaled : {rules : Rules} {scale : Scale} {lifted : ℕ} → rules_in file zone ≡ given rules → lifted ≡ lift instant → scale ≡ scale_in file zone.block lifted → scale ≡ scale_at file instant
+    pub scaled : {rules : Option Tz} {scale : Scale} {lifted : ℕ} → rules_in file zone ≡ given rules → lifted ≡ lift instant → scale ≡ scale_in file zone.block lifted → scale ≡ scale_at file instant
     unfolding scale_by scale_or ◌>>=◌
     scaled r l s = s ∙ ap (scale_in file zone.block) l ∙ sym (simp (z, r))

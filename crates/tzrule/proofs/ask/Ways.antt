@@ -1,6 +1,7 @@
 -- The ways to what a string says of an instant. Assumes nothing.
 use Rattle.numbers.proofs.{Prelude.{ℕ, ◌-◌, ◌^◌, ◌≤◌, ◌<◌, le-leb, leb-true, lt-leb, leb, Bool, true, false, ◌&&◌, ◌≡◌, refl, sym, ap, ◌∙◌, arith}, Tests.{both}}
-use Rattle.tzrule.specs.{Ask.{Ruled, corrected, in_years, since, clock_at, ask}, Summer.{is_summer, IsRule, InYears}, declared.ask.{Asked.TheVariants.{Holds, Outside}, Time.{Time}}}
+use Rattle.tzrule.specs.{Ask.{Ruled, corrected, in_years, since, clock_at, ask}, Summer.{is_summer, IsRule, InYears}, declared.ask.Time.{Time}}
+use Rattle.std.specs.Prelude.{Some, None}
 use Rattle.tzrule.specs.declared.rule.{Clock.{Clock}, Rule.{Rule}, Tz.{Tz, TheVariants.{Fixed, Changing}}}
 
 -- the two ways of the years
@@ -36,21 +37,21 @@ module _ (u : ℕ) where
 
   -- the answer, inside and outside
   module _ (tz : Tz) where
-    pub ask_inside : {time : Time} → in_years u ≡ true → time ≡ clock_at tz u → Holds time ≡ ask tz u
+    pub ask_inside : {time : Time} → in_years u ≡ true → time ≡ clock_at tz u → Some time ≡ ask tz u
     unfolding ask
-    ask_inside e t = ap Holds t ∙ simp e
+    ask_inside e t = ap Some t ∙ simp e
 
-    pub ask_outside : in_years u ≡ false → Outside ≡ ask tz u
+    pub ask_outside : in_years u ≡ false → None ≡ ask tz u
     unfolding ask
     ask_outside e = simp e
 
 -- far outside these years a correction of 32 bits changes nothing
 module _ (tz : Tz) (instant correction : ℕ) (small : correction < 2 ^ 32) where
-  pub far_before : instant < 9223371900000000000 → Outside ≡ ask tz (corrected instant correction)
+  pub far_before : instant < 9223371900000000000 → None ≡ ask tz (corrected instant correction)
   unfolding corrected
   far_before h = ask_outside _ tz (sym (too_early _ (omega arith)))
 
-  pub far_after : 9223373000000000000 < instant → Outside ≡ ask tz (corrected instant correction)
+  pub far_after : 9223373000000000000 < instant → None ≡ ask tz (corrected instant correction)
   unfolding corrected
   far_after h = ask_outside _ tz (sym (too_late _ (omega arith)))
 

@@ -1,24 +1,15 @@
 -- What the functions that read a TZ string say of each other.
 use Rattle.std.specs.Prelude.{◌≤◌}
 use Rattle.numbers.specs.Prelude.{ℕ}
-use Rattle.tzrule.specs.{Answer.{Answer, read, fault}, Summer.{IsChange, IsRule}, declared.rule.{Change.{Change}, Clock.{Clock}, Rule.{Rule}, Tz.{Tz, TheVariants.{Fixed, Changing}}}}
-use Rattle.tzrule.specs.declared.string.{Changed.{Changed}, Clocked.{Clocked}, Parsed.{Parsed}}
-use Rattle.tzrule.specs.declared.string.Changed.TheVariants as changed
-use Rattle.tzrule.specs.declared.string.Clocked.TheVariants as clocked
-use Rattle.tzrule.specs.declared.string.Parsed.TheVariants as parsed
+use Rattle.tzrule.specs.{Answer.{Answer, read, fault}, Summer.{IsRule}, declared.rule.{Clock.{Clock}, Rule.{Rule}, Tz.{Tz, TheVariants.{Fixed, Changing}}}}
+use Rattle.tzrule.specs.declared.string.StringAt.{StringAt}
+use Rattle.tzrule.specs.declared.fault.Fault.{Fault}
+use Rattle.std.specs.Prelude.{Result, Ok, Err}
 
--- what the code's answers say
-unfoldable pub told_clock : Clocked → Answer Clock
-told_clock (clocked.Clock at) = read at.clock at.next
-told_clock (clocked.Fault place) = fault place
-
-unfoldable pub told_change : Changed → Answer Change
-told_change (changed.Change at) = read at.change at.next
-told_change (changed.Fault place) = fault place
-
-unfoldable pub told_string : Parsed → Answer Tz
-told_string (parsed.String at) = read at.tz at.next
-told_string (parsed.Fault place) = fault place
+-- what the code's answer says
+unfoldable pub told_string : Result StringAt Fault → Answer Tz
+told_string (Ok at) = read at.tz at.next
+told_string (Err at) = fault at.place
 
 -- the name is in the text, and the offset less than a week
 pub record IsClock (end : ℕ) (clock : Clock) : Type 0 where
@@ -35,14 +26,6 @@ unfoldable pub IsTz : ℕ → Tz → Type 0
 IsTz end (Fixed clock) = IsClock end clock
 IsTz end (Changing rule) = IsChanging end rule
 
-unfoldable pub GoodClock : ℕ → ℕ → Clocked → Type 0
-GoodClock end low (clocked.Clock at) = IsClock end at.clock × (low ≤ at.clock.west) × (at.next ≤ end)
-GoodClock end low (clocked.Fault place) = place ≤ end
-
-unfoldable pub GoodChange : ℕ → Changed → Type 0
-GoodChange end (changed.Change at) = IsChange at.change × (at.next ≤ end)
-GoodChange end (changed.Fault place) = place ≤ end
-
-unfoldable pub GoodString : ℕ → Parsed → Type 0
-GoodString end (parsed.String at) = IsTz end at.tz
-GoodString end (parsed.Fault place) = place ≤ end
+unfoldable pub GoodString : ℕ → Result StringAt Fault → Type 0
+GoodString end (Ok at) = IsTz end at.tz
+GoodString end (Err at) = at.place ≤ end

@@ -5,12 +5,12 @@ use Rattle.calendar.proofs.civil.civil_time.Goals as goal
 
 pub shown-requires : goal.shown-requires
 shown-requires c =
-    (at_days _ _ _ _ (to_z-of_z w64 _ c.ranges.instant) (to_z-of_z w32 _ c.ranges.offset) _ c.local_moment-moment.ensures c.in-At.is).0
+    (at_days _ _ _ _ (to_z-of_z w64 _ c.ranges.instant) (to_z-of_z w32 _ c.ranges.offset) _ c.local_moment.ensures c.in_ok-moment.was).0
 
-pub returns-in-At : goal.returns-in-At
-returns-in-At c =
-    civil_shown_at _ _ _ _ (to_z-of_z w64 _ c.ranges.instant) (to_z-of_z w32 _ c.ranges.offset) _ c.local_moment-moment.ensures c.in-At.is c.shown.ensures
+pub returns : goal.returns
+returns c =
+    civil_shown_at _ _ _ _ (to_z-of_z w64 _ c.ranges.instant) (to_z-of_z w32 _ c.ranges.offset) _ c.local_moment.ensures c.in_ok-moment.was c.shown.ensures
 
-pub returns-in-Outside : goal.returns-in-Outside
-returns-in-Outside c =
-    civil_outside _ _ _ _ (to_z-of_z w64 _ c.ranges.instant) (to_z-of_z w32 _ c.ranges.offset) _ c.local_moment-moment.ensures c.in-Outside.is
+pub returns-in_err-moment : goal.returns-in_err-moment
+returns-in_err-moment c =
+    civil_outside _ _ _ _ (to_z-of_z w64 _ c.ranges.instant) (to_z-of_z w32 _ c.ranges.offset) _ c.local_moment.ensures c.in_err-moment.was c.from_residual.ensures

@@ -1,11 +1,11 @@
 -- `localtime::local::local_time` meets its contract.
-use Rattle.numbers.proofs.Prelude.{ap, ◌∙◌, w64, to_z-of_z}
-use Rattle.localtime.proofs.local.{Ways.{local_time_is}}
-use Rattle.localtime.specs.Local.{scale_at}
+use Rattle.numbers.proofs.Prelude.{length, ap, ◌∙◌, w64, to_z-of_z}
+use Rattle.localtime.specs.Local.{local_time_by, scale_at}
+use Rattle.tzif.specs.Local.{lent}
 use Rattle.localtime.proofs.local.local_time.Goals as goal
 
 pub returns : goal.returns
+unfolding local_time_by
 returns c =
-    let instant = c.args.instant in
-    let same = to_z-of_z w64 instant c.ranges.instant in
-    (local_time_is _ _ _ instant same c.answer_at-answered.ensures.0 c.reply_said-time.ensures, c.answer_at-answered.ensures.2 ∙ ap (scale_at c.args.file.now) same)
+    let same = to_z-of_z w64 c.args.instant c.ranges.instant in
+    (c.reply-time.ensures ∙ ap (lent c.args.file.now (length c.args.text.now)) (rw same at c.answer_at-answered.ensures.0), c.answer_at-answered.ensures.2 ∙ ap (scale_at c.args.file.now) same)

@@ -22,20 +22,20 @@ type_in-found-requires c =
 
 pub found_of-requires : goal.found_of-requires
 found_of-requires c =
-    clock_short _ (holds_clock _ c.in-Holds.is c.ask_in-asked.ensures.1)
+    clock_short _ (holds_clock _ c.in-Some.is c.ask_in.ensures.1)
 
 pub same_found-requires : goal.same_found-requires
 same_found-requires c = (
   type_within _ _ _ c.type_behind.ensures c.requires.0.good (omega arith) c.type_in-found.ensures,
-  clock_found _ _ (holds_clock _ c.in-Holds.is
-      c.ask_in-asked.ensures.1) c.found_of.ensures,
+  clock_found _ _ (holds_clock _ c.in-Some.is
+      c.ask_in.ensures.1) c.found_of.ensures,
 )
 
-pub returns-in-Holds : goal.returns-in-Holds
-returns-in-Holds c =
-    compared _ _ _ c.if-count-eq0.false (last_is _ c.args.block _ c.transitions_of.ensures c.time_in-last.ensures) c.ask_in-asked.ensures.0 c.in-Holds.is (type_is _
+pub returns : goal.returns
+returns c =
+    compared _ _ _ c.if-count-eq0.false (last_is _ c.args.block _ c.transitions_of.ensures c.time_in-last.ensures) c.ask_in.ensures.0 c.in-Some.is (type_is _
     _ _ c.type_behind.ensures c.type_in-found.ensures) c.found_of.ensures c.same_found.ensures
 
-pub returns-in-Outside : goal.returns-in-Outside
-returns-in-Outside c =
-    not_asked _ _ _ c.if-count-eq0.false (last_is _ c.args.block _ c.transitions_of.ensures c.time_in-last.ensures) c.ask_in-asked.ensures.0 c.in-Outside.is
+pub returns-in_default : goal.returns-in_default
+returns-in_default c =
+    not_asked _ _ _ c.if-count-eq0.false (last_is _ c.args.block _ c.transitions_of.ensures c.time_in-last.ensures) c.ask_in.ensures.0 c.in_default.is

@@ -1,41 +1,32 @@
 -- `localtime::rule::rules_in` meets its contract.
-use Rattle.numbers.proofs.Prelude.{sym, ◌∙◌, arith}
-use Rattle.localtime.proofs.rule.{Ways.{without, no_string, ruled, contradicts}}
-use Rattle.localtime.specs.Local.{HeldRules, HeldStated}
-use Rattle.tzrule.proofs.Laws.{string_is, string_good, string_fault}
+use Rattle.numbers.proofs.Prelude.{eq-eqb, ne_eqb, refl}
+use Rattle.localtime.specs.Local.{rules_in}
+use Rattle.tzif.proofs.Laws.{passed_on, past, stopped, led_on, ended_by}
 use Rattle.localtime.proofs.rule.rules_in.Goals as goal
 
 pub returns-then-zone-eq0 : goal.returns-then-zone-eq0
-unfolding HeldRules HeldStated
+unfolding rules_in
 returns-then-zone-eq0 c =
-    (without _ _ c.if-zone-eq0.true, tt)
+    (rw (eq-eqb _ _ c.if-zone-eq0.true) refl, tt)
 
-pub string_at-requires : goal.string_at-requires
-string_at-requires c =
-    (c.requires.1, c.requires.2)
-
-pub returns-in-Fault : goal.returns-in-Fault
-unfolding HeldStated
-returns-in-Fault c =
-    (no_string _ _ c.if-zone-eq0.false (string_fault c.in-Fault.is c.string_at.ensures.0), tt)
-
-pub agrees-requires : goal.agrees-requires
-agrees-requires c =
-    (c.requires.0, string_good c.in-String.is _ c.string_at.ensures.1)
-
-pub returns-then-agrees : goal.returns-then-agrees
-unfolding HeldRules HeldStated
-returns-then-agrees c = (
-  ruled _ _ c.if-zone-eq0.false (string_is c.in-String.is c.string_at.ensures.0) (sym c.agrees.ensures
-      ∙ c.if-agrees.true),
-  string_good c.in-String.is _ c.string_at.ensures.1,
+pub returns-in_err-tz : goal.returns-in_err-tz
+unfolding rules_in
+returns-in_err-tz c = (
+  rw (ne_eqb _ _ c.if-zone-eq0.false) (ended_by c.string_in.ensures.0 _ c.in_err-tz.was c.from_residual.ensures.1 _),
+  rw (passed_on _ c.from_residual.ensures.1) tt,
 )
 
-pub end_of-detail-requires : goal.end_of-detail-requires
-end_of-detail-requires c =
-    omega (arith, c.requires.0.good.within.end)
+pub returns-in_err-demand : goal.returns-in_err-demand
+unfolding rules_in
+returns-in_err-demand c = (
+  rw (ne_eqb _ _ c.if-zone-eq0.false) (led_on c.string_in.ensures.0 c.in_ok-tz.was _ (stopped (rw (c.agrees.ensures, c.end_of.ensures) at c.demand.ensures) _ c.in_err-demand.was
+      c.from_residual-in_err-demand.ensures.1 _)),
+  rw (passed_on _ c.from_residual-in_err-demand.ensures.1) tt,
+)
 
 pub returns : goal.returns
-unfolding HeldStated
-returns c =
-    (contradicts _ _ c.if-zone-eq0.false (string_is c.in-String.is c.string_at.ensures.0) (sym c.agrees.ensures ∙ c.if-agrees.false) c.end_of-detail.ensures, tt)
+unfolding rules_in
+returns c = (
+  rw (ne_eqb _ _ c.if-zone-eq0.false) (led_on c.string_in.ensures.0 c.in_ok-tz.was _ (past (rw (c.agrees.ensures, c.end_of.ensures) at c.demand.ensures) c.in_ok-demand.was _ refl)),
+  c.in_ok-tz.ensures.1,
+)

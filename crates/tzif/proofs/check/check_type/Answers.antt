@@ -1,99 +1,24 @@
--- `tzif::check::check_type` meets its contract.
-use Rattle.numbers.proofs.Prelude.{rules}
+-- `tzif::check::check_type` meets its contract: its four demands, one after another.
+use Rattle.tzif.proofs.{Laws.{past, stopped}}
 use Rattle.tzif.specs.Check.{check_type}
 use Rattle.tzif.proofs.check.check_type.Goals as goal
 
-pub types_of-requires : goal.types_of-requires
+pub returns-in_err-demand : goal.returns-in_err-demand
 unfolding check_type
-types_of-requires c =
-    search rules
+returns-in_err-demand c =
+    stopped (cc) _ c.in_err-demand.was c.from_residual.ensures.1 _
 
-pub overflow_mul-place : goal.overflow_mul-place
+pub returns-in_err-demand-2 : goal.returns-in_err-demand-2
 unfolding check_type
-overflow_mul-place c =
-    search rules
+returns-in_err-demand-2 c =
+    past (cc) c.in_ok-demand.was _ (stopped (cc) _ c.in_err-demand-2.was c.from_residual-in_err-demand-2.ensures.1 _)
 
-pub overflow_add-place : goal.overflow_add-place
+pub returns-in_err-demand-3 : goal.returns-in_err-demand-3
 unfolding check_type
-overflow_add-place c =
-    search rules
-
-pub be32-utoff-requires : goal.be32-utoff-requires
-unfolding check_type
-be32-utoff-requires c =
-    search rules
-
-pub overflow_add-place-2 : goal.overflow_add-place-2
-unfolding check_type
-overflow_add-place-2 c =
-    search rules
-
-pub octet-isdst-requires : goal.octet-isdst-requires
-unfolding check_type
-octet-isdst-requires c =
-    search rules
-
-pub overflow_add-place-3 : goal.overflow_add-place-3
-unfolding check_type
-overflow_add-place-3 c =
-    search rules
-
-pub octet-desigidx-requires : goal.octet-desigidx-requires
-unfolding check_type
-octet-desigidx-requires c =
-    search rules
-
-pub demand-offset-requires : goal.demand-offset-requires
-unfolding check_type
-demand-offset-requires c =
-    search rules
-
-pub overflow_add-place-4 : goal.overflow_add-place-4
-unfolding check_type
-overflow_add-place-4 c =
-    search rules
-
-pub demand-daylight-requires : goal.demand-daylight-requires
-unfolding check_type
-demand-daylight-requires c =
-    search rules
-
-pub overflow_add-place-5 : goal.overflow_add-place-5
-unfolding check_type
-overflow_add-place-5 c =
-    search rules
-
-pub demand-inside-requires : goal.demand-inside-requires
-unfolding check_type
-demand-inside-requires c =
-    search rules
-
-pub overflow_add-place-6 : goal.overflow_add-place-6
-unfolding check_type
-overflow_add-place-6 c =
-    search rules
-
-pub demand-ended-requires : goal.demand-ended-requires
-unfolding check_type
-demand-ended-requires c =
-    search rules
-
-pub both-designation-requires : goal.both-designation-requires
-unfolding check_type
-both-designation-requires c =
-    search rules
-
-pub both-rest-requires : goal.both-rest-requires
-unfolding check_type
-both-rest-requires c =
-    search rules
-
-pub both-requires : goal.both-requires
-unfolding check_type
-both-requires c =
-    search rules
+returns-in_err-demand-3 c =
+    past (cc) c.in_ok-demand.was _ (past (cc) c.in_ok-demand-2.was _ (stopped (cc) _ c.in_err-demand-3.was c.from_residual-in_err-demand-3.ensures.1 _))
 
 pub returns : goal.returns
 unfolding check_type
 returns c =
-    cc
+    past (cc) c.in_ok-demand.was _ (past (cc) c.in_ok-demand-2.was _ (past (cc) c.in_ok-demand-3.was _ (cc)))

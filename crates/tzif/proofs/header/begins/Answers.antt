@@ -1,12 +1,7 @@
 -- `tzif::header::begins` meets its contract.
-use Rattle.numbers.proofs.Prelude.{rules, leb-true, refl, sym, ◌∙◌}
+use Rattle.numbers.proofs.Prelude.{leb-true, refl, sym, ◌∙◌}
 use Rattle.tzif.specs.Header.{begins}
 use Rattle.tzif.proofs.header.begins.Goals as goal
-
-pub holds-requires : goal.holds-requires
-unfolding begins
-holds-requires c =
-    search rules
 
 pub returns-then-not-holds : goal.returns-then-not-holds
 unfolding begins

@@ -1,22 +1,12 @@
 -- `tzif::header::version_fits` meets its contract.
-use Rattle.numbers.proofs.Prelude.{◌+◌, rules, leb-true, length, refl, sym, ◌∙◌, arith}
+use Rattle.numbers.proofs.Prelude.{◌+◌, leb-true, length, refl, sym, ◌∙◌, arith}
 use Rattle.tzif.specs.Header.{version_fits}
 use Rattle.tzif.proofs.header.version_fits.Goals as goal
-
-pub holds-requires : goal.holds-requires
-unfolding version_fits
-holds-requires c =
-    search rules
 
 pub returns-then-not-holds : goal.returns-then-not-holds
 unfolding version_fits
 returns-then-not-holds c =
     rw (← c.holds.ensures, c.if-not-holds.true) refl
-
-pub overflow_add-at : goal.overflow_add-at
-unfolding version_fits
-overflow_add-at c =
-    search rules
 
 pub octet-version-requires : goal.octet-version-requires
 octet-version-requires c =
@@ -30,11 +20,6 @@ pub returns-then-wide : goal.returns-then-wide
 unfolding version_fits
 returns-then-wide c =
     rw (← c.holds.ensures, c.if-not-holds.false, c.if-wide.true) (cc)
-
-pub is_version-requires : goal.is_version-requires
-unfolding version_fits
-is_version-requires c =
-    search rules
 
 pub returns : goal.returns
 unfolding version_fits

@@ -1,5 +1,5 @@
 -- `tzif::leap::correction_before` meets its contract.
-use Rattle.numbers.proofs.Prelude.{rules, eq-eqb, ne_eqb, refl, arith}
+use Rattle.numbers.proofs.Prelude.{eq-eqb, ne_eqb, refl, arith}
 use Rattle.tzif.specs.Check.{correction_before}
 use Rattle.tzif.proofs.leap.correction_before.Goals as goal
 
@@ -7,16 +7,6 @@ pub returns-then-i-eq0 : goal.returns-then-i-eq0
 unfolding correction_before
 returns-then-i-eq0 c =
     record { same = rw (eq-eqb _ _ c.if-i-eq0.true) refl; fits = omega arith }
-
-pub overflow_sub-i : goal.overflow_sub-i
-unfolding correction_before
-overflow_sub-i c =
-    search rules
-
-pub correction_of-requires : goal.correction_of-requires
-unfolding correction_before
-correction_of-requires c =
-    search rules
 
 pub returns : goal.returns
 unfolding correction_before

@@ -1,5 +1,5 @@
 -- `tzif::leap::correction_of` meets its contract.
-use Rattle.numbers.proofs.Prelude.{◌+◌, rules, arith}
+use Rattle.numbers.proofs.Prelude.{◌+◌, arith}
 use Rattle.tzif.proofs.{Widths.{row}}
 use Rattle.tzif.specs.Check.{correction_of}
 use Rattle.tzif.proofs.leap.correction_of.Goals as goal
@@ -15,11 +15,6 @@ overflow_add-leap_place c =
 pub be32-requires : goal.be32-requires
 be32-requires c =
     omega (arith, row c.args.i c.args.block.leapcnt (c.args.block.width + 4) c.requires.i_lt_leapcnt)
-
-pub raised-requires : goal.raised-requires
-unfolding correction_of
-raised-requires c =
-    search rules
 
 pub returns : goal.returns
 unfolding correction_of

@@ -1,5 +1,5 @@
 -- `tzif::leap::is_expiry` meets its contract.
-use Rattle.numbers.proofs.Prelude.{◌+◌, rules, eq-eqb, ne_eqb, refl, arith}
+use Rattle.numbers.proofs.Prelude.{◌+◌, eq-eqb, ne_eqb, refl, arith}
 use Rattle.tzif.specs.Check.{is_expiry}
 use Rattle.tzif.proofs.leap.is_expiry.Goals as goal
 
@@ -8,30 +8,10 @@ unfolding is_expiry
 returns-then-i-eq0 c =
     rw (eq-eqb _ _ c.if-i-eq0.true) refl
 
-pub overflow_add-i : goal.overflow_add-i
-unfolding is_expiry
-overflow_add-i c =
-    search rules
-
 pub returns-then-i-block : goal.returns-then-i-block
 unfolding is_expiry
 returns-then-i-block c =
     rw (ne_eqb _ _ c.if-i-eq0.false, ne_eqb (c.args.i + 1) c.args.block.leapcnt (λ e. omega (arith, e, c.if-i-block.true))) refl
-
-pub correction_of-correction-requires : goal.correction_of-correction-requires
-unfolding is_expiry
-correction_of-correction-requires c =
-    search rules
-
-pub overflow_sub-i : goal.overflow_sub-i
-unfolding is_expiry
-overflow_sub-i c =
-    search rules
-
-pub correction_of-before-requires : goal.correction_of-before-requires
-unfolding is_expiry
-correction_of-before-requires c =
-    search rules
 
 pub returns : goal.returns
 unfolding is_expiry

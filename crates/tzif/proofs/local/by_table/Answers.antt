@@ -1,24 +1,14 @@
 -- `tzif::local::by_table` meets its contract.
-use Rattle.numbers.proofs.Prelude.{rules, refl, ap}
+use Rattle.numbers.proofs.Prelude.{refl, ap}
 use Rattle.tzif.proofs.{Goods.{type_below, behind_within}, Widths.{transitions_inside}}
 use Rattle.tzif.specs.Local.{by_table}
-use Rattle.tzif.specs.declared.local.Answer.TheVariants as A
+use Rattle.std.specs.Prelude.{Some}
 use Rattle.tzif.proofs.local.by_table.Goals as goal
-
-pub is_after_last-requires : goal.is_after_last-requires
-unfolding by_table
-is_after_last-requires c =
-    search rules
 
 pub returns-then-is_after_last : goal.returns-then-is_after_last
 unfolding by_table
 returns-then-is_after_last c =
     rw (← c.is_after_last.ensures, c.if-is_after_last.true) refl
-
-pub transitions_of-requires : goal.transitions_of-requires
-unfolding by_table
-transitions_of-requires c =
-    search rules
 
 pub last_not_after-behind-requires : goal.last_not_after-behind-requires
 unfolding by_table
@@ -40,5 +30,5 @@ type_in-requires c =
 pub returns : goal.returns
 unfolding by_table
 returns c =
-    rw (← c.is_after_last.ensures, c.if-is_after_last.false, ← c.transitions_of.ensures, ← c.last_not_after-behind.ensures, ← c.type_behind.ensures) (ap A.Found
+    rw (← c.is_after_last.ensures, c.if-is_after_last.false, ← c.transitions_of.ensures, ← c.last_not_after-behind.ensures, ← c.type_behind.ensures) (ap Some
     c.type_in.ensures)

@@ -1,5 +1,5 @@
 -- `tzif::local::is_after_last` meets its contract.
-use Rattle.numbers.proofs.Prelude.{rules, lt-ltb, le-ltb, refl, arith}
+use Rattle.numbers.proofs.Prelude.{lt-ltb, le-ltb, refl, arith}
 use Rattle.tzif.proofs.{Widths.{transitions_inside}}
 use Rattle.tzif.specs.Local.{is_after_last}
 use Rattle.tzif.proofs.local.is_after_last.Goals as goal
@@ -8,16 +8,6 @@ pub returns-then-block-eq0 : goal.returns-then-block-eq0
 unfolding is_after_last
 returns-then-block-eq0 c =
     rw (le-ltb 0 c.args.block.timecnt (omega (arith, c.if-block-eq0.true))) refl
-
-pub transitions_of-requires : goal.transitions_of-requires
-unfolding is_after_last
-transitions_of-requires c =
-    search rules
-
-pub overflow_sub-block : goal.overflow_sub-block
-unfolding is_after_last
-overflow_sub-block c =
-    search rules
 
 pub time_in-requires : goal.time_in-requires
 time_in-requires c =

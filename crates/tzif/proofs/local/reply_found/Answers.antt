@@ -5,7 +5,7 @@ use Rattle.tzif.proofs.local.reply_found.Goals as goal
 
 pub returns-then-text-length : goal.returns-then-text-length
 returns-then-text-length c =
-    no_room c.args.file.now _ c.args.found c.if-text-length.true c.clear.ensures
+    rw c.refuse.ensures (no_room c.args.file.now _ c.args.found c.if-text-length.true c.clear.ensures)
 
 pub returns : goal.returns
 returns c =

@@ -1,5 +1,5 @@
 -- `tzif::local::type_behind` meets its contract.
-use Rattle.numbers.proofs.Prelude.{rules, eq-eqb, ne_eqb, refl, arith}
+use Rattle.numbers.proofs.Prelude.{eq-eqb, ne_eqb, refl, arith}
 use Rattle.tzif.specs.Local.{type_behind}
 use Rattle.tzif.proofs.local.type_behind.Goals as goal
 
@@ -12,11 +12,6 @@ pub indices_of-requires : goal.indices_of-requires
 unfolding type_behind
 indices_of-requires c =
     omega (arith, c.requires.good.within.end)
-
-pub overflow_sub-n : goal.overflow_sub-n
-unfolding type_behind
-overflow_sub-n c =
-    search rules
 
 pub overflow_add-indices_of : goal.overflow_add-indices_of
 unfolding type_behind

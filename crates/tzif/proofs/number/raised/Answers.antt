@@ -1,12 +1,7 @@
 -- `tzif::number::raised` meets its contract.
-use Rattle.numbers.proofs.Prelude.{◌^◌, rules, lt-ltb, le-ltb, refl, arith}
+use Rattle.numbers.proofs.Prelude.{◌^◌, lt-ltb, le-ltb, refl, arith}
 use Rattle.tzif.specs.Number.{raised}
 use Rattle.tzif.proofs.number.raised.Goals as goal
-
-pub overflow_add-result : goal.overflow_add-result
-unfolding raised
-overflow_add-result c =
-    search rules
 
 pub returns-then-bits-lt2147483648 : goal.returns-then-bits-lt2147483648
 unfolding raised

@@ -1,14 +1,15 @@
 -- `tzif::refusal::demand` meets its contract.
-use Rattle.numbers.proofs.Prelude.{refl}
-use Rattle.tzif.specs.{Reply.{demand}, inner.Told.{told}}
+use Rattle.numbers.proofs.Prelude.{refl, ap}
+use Rattle.std.specs.Prelude.{Err}
+use Rattle.tzif.specs.Reply.{demand}
 use Rattle.tzif.proofs.refusal.demand.Goals as goal
 
-pub returns-then-holds : goal.returns-then-holds
-unfolding demand told
-returns-then-holds c =
-    rw c.if-holds.true refl
+pub returns-then-not-holds : goal.returns-then-not-holds
+unfolding demand
+returns-then-not-holds c =
+    rw c.if-not-holds.true (ap Err c.refuse.ensures)
 
-pub returns-else-holds : goal.returns-else-holds
-unfolding demand told
-returns-else-holds c =
-    rw c.if-holds.false refl
+pub returns : goal.returns
+unfolding demand
+returns c =
+    rw c.if-not-holds.false refl

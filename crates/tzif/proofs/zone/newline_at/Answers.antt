@@ -1,5 +1,5 @@
 -- `tzif::zone::newline_at` meets its contract.
-use Rattle.numbers.proofs.Prelude.{rules, lt-ltb, le-ltb, refl}
+use Rattle.numbers.proofs.Prelude.{lt-ltb, le-ltb, refl}
 use Rattle.tzif.specs.Zone.{newline_at}
 use Rattle.tzif.proofs.zone.newline_at.Goals as goal
 
@@ -7,11 +7,6 @@ pub returns-then-file-at : goal.returns-then-file-at
 unfolding newline_at
 returns-then-file-at c =
     rw (le-ltb _ _ c.if-file-at.true) refl
-
-pub octet-requires : goal.octet-requires
-unfolding newline_at
-octet-requires c =
-    search rules
 
 pub returns : goal.returns
 unfolding newline_at

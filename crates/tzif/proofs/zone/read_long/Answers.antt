@@ -1,25 +1,30 @@
 -- `tzif::zone::read_long` meets its contract.
-use Rattle.numbers.proofs.Prelude.{true, arith}
-use Rattle.tzif.proofs.{Goods.{block_read}, Zones.{block_given, second_refused, no_footer, long_read, footer_ends}}
+use Rattle.numbers.proofs.Prelude.{true, sym, ◌∙◌, refl, arith}
+use Rattle.tzif.proofs.{Goods.{block_read}, Laws.{led_on, ended_by}, Zones.{footer_within}}
+use Rattle.tzif.specs.Zone.{read_long}
 use Rattle.tzif.proofs.zone.read_long.Goals as goal
 
-pub returns-in-Refused : goal.returns-in-Refused
-returns-in-Refused c =
-    second_refused c.args.file.now c.args.first c.end_of.ensures c.read_block.ensures c.in-Refused.is
+pub returns-in_err-block : goal.returns-in_err-block
+unfolding read_long
+returns-in_err-block c =
+    ended_by (rw c.end_of.ensures at c.read_block.ensures) _ c.in_err-block.was c.from_residual.ensures.1 _
 
 pub end_of-end-requires : goal.end_of-end-requires
 end_of-end-requires c =
-    omega (arith, (block_read c.args.file.now true c.end_of.result (block_given c.read_block.ensures c.in-Block.is)).within.end)
+    omega (arith, (block_read c.args.file.now true c.end_of.result (sym c.read_block.ensures ∙ c.in_ok-block.was)).within.end)
 
-pub returns-in-Refused-read_footer : goal.returns-in-Refused-read_footer
-returns-in-Refused-read_footer c =
-    no_footer c.args.file.now c.args.first c.end_of.ensures c.read_block.ensures c.in-Block.is c.end_of-end.ensures c.read_footer.ensures c.in-Refused-read_footer.is
+pub returns-in_err-size : goal.returns-in_err-size
+unfolding read_long
+returns-in_err-size c =
+    led_on (rw c.end_of.ensures at c.read_block.ensures) c.in_ok-block.was _ (ended_by (rw c.end_of-end.ensures at c.read_footer.ensures) _ c.in_err-size.was
+    c.from_residual-in_err-size.ensures.1 _)
 
 pub overflow_add-string : goal.overflow_add-string
 overflow_add-string c =
-    omega (arith, footer_ends c.args.file.now c.end_of-end.result c.read_footer.ensures c.in-Size.is)
+    omega (arith, footer_within c.args.file.now c.end_of-end.result (sym c.read_footer.ensures ∙ c.in_ok-size.was))
 
 pub returns : goal.returns
+unfolding read_long
 returns c =
-    long_read c.args.file.now c.args.first c.end_of.ensures c.read_block.ensures c.in-Block.is c.end_of-end.ensures c.read_footer.ensures c.in-Size.is
-    c.octet-version.ensures.same
+    led_on (rw c.end_of.ensures at c.read_block.ensures) c.in_ok-block.was _ (led_on (rw c.end_of-end.ensures at c.read_footer.ensures) c.in_ok-size.was _
+    (rw (c.octet-version.ensures.same, c.end_of-end.ensures) refl))

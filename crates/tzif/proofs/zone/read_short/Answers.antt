@@ -1,11 +1,15 @@
 -- `tzif::zone::read_short` meets its contract.
-use Rattle.tzif.proofs.{Zones.{short_goes_on, short_ends}}
+use Rattle.numbers.proofs.Prelude.{refl}
+use Rattle.tzif.proofs.{Laws.{past, stopped}}
+use Rattle.tzif.specs.Zone.{read_short}
 use Rattle.tzif.proofs.zone.read_short.Goals as goal
 
-pub returns-then-end-file : goal.returns-then-end-file
-returns-then-end-file c =
-    short_goes_on c.args.file.now c.args.block c.end_of-end.ensures c.if-end-file.true
+pub returns-in_err-demand : goal.returns-in_err-demand
+unfolding read_short
+returns-in_err-demand c =
+    stopped (rw c.end_of-end.ensures at c.demand.ensures) _ c.in_err-demand.was c.from_residual.ensures.1 _
 
 pub returns : goal.returns
+unfolding read_short
 returns c =
-    short_ends c.args.file.now c.args.block c.end_of-end.ensures c.if-end-file.false
+    past (rw c.end_of-end.ensures at c.demand.ensures) c.in_ok-demand.was _ (rw c.end_of-end.ensures refl)

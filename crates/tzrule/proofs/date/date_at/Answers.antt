@@ -1,24 +1,20 @@
 -- `tzrule::date::date_at` meets its contract.
-use Rattle.numbers.proofs.Prelude.{◌∙◌}
-use Rattle.tzrule.proofs.{Signs.{date_julian, date_month, date_zero}, Times.{byte_inside}}
+use Rattle.numbers.proofs.Prelude.{refl}
+use Rattle.tzrule.proofs.{Steps.{ate, left, stands, ends}}
+use Rattle.tzrule.specs.{Grammar.{date_of}}
 use Rattle.tzrule.proofs.date.date_at.Goals as goal
 
-pub julian_at-requires : goal.julian_at-requires
-julian_at-requires c =
-    (c.requires.0, byte_inside _ _ c.byte_at-byte.ensures c.if-byte-eq74.true)
+pub returns-in-Some : goal.returns-in-Some
+unfolding date_of
+returns-in-Some c =
+    let j = ate _ _ c.in-Some.ensures in (ends _ _ _ c.julian_at.ensures.0 j.text j.at _ refl _ (simp (stands _ _ j)), c.julian_at.ensures.1)
 
-pub returns-then-byte-eq74 : goal.returns-then-byte-eq74
-returns-then-byte-eq74 c =
-    (c.julian_at.ensures.0 ∙ date_julian _ _ c.byte_at-byte.ensures c.if-byte-eq74.true, c.julian_at.ensures.1)
-
-pub month_at-requires : goal.month_at-requires
-month_at-requires c =
-    (c.requires.0, byte_inside _ _ c.byte_at-byte.ensures c.if-byte-eq77.true)
-
-pub returns-then-byte-eq77 : goal.returns-then-byte-eq77
-returns-then-byte-eq77 c =
-    (c.month_at.ensures.0 ∙ date_month _ _ c.byte_at-byte.ensures c.if-byte-eq74.false c.if-byte-eq77.true, c.month_at.ensures.1)
+pub returns-in-Some-eat : goal.returns-in-Some-eat
+unfolding date_of
+returns-in-Some-eat c =
+    let m = ate _ _ c.in-Some-eat.ensures in (ends _ _ _ c.month_at.ensures.0 m.text m.at _ refl _ (simp (left _ _ c.in_default.ensures, stands _ _ m)), c.month_at.ensures.1)
 
 pub returns : goal.returns
+unfolding date_of
 returns c =
-    (c.zero_at.ensures.0 ∙ date_zero _ _ c.byte_at-byte.ensures c.if-byte-eq74.false c.if-byte-eq77.false, c.zero_at.ensures.1)
+    (ends _ _ _ c.zero_at.ensures.0 refl refl _ refl _ (simp (left _ _ c.in_default.ensures, left _ _ c.in_default-eat.ensures)), c.zero_at.ensures.1)

@@ -1,18 +1,16 @@
 -- `tzrule::date::dotted_at` meets its contract.
-use Rattle.numbers.proofs.Prelude.{◌∙◌}
-use Rattle.tzrule.proofs.{Signs.{dot_none, dot_there}, Times.{byte_inside}}
-use Rattle.tzrule.specs.Answer.{Within}
+use Rattle.numbers.proofs.Prelude.{refl, sym, ap, arith}
+use Rattle.tzrule.proofs.{Steps.{met, missed, stands, ends, fails, none_ok}}
+use Rattle.tzrule.specs.{Answer.{fault}, Grammar.{dotted_of}}
 use Rattle.tzrule.proofs.date.dotted_at.Goals as goal
 
-pub returns-then-byte-ne46 : goal.returns-then-byte-ne46
-unfolding Within
-returns-then-byte-ne46 c =
-    (dot_none _ _ _ c.byte_at-byte.ensures c.if-byte-ne46.true, c.requires.1)
-
-pub number_at-requires : goal.number_at-requires
-number_at-requires c =
-    (c.requires.0, byte_inside _ _ c.byte_at-byte.ensures c.if-byte-ne46.false, c.requires.2)
+pub returns-in_err-behind : goal.returns-in_err-behind
+unfolding dotted_of
+returns-in_err-behind c =
+    let e = missed _ _ c.in_err-behind.ensures in
+    (fails _ _ _ c.from_residual.ensures.1 (simp e.0 (ap fault (sym e.1)), omega (arith, e.1, c.args.here.inside)), none_ok _ _ _ c.from_residual.ensures.1)
 
 pub returns : goal.returns
+unfolding dotted_of
 returns c =
-    (c.number_at.ensures.0 ∙ dot_there _ _ _ c.byte_at-byte.ensures c.if-byte-ne46.false, c.number_at.ensures.1)
+    let dot = met _ _ c.in_ok-behind.ensures in (ends _ _ _ c.number.ensures.0 dot.text dot.at _ refl _ (simp (stands _ _ dot)), c.number.ensures.1)

@@ -1,21 +1,16 @@
 -- `tzrule::date::zero_at` meets its contract.
-use Rattle.tzrule.proofs.{Signs.{zero_read, zero_fault}, Times.{read_is, read_within, fault_is, fault_within}}
-use Rattle.tzrule.specs.Answer.{GoodDate}
+use Rattle.numbers.proofs.Prelude.{refl}
+use Rattle.tzrule.proofs.{Steps.{found, got, lost, fails, none_ok}}
 use Rattle.calendar.specs.Rules.{IsWhen}
+use Rattle.tzrule.specs.{Answer.{onward}, Grammar.{zero_of}}
 use Rattle.tzrule.proofs.date.zero_at.Goals as goal
 
-pub returns-in-Read : goal.returns-in-Read
-unfolding GoodDate IsWhen
-returns-in-Read c = (
-  zero_read _ _ (read_is c.in-Read.is c.number_at-part.ensures.0),
-  (
-    (read_within c.in-Read.is c.number_at-part.ensures.1).0,
-    (read_within c.in-Read.is
-        c.number_at-part.ensures.1).1,
-  ),
-)
+pub returns-in_err-n : goal.returns-in_err-n
+unfolding zero_of onward
+returns-in_err-n c =
+    let e = lost _ _ c.in_err-n.ensures.0 refl refl in (fails _ _ _ c.from_residual.ensures.1 (simp e.0, e.1), none_ok _ _ _ c.from_residual.ensures.1)
 
-pub returns-in-Fault : goal.returns-in-Fault
-unfolding GoodDate
-returns-in-Fault c =
-    (zero_fault _ _ (fault_is c.in-Fault.is c.number_at-part.ensures.0), fault_within c.in-Fault.is _ c.number_at-part.ensures.1)
+pub returns : goal.returns
+unfolding IsWhen zero_of onward
+returns c =
+    let n = got _ _ _ c.in_ok-n.ensures.0 refl refl in (found _ _ _ n.0 (simp n.1), c.in_ok-n.ensures.1.1)

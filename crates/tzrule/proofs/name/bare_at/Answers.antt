@@ -1,15 +1,14 @@
 -- `tzrule::name::bare_at` meets its contract.
-use Rattle.numbers.proofs.Prelude.{arith}
-use Rattle.tzrule.proofs.{Letters.{bare_short, bare_read}}
-use Rattle.tzrule.specs.Names.{Inside}
+use Rattle.numbers.proofs.Prelude.{refl, sym, arith}
+use Rattle.tzrule.proofs.{Letters.{bare_short, bare_read}, Steps.{found}}
+use Rattle.tzrule.specs.{inner.Reads.{Reads}}
 use Rattle.tzrule.proofs.name.bare_at.Goals as goal
 
-pub returns-then-end-at : goal.returns-then-end-at
-unfolding Inside
-returns-then-end-at c =
-    (bare_short _ _ c.name_end-end.ensures.0 c.if-end-at.true, c.name_end-end.ensures.1)
+pub returns-then-end-here : goal.returns-then-end-here
+unfolding Reads
+returns-then-end-here c =
+    ((sym (bare_short _ _ c.name_end-end.ensures.0 c.if-end-here.true), c.name_end-end.ensures.1), tt)
 
 pub returns : goal.returns
-unfolding Inside
 returns c =
-    (bare_read _ _ c.name_end-end.ensures.0 c.if-end-at.false, (omega arith, omega arith, c.name_end-end.ensures.1))
+    (found _ _ _ refl (sym (bare_read _ _ c.name_end-end.ensures.0 c.if-end-here.false)), record { ordered = omega arith; inside = c.name_end-end.ensures.1 })

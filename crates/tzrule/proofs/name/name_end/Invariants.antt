@@ -1,4 +1,4 @@
--- `tzrule::name::name_end` meets its contract.
+-- `tzrule::name::name_end` in its loop: the name's end is the same from here on.
 use Rattle.numbers.proofs.Prelude.{◌-◌, ◌≤◌, length, ◌≡◌}
 use Rattle.tzrule.specs.Names.{end_of}
 use Rattle.tzrule.proofs.name.name_end.Given as goal

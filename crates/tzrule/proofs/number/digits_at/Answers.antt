@@ -1,5 +1,5 @@
 -- `tzrule::number::digits_at` meets its contract.
-use Rattle.numbers.proofs.Prelude.{sym, ◌∙◌, arith}
+use Rattle.numbers.proofs.Prelude.{◌+◌, ◌≡◌, sym, ◌∙◌, arith}
 use Rattle.tzrule.proofs.{Numbers.{digit_range, few, taken_first, taken_end, taken_stop, taken_more}}
 use Rattle.tzrule.proofs.number.digits_at.Goals as goal
 
@@ -13,7 +13,7 @@ loop-next-init c =
 
 pub returns-then-not-is_digit : goal.returns-then-not-is_digit
 returns-then-not-is_digit c = (
-  taken_stop c.loop-next.invariant (omega arith) (c.wide-byte.ensures ∙ c.byte_at.ensures) (sym c.is_digit.ensures
+  taken_stop c.loop-next.invariant (omega arith) (c.from-byte.ensures ∙ c.byte_at.ensures) (sym c.is_digit.ensures
       ∙ c.if-not-is_digit.true),
   c.loop-next.invariant.inside,
 )
@@ -30,14 +30,11 @@ pub overflow_add-value : goal.overflow_add-value
 overflow_add-value c =
     omega (arith, few c.loop-next.invariant c.requires.2, digit_range _ (sym c.is_digit.ensures ∙ c.if-not-is_digit.false))
 
-pub overflow_add-next : goal.overflow_add-next
-overflow_add-next c =
-    omega (arith, c.loop-next.invariant.inside, c.requires)
-
 pub loop-next-preserved : goal.loop-next-preserved
 loop-next-preserved c =
-    taken_more c.loop-next.invariant (omega arith) (c.wide-byte.ensures ∙ c.byte_at.ensures) (sym c.is_digit.ensures ∙ c.if-not-is_digit.false)
+    taken_more c.loop-next.invariant (omega arith) (c.from-byte.ensures ∙ c.byte_at.ensures) (sym c.is_digit.ensures ∙ c.if-not-is_digit.false)
 
 pub returns : goal.returns
 returns c =
-    (taken_end c.loop-next.invariant (omega arith), c.loop-next.invariant.inside)
+    let all : c.loop-next.next ≡ c.args.at + c.args.most = omega (arith, c.loop-next.invariant.to, c.loop-next-test.false) in
+    (rw all at (taken_end c.loop-next.invariant (omega arith)), rw all at c.loop-next.invariant.inside)

@@ -1,41 +1,29 @@
 -- `tzrule::string::change_at` meets its contract.
-use Rattle.tzrule.proofs.{Times.{byte_inside, read_is, read_within, fault_is, fault_within}, string.Ways.{day_is, day_good, day_fault, day_place, no_comma, no_date, no_time, change_read}}
-use Rattle.tzrule.specs.inner.String.{GoodChange}
+use Rattle.numbers.proofs.Prelude.{refl, sym, ap, arith}
+use Rattle.tzrule.proofs.{Steps.{met, missed, stands, found, got, lost, fails, none_ok}}
+use Rattle.tzrule.specs.{Answer.{fault, onward}, String.{change_of}}
 use Rattle.tzrule.proofs.string.change_at.Goals as goal
 
-pub returns-then-byte-ne44 : goal.returns-then-byte-ne44
-unfolding GoodChange
-returns-then-byte-ne44 c =
-    (no_comma _ _ c.byte_at-byte.ensures _ c.if-byte-ne44.true, c.requires.1)
+pub returns-in_err-rest : goal.returns-in_err-rest
+unfolding change_of
+returns-in_err-rest c =
+    let e = missed _ _ c.in_err-rest.ensures in
+    (fails _ _ _ c.from_residual.ensures.1 (simp e.0 (ap fault (sym e.1)), omega (arith, e.1, c.args.here.inside)), none_ok _ _ _ c.from_residual.ensures.1)
 
-pub date_at-date-requires : goal.date_at-date-requires
-date_at-date-requires c =
-    (c.requires.0, byte_inside _ _ c.byte_at-byte.ensures c.if-byte-ne44.false)
+pub returns-in_err-when : goal.returns-in_err-when
+unfolding change_of onward
+returns-in_err-when c =
+    let comma = met _ _ c.in_ok-rest.ensures in let e = lost _ _ c.in_err-when.ensures.0 comma.text comma.at in
+    (fails _ _ _ c.from_residual-in_err-when.ensures.1 (simp (stands _ _ comma, e.0), e.1), none_ok _ _ _ c.from_residual-in_err-when.ensures.1)
 
-pub time_at-timed-requires : goal.time_at-timed-requires
-time_at-timed-requires c =
-    (c.requires.0, (day_good c.in-Day.is _ c.date_at-date.ensures.1).1)
+pub returns-in_err-time : goal.returns-in_err-time
+unfolding change_of onward
+returns-in_err-time c =
+    let comma = met _ _ c.in_ok-rest.ensures in let when = got _ _ _ c.in_ok-when.ensures.0 comma.text comma.at in let e = lost _ _ c.in_err-time.ensures.0 when.0 refl in
+    (fails _ _ _ c.from_residual-in_err-time.ensures.1 (simp (stands _ _ comma, when.1, e.0), e.1), none_ok _ _ _ c.from_residual-in_err-time.ensures.1)
 
-pub returns-in-Read : goal.returns-in-Read
-unfolding GoodChange
-returns-in-Read c = (
-  change_read _ _ c.byte_at-byte.ensures _ c.if-byte-ne44.false (day_is c.in-Day.is c.date_at-date.ensures.0) (read_is c.in-Read.is c.time_at-timed.ensures.0),
-  (
-    record { when = (day_good c.in-Day.is _ c.date_at-date.ensures.1).0; time = (read_within c.in-Read.is c.time_at-timed.ensures.1).0 },
-    (read_within
-        c.in-Read.is c.time_at-timed.ensures.1).1,
-  ),
-)
-
-pub returns-in-Fault-timed : goal.returns-in-Fault-timed
-unfolding GoodChange
-returns-in-Fault-timed c = (
-  no_time _ _ c.byte_at-byte.ensures _ c.if-byte-ne44.false (day_is c.in-Day.is c.date_at-date.ensures.0) (fault_is c.in-Fault-timed.is
-      c.time_at-timed.ensures.0),
-  fault_within c.in-Fault-timed.is _ c.time_at-timed.ensures.1,
-)
-
-pub returns-in-Fault : goal.returns-in-Fault
-unfolding GoodChange
-returns-in-Fault c =
-    (no_date _ _ c.byte_at-byte.ensures _ c.if-byte-ne44.false (day_fault c.in-Fault.is c.date_at-date.ensures.0), day_place c.in-Fault.is _ c.date_at-date.ensures.1)
+pub returns : goal.returns
+unfolding change_of onward
+returns c =
+    let comma = met _ _ c.in_ok-rest.ensures in let when = got _ _ _ c.in_ok-when.ensures.0 comma.text comma.at in let time = got _ _ _ c.in_ok-time.ensures.0 when.0 refl in
+    (found _ _ _ time.0 (simp (stands _ _ comma, when.1, time.1)), record { when = c.in_ok-when.ensures.1; time = c.in_ok-time.ensures.1 })

@@ -1,67 +1,47 @@
 -- `tzrule::string::changing_at` meets its contract.
-use Rattle.numbers.proofs.Prelude.{arith}
-use Rattle.tzrule.proofs.string.Ways.{clock_is, clock_good, clock_fault, clock_place, change_is, change_good, change_fault, change_place, no_daylight, no_start, no_end, not_closed}
-use Rattle.tzrule.proofs.string.{Ways.{changing_read}}
-use Rattle.tzrule.specs.inner.String.{IsTz, GoodString}
+use Rattle.numbers.proofs.Prelude.{refl, sym, ap, ◌∙◌}
+use Rattle.tzrule.proofs.{Steps.{met, missed, stands, found, got, lost, lower, fails, none_ok}}
+use Rattle.tzrule.specs.{Answer.{fault, onward}, String.{changing_of}, inner.String.{IsTz}}
 use Rattle.tzrule.proofs.string.changing_at.Goals as goal
 
-pub returns-in-Fault : goal.returns-in-Fault
-unfolding GoodString
-returns-in-Fault c =
-    (no_daylight _ _ _ _ (clock_fault c.in-Fault.is c.daylight_at.ensures.0), clock_place c.in-Fault.is _ _ c.daylight_at.ensures.1)
+pub returns-in_err-daylight : goal.returns-in_err-daylight
+unfolding changing_of onward
+returns-in_err-daylight c =
+    let e = lost _ _ c.in_err-daylight.ensures.0 refl refl in (fails _ _ _ c.from_residual.ensures.1 (simp e.0, e.1), none_ok _ _ _ c.from_residual.ensures.1)
 
-pub change_at-requires : goal.change_at-requires
-change_at-requires c =
-    (c.requires.0, (clock_good c.in-Clock.is _ _ c.daylight_at.ensures.1).2)
+pub returns-in_err-start : goal.returns-in_err-start
+unfolding changing_of onward
+returns-in_err-start c =
+    let day = got _ _ _ c.in_ok-daylight.ensures.0 refl refl in let e = lost _ _ c.in_err-start.ensures.0 day.0 refl in
+    (fails _ _ _ c.from_residual-in_err-start.ensures.1 (simp (day.1, e.0), e.1), none_ok _ _ _ c.from_residual-in_err-start.ensures.1)
 
-pub returns-in-Fault-change_at : goal.returns-in-Fault-change_at
-unfolding GoodString
-returns-in-Fault-change_at c = (
-  no_start _ _ _ _ (clock_is c.in-Clock.is c.daylight_at.ensures.0) (change_fault c.in-Fault-change_at.is c.change_at.ensures.0),
-  change_place
-      c.in-Fault-change_at.is _ c.change_at.ensures.1,
-)
+pub returns-in_err-end : goal.returns-in_err-end
+unfolding changing_of onward
+returns-in_err-end c =
+    let day = got _ _ _ c.in_ok-daylight.ensures.0 refl refl in let start = got _ _ _ c.in_ok-start.ensures.0 day.0 refl in let e = lost _ _ c.in_err-end.ensures.0 start.0 refl in
+    (fails _ _ _ c.from_residual-in_err-end.ensures.1 (simp (day.1, start.1, e.0), e.1), none_ok _ _ _ c.from_residual-in_err-end.ensures.1)
 
-pub change_at-requires-2 : goal.change_at-requires-2
-change_at-requires-2 c =
-    (c.requires.0, (change_good c.in-Change.is _ c.change_at.ensures.1).1)
-
-pub returns-in-Fault-change_at-2 : goal.returns-in-Fault-change_at-2
-unfolding GoodString
-returns-in-Fault-change_at-2 c = (
-  no_end _ _ _ _ (clock_is c.in-Clock.is c.daylight_at.ensures.0) (change_is c.in-Change.is c.change_at.ensures.0) (change_fault c.in-Fault-change_at-2.is
-      c.change_at-2.ensures.0),
-  change_place c.in-Fault-change_at-2.is _ c.change_at-2.ensures.1,
-)
-
-pub returns-then-byte-ne10 : goal.returns-then-byte-ne10
-unfolding GoodString
-returns-then-byte-ne10 c = (
-  not_closed _ _ _ _ (clock_is c.in-Clock.is c.daylight_at.ensures.0) (change_is c.in-Change.is c.change_at.ensures.0) (change_is c.in-Change-change_at.is
-      c.change_at-2.ensures.0) c.byte_at-byte.ensures c.if-byte-ne10.true,
-  (change_good c.in-Change-change_at.is _ c.change_at-2.ensures.1).1,
-)
-
-pub overflow_add-next : goal.overflow_add-next
-overflow_add-next c =
-    omega (arith, (change_good c.in-Change-change_at.is _ c.change_at-2.ensures.1).1, c.requires.0)
+pub returns-in_err-rest : goal.returns-in_err-rest
+unfolding changing_of onward
+returns-in_err-rest c =
+    let day = got _ _ _ c.in_ok-daylight.ensures.0 refl refl in let start = got _ _ _ c.in_ok-start.ensures.0 day.0 refl in let end = got _ _ _ c.in_ok-end.ensures.0 start.0 refl in let e = missed _ _ c.in_err-rest.ensures in (
+      fails _ _ _ c.from_residual-in_err-rest.ensures.1 (simp (day.1, start.1, end.1, rw end.0 at e.0) (ap fault (sym e.1)), rw end.0 at (lower e.1 c.in_ok-end.rest.inside)),
+      none_ok _ _ _ c.from_residual-in_err-rest.ensures.1,
+    )
 
 pub returns : goal.returns
-unfolding GoodString IsTz
+unfolding changing_of onward IsTz
 returns c =
-    let day = (clock_good c.in-Clock.is _ _ c.daylight_at.ensures.1).0 in (
-      changing_read _ _ _ _ (clock_is c.in-Clock.is c.daylight_at.ensures.0) (change_is c.in-Change.is c.change_at.ensures.0) (change_is c.in-Change-change_at.is
-          c.change_at-2.ensures.0) c.byte_at-byte.ensures c.if-byte-ne10.false,
+    let day = got _ _ _ c.in_ok-daylight.ensures.0 refl refl in let start = got _ _ _ c.in_ok-start.ensures.0 day.0 refl in let end = got _ _ _ c.in_ok-end.ensures.0 start.0 refl in let close = met _ _ c.in_ok-rest.ensures in (
+      found _ _ _ (close.text ∙ end.0) (rw close.at (simp (day.1, start.1, end.1, rw end.0 at (stands _ _ close)))),
       record {
-        standard = c.requires.2;
-        daylight = day;
+        standard = c.requires.0;
+        daylight = c.in_ok-daylight.ensures.1;
         good = record {
-          standard =
-              c.requires.2.west;
-          daylight = day.west;
-          start = (change_good c.in-Change.is _ c.change_at.ensures.1).0;
-          end = (change_good c.in-Change-change_at.is _
-              c.change_at-2.ensures.1).0;
+          standard = c.requires.0.west;
+          daylight = c.in_ok-daylight.ensures.1.west;
+          start = c.in_ok-start.ensures.1;
+          end = c.in_ok-end.ensures.1;
         };
       },
     )

@@ -1,14 +1,15 @@
 -- `tzrule::string::summer_offset_at` meets its contract.
-use Rattle.numbers.proofs.Prelude.{◌∙◌, arith}
-use Rattle.tzrule.proofs.string.{Ways.{around_within, summer_default, summer_written}}
-use Rattle.tzrule.specs.Answer.{Within}
+use Rattle.numbers.proofs.Prelude.{refl, arith}
+use Rattle.tzrule.proofs.{Steps.{ate, left, stands, found, ends, more_ok}}
+use Rattle.tzrule.specs.{String.{summer_of}}
 use Rattle.tzrule.proofs.string.summer_offset_at.Goals as goal
 
-pub returns-then-byte-eq44 : goal.returns-then-byte-eq44
-unfolding Within
-returns-then-byte-eq44 c =
-    (summer_default _ _ c.byte_at-byte.ensures _ c.if-byte-eq44.true, (omega (arith, c.requires), c.requires.1))
+pub returns-in-Some : goal.returns-in-Some
+unfolding summer_of
+returns-in-Some c =
+    (found _ _ _ refl (simp (stands _ _ (ate _ _ c.in-Some.ensures))), omega (arith, c.requires))
 
-pub returns : goal.returns
-returns c =
-    (c.offset_at.ensures.0 ∙ summer_written _ _ c.byte_at-byte.ensures _ c.if-byte-eq44.false, around_within _ _ _ (omega arith) c.offset_at.ensures.1)
+pub returns-in-None : goal.returns-in-None
+unfolding summer_of
+returns-in-None c =
+    (ends _ _ _ c.signed_at.ensures.0 refl refl _ refl _ (simp (left _ _ c.in-None.ensures)), more_ok _ _ c.signed_at.result (λ a h. omega (arith, h.to)) c.signed_at.ensures.1)

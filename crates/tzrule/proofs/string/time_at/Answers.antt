@@ -1,18 +1,15 @@
 -- `tzrule::string::time_at` meets its contract.
-use Rattle.numbers.proofs.Prelude.{◌∙◌, arith}
-use Rattle.tzrule.proofs.{Times.{byte_inside}, string.{Ways.{time_written, time_default}}}
-use Rattle.tzrule.specs.Answer.{Within}
+use Rattle.numbers.proofs.Prelude.{refl, arith}
+use Rattle.tzrule.proofs.{Steps.{ate, left, stands, found, ends}}
+use Rattle.tzrule.specs.{String.{time_of}}
 use Rattle.tzrule.proofs.string.time_at.Goals as goal
 
-pub hours_at-requires : goal.hours_at-requires
-hours_at-requires c =
-    (c.requires.0, byte_inside _ _ c.byte_at-byte.ensures c.if-byte-eq47.true)
+pub returns-in-Some : goal.returns-in-Some
+unfolding time_of
+returns-in-Some c =
+    let slash = ate _ _ c.in-Some.ensures in (ends _ _ _ c.hours_at.ensures.0 slash.text slash.at _ refl _ (simp (stands _ _ slash)), c.hours_at.ensures.1)
 
-pub returns-then-byte-eq47 : goal.returns-then-byte-eq47
-returns-then-byte-eq47 c =
-    (c.hours_at.ensures.0 ∙ time_written _ _ c.byte_at-byte.ensures _ c.if-byte-eq47.true, c.hours_at.ensures.1)
-
-pub returns : goal.returns
-unfolding Within
-returns c =
-    (time_default _ _ c.byte_at-byte.ensures _ c.if-byte-eq47.false, (omega arith, c.requires.1))
+pub returns-in-None : goal.returns-in-None
+unfolding time_of
+returns-in-None c =
+    (found _ _ _ refl (simp (left _ _ c.in-None.ensures)), omega arith)

@@ -1,19 +1,16 @@
 -- `tzrule::time::later_at` meets its contract.
-use Rattle.numbers.proofs.Prelude.{arith}
-use Rattle.tzrule.proofs.{Signs.{later_read, later_fault}, Times.{read_is, read_within, fault_is, fault_within}}
-use Rattle.tzrule.specs.Answer.{Around}
+use Rattle.numbers.proofs.Prelude.{refl, arith}
+use Rattle.tzrule.proofs.{Steps.{found, got, lost, fails, none_ok}}
+use Rattle.tzrule.specs.{Answer.{onward}, Grammar.{later_of}}
 use Rattle.tzrule.proofs.time.later_at.Goals as goal
 
-pub overflow_add-total : goal.overflow_add-total
-overflow_add-total c =
-    omega (arith, read_within c.in-Read.is c.clock_at-part.ensures.1, c.requires.3)
+pub returns-in_err-time : goal.returns-in_err-time
+unfolding later_of onward
+returns-in_err-time c =
+    let e = lost _ _ c.in_err-time.ensures.0 refl refl in (fails _ _ _ c.from_residual.ensures.1 (simp e.0, e.1), none_ok _ _ _ c.from_residual.ensures.1)
 
-pub returns-in-Read : goal.returns-in-Read
-unfolding Around
-returns-in-Read c =
-    (later_read _ _ _ (read_is c.in-Read.is c.clock_at-part.ensures.0), omega (arith, read_within c.in-Read.is c.clock_at-part.ensures.1, c.requires.3))
-
-pub returns-in-Fault : goal.returns-in-Fault
-unfolding Around
-returns-in-Fault c =
-    (later_fault _ _ _ (fault_is c.in-Fault.is c.clock_at-part.ensures.0), fault_within c.in-Fault.is _ c.clock_at-part.ensures.1)
+pub returns : goal.returns
+unfolding later_of onward
+returns c =
+    let time = got _ _ _ c.in_ok-time.ensures.0 refl refl in
+    (found _ _ _ time.0 (simp time.1), record { from = omega (arith, c.in_ok-time.ensures.1, c.requires.1); to = omega (arith, c.in_ok-time.ensures.1) })

@@ -1,41 +1,22 @@
 -- `tzrule::time::minutes_at` meets its contract.
-use Rattle.numbers.proofs.Prelude.{arith}
-use Rattle.tzrule.proofs.Times.{read_is, read_within, fault_is, fault_within, wider, byte_inside, sixty_shape, minutes_none, minutes_read, minutes_fault}
-use Rattle.tzrule.specs.Answer.{Within}
+use Rattle.numbers.proofs.Prelude.{refl, arith}
+use Rattle.tzrule.proofs.{Steps.{ate, left, stands, found, got, lost, ends, fails, none_ok, more_ok}}
+use Rattle.tzrule.specs.{Answer.{onward}, Grammar.{minutes_of}}
 use Rattle.tzrule.proofs.time.minutes_at.Goals as goal
 
-pub returns-then-byte-ne58 : goal.returns-then-byte-ne58
-unfolding Within
-returns-then-byte-ne58 c =
-    (minutes_none _ _ _ c.byte_at-byte.ensures c.if-byte-ne58.true, (omega arith, c.requires.1))
+pub returns-in_default : goal.returns-in_default
+unfolding minutes_of
+returns-in_default c =
+    (found _ _ _ refl (simp (left _ _ c.in_default.ensures)), omega arith)
 
-pub number_at-part-requires : goal.number_at-part-requires
-number_at-part-requires c =
-    (c.requires.0, byte_inside _ _ c.byte_at-byte.ensures c.if-byte-ne58.false, sixty_shape)
+pub returns-in_err-minutes : goal.returns-in_err-minutes
+unfolding minutes_of onward
+returns-in_err-minutes c =
+    let colon = ate _ _ c.in-Some.ensures in let e = lost _ _ c.in_err-minutes.ensures.0 colon.text colon.at in
+    (fails _ _ _ c.from_residual.ensures.1 (simp (stands _ _ colon, e.0), e.1), none_ok _ _ _ c.from_residual.ensures.1)
 
-pub overflow_mul-value : goal.overflow_mul-value
-overflow_mul-value c =
-    omega (arith, read_within c.in-Read.is c.number_at-part.ensures.1)
-
-pub overflow_add-sum : goal.overflow_add-sum
-overflow_add-sum c =
-    omega (arith, read_within c.in-Read.is c.number_at-part.ensures.1, c.requires.2)
-
-pub seconds_at-requires : goal.seconds_at-requires
-seconds_at-requires c =
-    (c.requires.0, (read_within c.in-Read.is c.number_at-part.ensures.1).1, omega (arith, read_within c.in-Read.is c.number_at-part.ensures.1, c.requires.2))
-
-pub returns-in-Read : goal.returns-in-Read
-returns-in-Read c = (
-  minutes_read _ _ _ c.byte_at-byte.ensures c.if-byte-ne58.false _ (read_is c.in-Read.is c.number_at-part.ensures.0) c.seconds_at.ensures.0,
-  wider _ _ (omega
-      (arith, read_within c.in-Read.is c.number_at-part.ensures.1)) c.seconds_at.ensures.1,
-)
-
-pub returns-in-Fault : goal.returns-in-Fault
-unfolding Within
-returns-in-Fault c = (
-  minutes_fault _ _ _ c.byte_at-byte.ensures c.if-byte-ne58.false (fault_is c.in-Fault.is c.number_at-part.ensures.0),
-  fault_within c.in-Fault.is _
-      c.number_at-part.ensures.1,
-)
+pub returns : goal.returns
+unfolding minutes_of onward
+returns c =
+    let colon = ate _ _ c.in-Some.ensures in let minutes = got _ _ _ c.in_ok-minutes.ensures.0 colon.text colon.at in
+    (ends _ _ _ c.seconds_at.ensures.0 minutes.0 refl _ refl _ (simp (stands _ _ colon, minutes.1)), more_ok _ _ c.seconds_at.result (λ a h. omega (arith, h, c.in_ok-minutes.ensures.1)) c.seconds_at.ensures.1)

@@ -1,24 +1,20 @@
 -- `tzrule::time::signed_at` meets its contract.
-use Rattle.numbers.proofs.Prelude.{◌∙◌}
-use Rattle.tzrule.proofs.{Signs.{sign_minus, sign_plus, sign_none}, Times.{byte_inside}}
+use Rattle.numbers.proofs.Prelude.{refl}
+use Rattle.tzrule.proofs.{Steps.{ate, left, stands, ends}}
+use Rattle.tzrule.specs.{Grammar.{signed_of}}
 use Rattle.tzrule.proofs.time.signed_at.Goals as goal
 
-pub earlier_at-requires : goal.earlier_at-requires
-earlier_at-requires c =
-    (c.requires.0, byte_inside _ _ c.byte_at-byte.ensures c.if-byte-eq45.true, c.requires.2, c.requires.3)
+pub returns-in-Some : goal.returns-in-Some
+unfolding signed_of
+returns-in-Some c =
+    let minus = ate _ _ c.in-Some.ensures in (ends _ _ _ c.earlier_at.ensures.0 minus.text minus.at _ refl _ (simp (stands _ _ minus)), c.earlier_at.ensures.1)
 
-pub returns-then-byte-eq45 : goal.returns-then-byte-eq45
-returns-then-byte-eq45 c =
-    (c.earlier_at.ensures.0 ∙ sign_minus _ _ _ c.byte_at-byte.ensures c.if-byte-eq45.true, c.earlier_at.ensures.1)
-
-pub later_at-requires : goal.later_at-requires
-later_at-requires c =
-    (c.requires.0, byte_inside _ _ c.byte_at-byte.ensures c.if-byte-eq43.true, c.requires.2, c.requires.3)
-
-pub returns-then-byte-eq43 : goal.returns-then-byte-eq43
-returns-then-byte-eq43 c =
-    (c.later_at.ensures.0 ∙ sign_plus _ _ _ c.byte_at-byte.ensures c.if-byte-eq45.false c.if-byte-eq43.true, c.later_at.ensures.1)
+pub returns-in-Some-eat : goal.returns-in-Some-eat
+unfolding signed_of
+returns-in-Some-eat c =
+    let plus = ate _ _ c.in-Some-eat.ensures in (ends _ _ _ c.later_at.ensures.0 plus.text plus.at _ refl _ (simp (left _ _ c.in_default.ensures, stands _ _ plus)), c.later_at.ensures.1)
 
 pub returns : goal.returns
+unfolding signed_of
 returns c =
-    (c.later_at-2.ensures.0 ∙ sign_none _ _ _ c.byte_at-byte.ensures c.if-byte-eq45.false c.if-byte-eq43.false, c.later_at-2.ensures.1)
+    (ends _ _ _ c.later_at-2.ensures.0 refl refl _ refl _ (simp (left _ _ c.in_default.ensures, left _ _ c.in_default-eat.ensures)), c.later_at-2.ensures.1)
