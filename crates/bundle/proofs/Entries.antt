@@ -5,6 +5,7 @@ use Rattle.numbers.proofs.Prelude.{arith}
 use Rattle.numbers.{proofs.{Replies.{demanded}, Tests.{both}}, specs.{Answer.{found, failed, if◌then◌else◌}, Reply.{given, refused, refusal, plain}, declared.refusal.Refusal.{Refusal}}}
 use Rattle.std.proofs.Math.Bool.{and-false}
 use lib.Bits.{bit_xor}
+use Rattle.std.specs.{Prelude.{nat_eq}, List.{starts_with}}
 use Rattle.bundle.specs.{Bundle.{xored, word_at, agrees, magic, is_bundle, is_index, is_data, is_end, head_of, is_entry, seek_of, find_of}, declared.{find.File.{File}, head.Head.{Head}}}
 
 -- ---- a name in two parts, under a mask
@@ -76,17 +77,8 @@ pub next_place : (n : ℕ) (bundle name : List ℕ) (place at : ℕ) → agrees 
 next_place n bundle name place at = ap (λ (k : ℕ). agrees n (drop k bundle) (drop (at + 1) name)) (let e : place + (at + 1) ≡ place + at + 1 = omega arith in e)
 
 -- ---- the head
-pub short_bundle : (bundle : List ℕ) → length bundle < 24 → false ≡ is_bundle bundle
-unfolding is_bundle
-short_bundle bundle h = simp (lt-leb 24 (length bundle) h)
-
-pub long_bundle : (bundle : List ℕ) → 24 ≤ length bundle → agrees 6 bundle magic ≡ is_bundle bundle
-unfolding is_bundle
-long_bundle bundle h = sym (simp (le-leb 24 (length bundle) h))
-
 pub bundle_long : (bundle : List ℕ) → is_bundle bundle ≡ true → 24 ≤ length bundle
-unfolding is_bundle
-bundle_long bundle e = go (leb 24 (length bundle)) (agrees 6 bundle magic) refl e where
+bundle_long bundle e = go (leb 24 (length bundle)) (starts_with nat_eq bundle magic) refl e where
   go : (a b : Bool) → leb 24 (length bundle) ≡ a → (a && b) ≡ true → 24 ≤ length bundle
   go true b f e = leb-true 24 (length bundle) f
   go false b f e = absurd (let z : ◌≡◌ {A = ℕ} 0 1 = cc in omega arith)
@@ -133,7 +125,6 @@ pub record Lies (length index start end : ℕ) : Type 0 where
   pub small : end ≤ 2147483647
 
 lies : (length i d e : ℕ) → is_index i ≡ true → is_data i d ≡ true → is_end d e length ≡ true → Lies length i d e
-unfolding is_index is_data is_end
 lies length i d e x y z = let a = both (leb i 2147483647) (leb 24 i) x in let b = both (leb d 2147483647 && leb i d) (eqb ((d - i) % 52) 0) y in
     let c = both (leb d 2147483647) (leb i d) b.0 in let f = both (leb e 2147483647 && leb d e) (leb e length) z in
     let g = both (leb e 2147483647) (leb d e) f.0 in

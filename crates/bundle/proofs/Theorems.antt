@@ -2,13 +2,12 @@
 use Rattle.numbers.proofs.Prelude.{ℕ, zero, suc, ◌+◌, ◌-◌, ◌*◌, ◌/◌, ◌≤◌, ◌<◌, leb-true, eqb-true, eqb, leb, length, drop, get_or, get_or-drop, Bool, true, false, List, [], ◌∷◌, map, ◌≡◌, refl, sym, ap}
 use Rattle.numbers.proofs.Prelude.{subst, ◌∙◌, arith}
 use Rattle.numbers.proofs.{Refusals.{Listed, Numbered, as_found, as_failed}, Replies.{NumberedReply, answers, then_reply, and_then, demands, or_else_lem, number_of_lem, given_from, demanded}, Tests.{both}}
-use Rattle.numbers.specs.{Answer.{Answer, found, failed, if◌then◌else◌}, Reply.{Reply, given, refused, refusal, plain, ◌or_else◌}, declared.refusal.Refusal.{Refusal}}
+use Rattle.numbers.specs.{Answer.{Answer, found, failed, if◌then◌else◌}, Reply.{given, refused, refusal, plain, ◌or_else◌}, declared.refusal.Refusal.{Refusal}}
 use lib.Bits.{xor_zero_r}
 use Rattle.bundle.proofs.Entries.{head_good}
-use Rattle.bundle.specs.{Bundle.{xored, word_at, agrees, is_bundle, is_index, is_data, is_end, head_of, is_entry, seek_of, find_of}, First.{First, FoundAt}, Told.{told}, declared.find.File.{File}}
-use Rattle.bundle.specs.declared.find.Found.{Found}
+use Rattle.bundle.specs.{Bundle.{xored, word_at, agrees, is_bundle, is_index, is_data, is_end, head_of, is_entry, seek_of, find_of}, First.{First, FoundAt}, declared.find.File.{File}}
+use Rattle.std.specs.Prelude.{Result}
 use Rattle.numbers.specs.Answer as A
-use Rattle.bundle.specs.declared.find.Found.TheVariants as F
 
 -- a mask of 0 leaves every byte as it is
 pub xored_zero : (xs : List ℕ) → map (xored 0) xs ≡ xs
@@ -16,18 +15,9 @@ xored_zero [] = refl
 xored_zero (x ∷ xs) = λ i. xor_zero_r x i ∷ xored_zero xs i
 
 -- ---- same_found
-untold : Reply File → Found
-untold (given file) = F.At file
-untold (refused why) = F.Refused why
-
-untold_told : (r : Found) → untold (told r) ≡ r
-unfolding untold
-untold_told (F.At file) = refl
-untold_told (F.Refused why) = refl
-
 -- two replies that the promise of `find` permits are equal
-pub same_found : (bundle name : List ℕ) (r s : Found) → told r ≡ find_of bundle name → told s ≡ find_of bundle name → r ≡ s
-same_found bundle name r s p q = sym (untold_told r) ∙ ap untold (p ∙ sym q) ∙ untold_told s
+pub same_found : (bundle name : List ℕ) (r s : Result File Refusal) → r ≡ find_of bundle name → s ≡ find_of bundle name → r ≡ s
+same_found bundle name r s p q = p ∙ sym q
 
 -- ---- found_refusals
 abbrev Two : ℕ → Type 0
@@ -55,7 +45,7 @@ find_told bundle name =
     (place + 40) + word_at bundle (place + 44)) head.end) (refusal 89 0 place) refl) answers))
 
 -- a search is refused with 88 and 89 alone
-pub found_refusals : (bundle name : List ℕ) {why : Refusal} → told (F.Refused why) ≡ find_of bundle name → Two why.number
+pub found_refusals : (bundle name : List ℕ) {why : Refusal} → refused why ≡ find_of bundle name → Two why.number
 found_refusals bundle name e = number_of_lem (find_told bundle name) (sym e)
 
 -- ---- found_first
@@ -94,7 +84,7 @@ seek_given (found p) e = cc
 seek_given failed e = absurd (let z : ◌≡◌ {A = ℕ} 0 1 = cc in omega arith)
 seek_given (A.refused n) e = absurd (let z : ◌≡◌ {A = ℕ} 0 1 = cc in omega arith)
 
-pub found_first : (bundle name : List ℕ) {file : File} → told (F.At file) ≡ find_of bundle name → FoundAt bundle name file
+pub found_first : (bundle name : List ℕ) {file : File} → given file ≡ find_of bundle name → FoundAt bundle name file
 unfolding find_of
 found_first bundle name {file = file} e = let h = given_from (head_of bundle) _ e in
     let p = given_from (seek_of ((h.it.start - h.it.index) / 52) bundle name h.it.index or_else plain 88) _ h.onto in

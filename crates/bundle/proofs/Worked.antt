@@ -1,6 +1,6 @@
 -- A bundle of two zones, worked by computation: both are found, a third is not, and each fault of the head and of an entry has its place.
 use Rattle.numbers.{proofs.Prelude.{ℕ, take, set, List, [], ◌∷◌, ◌++◌, map, ◌≡◌, refl}, specs.{Lists.{padded, zeros}, Reply.{Reply, given, refused}}}
-use Rattle.bundle.specs.{Bundle.{word_at, agrees, magic, is_bundle, is_index, is_data, is_end, head_of, is_entry, seek_of, find_of}, declared.find.File.{File}}
+use Rattle.bundle.specs.{Bundle.{word_at, agrees, magic, head_of, is_entry, seek_of, find_of}, declared.find.File.{File}}
 
 -- a number below 256 in four bytes
 word : ℕ → List ℕ
@@ -39,5 +39,5 @@ worked =
     (65 ∷ []) (not 89 20) ∷ row (set two 71 7) (65 ∷ []) (not 89 24) ∷ row (set two 71 7) (66 ∷ 47 ∷ 67 ∷ []) (file 130 4) ∷ []
 
 pub worked_hold : map computed worked ≡ worked
-unfolding worked computed row shown_as two entry word word_at agrees is_bundle is_index is_data is_end head_of is_entry seek_of find_of
+unfolding worked computed row shown_as two entry word word_at agrees head_of is_entry seek_of find_of
 worked_hold = refl

@@ -1,5 +1,6 @@
 -- S-2, a bundle: the TZif files of all zones, in the form of Android's `tzdata`.
-use Rattle.std.specs.Prelude.{◌+◌, ◌-◌, ◌*◌, ◌/◌, ◌%◌, ◌^◌, ◌&&◌, ◌∷◌, if◌then◌else◌}
+use Rattle.std.specs.Prelude.{◌+◌, ◌-◌, ◌*◌, ◌/◌, ◌%◌, ◌^◌, ◌&&◌, ◌∷◌, if◌then◌else◌, nat_eq}
+use Rattle.std.specs.List.{starts_with}
 use Rattle.numbers.specs.Prelude.{ℕ, zero, suc, eqb, leb, length, drop, get_or, Bool, true, List, []}
 use Rattle.numbers.specs.{Answer.{Answer, found, failed}, Reply.{Reply, given, refusal, plain, demand, ◌or_else◌, ◌>>=◌, ◌>>◌}}
 use Rattle.std.specs.Int.Bits.{bit_xor}
@@ -27,19 +28,19 @@ abbrev pub magic : List ℕ
 magic = 116 ∷ 122 ∷ 100 ∷ 97 ∷ 116 ∷ 97 ∷ []
 
 -- ---- the tests of the head
-unfoldable pub is_bundle : List ℕ → Bool
-is_bundle bundle = leb 24 (length bundle) && agrees 6 bundle magic
+abbrev pub is_bundle : List ℕ → Bool
+is_bundle bundle = leb 24 (length bundle) && starts_with nat_eq bundle magic
 
 -- where the index begins
-unfoldable pub is_index : ℕ → Bool
+abbrev pub is_index : ℕ → Bool
 is_index i = is_number i && leb 24 i
 
 -- where the data begins, whole entries behind it
-unfoldable pub is_data : ℕ → ℕ → Bool
+abbrev pub is_data : ℕ → ℕ → Bool
 is_data i d = is_number d && leb i d && eqb ((d - i) % 52) 0
 
 -- where the data ends
-unfoldable pub is_end : ℕ → ℕ → ℕ → Bool
+abbrev pub is_end : ℕ → ℕ → ℕ → Bool
 is_end d e length = is_number e && leb d e && leb e length
 
 -- the head, its faults place by place

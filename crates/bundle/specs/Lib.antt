@@ -1,3 +1,5 @@
 pub mod Bundle
 pub mod Told
 pub mod First
+pub mod Spelled
+pub mod Named

@@ -47,6 +47,7 @@ pub(crate) fn agrees(
     requires { place + size ≤ length bundle.now }
     ensures { result ≡ agrees size (drop place bundle.now) (map (xored mask) (prefix.now ++ id.now)) }
 {
+    // Stays a loop: the name stands in two parts under a mask, so there is no slice to compare.
     let mut at: usize = 0;
     let mut left = size;
     while 0 < left {

@@ -4,3 +4,4 @@
 pub mod bytes;
 pub mod find;
 pub mod head;
+pub mod wanted;

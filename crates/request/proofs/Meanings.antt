@@ -1,6 +1,6 @@
 -- What a request that is read spells: its fractions, date and time are in their ranges. Assumes nothing.
 use Rattle.numbers.proofs.Prelude.{ℕ, ◌+◌, ◌*◌, ◌/◌, ◌^◌, ◌≤◌, ◌<◌, leb-true, eqb, leb, length, drop, get_or, Bool, true, false, not, List, [], ◌∷◌, ◌≡◌, refl, sym, ap, subst, ◌∙◌, arith}
-use Rattle.numbers.{proofs.{Replies.{given_from, demanded}, Tests.{both}}, specs.{Answer.{Answer, found, failed, if◌then◌else◌, ◌>>=◌}, Reply.{given, refusal, plain}}}
+use Rattle.numbers.{proofs.{Replies.{given_from, demanded}, Tests.{both}}, specs.{Answer.{Answer, found, failed, if◌then◌else◌, ◌>>=◌}, Reply.{Reply, given, refusal, plain}}}
 use Rattle.request.proofs.Numerals.{ten_some, small_size}
 use Rattle.request.specs.{Clock.{Date, Time, When, utc, since, is_date, is_time, time_of, date_of, moment_form, moment_date, moment_time, moment_of, seconds_of, when_of}, Number.{Size, Fraction}}
 use Rattle.request.specs.{Number.{spelled, part_of, angle_of, side_of, decimal_of, unsigned, is_minus, degrees_of}, Request.{Spelt, at, star_of, body_of, is_sealed, is_address, is_rmc, is_mode, place_of}}
@@ -74,7 +74,7 @@ degrees_fair limit text l e = go (decimal_of limit (unsigned text)) refl e where
   go (A.refused n) p e = absurd (let z : ◌≡◌ {A = ℕ} 0 1 = cc in omega arith)
 
 -- what was spelt last
-whens : {lat lon : Fraction} (when : When) {s : Spelt} → Fair lat → Fair lon → Civilly when → given s ≡ given (record { lat = lat; lon = lon; when = when }) → Meant s
+whens : {lat lon : Fraction} (when : When) {s : Spelt} → Fair lat → Fair lon → Civilly when → ◌≡◌ {A = Reply Spelt} (given s) (given (record { lat = lat; lon = lon; when = when })) → Meant s
 whens {lat = lat} {lon = lon} when {s = s} f g h e = let same : s ≡ record { lat = lat; lon = lon; when = when } = cc in
     subst Meant (sym same) (record { lat_fair = f; lon_fair = g; civil = h })
 

@@ -1,12 +1,13 @@
 -- Numbers that digits spell, and their sizes. Assumes nothing.
-use Rattle.numbers.proofs.Prelude.{ℕ, suc, ◌+◌, ◌-◌, ◌*◌, ◌/◌, ◌^◌, ◌≤◌, ◌<◌, eq-eqb, ne_eqb, le-leb, leb-true, lt-leb, eqb, leb, Float, length, take, drop, get_or, length-drop, Bool, true, false}
-use Rattle.numbers.proofs.Prelude.{◌&&◌, List, [], ◌∷◌, ◌≡◌, refl, sym, ap, subst, ◌∙◌, le_trans, mul_comm, mul_assoc, mul-le-mul_right, pow-suc, div-lt_iff_lt-mul, arith}
+use Rattle.numbers.proofs.Prelude.{ℕ, suc, ◌+◌, ◌-◌, ◌*◌, ◌/◌, ◌^◌, ◌≤◌, ◌<◌, eq-eqb, ne_eqb, le-leb, leb-true, lt-leb, eqb-true, eqb, leb, Float, length, take, drop, get_or, length-drop, Bool, true, false}
+use Rattle.numbers.proofs.Prelude.{◌&&◌, ◌||◌, List, [], ◌∷◌, ◌≡◌, refl, sym, ap, subst, ◌∙◌, le_trans, mul_comm, mul_assoc, mul-le-mul_right, pow-suc, div-lt_iff_lt-mul, arith}
 use Rattle.numbers.specs.{Answer.{Answer, found, failed, if◌then◌else◌, ◌>>=◌}, Reply.{given, refused, refusal}, declared.refusal.Refusal.{Refusal}}
 use native.Mathlib.Nat.{pow-le-pow_right, one-le-pow, zero-lt-suc, mul-le-mul_left}
 use Rattle.request.proofs.Texts.{here, ended}
 use Rattle.request.specs.{Number.{Size, spelled, digit_of, value_from, part_of, is_tail, has_form, angle_of, side_of, decimal_of, unsigned, is_minus, degrees_of, nearest_to}, Request.{at}}
-use Rattle.request.specs.{Text.{digits, formed, until}, Told.{shown, limited_to, told_size, IsSize}, declared.{degrees.Sized.{Sized}, number.Digits.{Digits}}}
-use Rattle.request.specs.declared.degrees.Sized.TheVariants as S
+use Rattle.request.specs.{Text.{digits, formed, until}, Told.{shown, limited_to, IsSize}, declared.{degrees.Ratio.{Ratio}, number.Digits.{Digits}}}
+use Rattle.std.specs.Prelude.{Result, Ok, Err, IfOk}
+use Rattle.numbers.proofs.Replies.{held}
 use Rattle.numbers.specs.Answer as A
 
 -- ---- powers of ten
@@ -63,54 +64,14 @@ same_digits e f = cc
 
 -- ---- tails and forms
 module _ (most : ℕ) where
-  pub tail_none : (text : List ℕ) → length text ≡ 0 → true ≡ is_tail most text
-  unfolding is_tail
-  tail_none [] h = refl
-  tail_none (b ∷ bs) h = absurd (omega arith)
-
-  pub tail_some : (text : List ℕ) → (length text ≡ 0 → ⊥) → is_tail most text ≡ (eqb (get_or text 0 0) 46 && digits (drop 1 text) && leb 1 (length (drop 1 text)) && leb (length (drop 1 text)) most)
-  unfolding is_tail
-  tail_some [] h = absurd (h refl)
-  tail_some (b ∷ bs) h = refl
-
-  module _ (text : List ℕ) (some : length text ≡ 0 → ⊥) where
-    rest_long : length (drop 1 text) ≡ length text - 1
-    rest_long = length-drop 1 text
-
-    pub tail_point : (get_or text 0 0 ≡ 46 → ⊥) → false ≡ is_tail most text
-    tail_point h = sym (tail_some text some ∙ simp (ne_eqb (get_or text 0 0) 46 h))
-
-    pub tail_empty : length text < 2 → false ≡ is_tail most text
-    tail_empty h = sym (tail_some text some ∙ go (eqb (get_or text 0 0) 46) (digits (drop 1 text)) (leb 1 (length (drop 1 text))) (lt-leb 1 (length (drop 1 text)) (omega (arith, rest_long)))) where
-      go : (p q r : Bool) → r ≡ false → (p && q && r && leb (length (drop 1 text)) most) ≡ false
-      go true true r e = rw e refl
-      go true false r e = refl
-      go false q r e = refl
-
-    pub tail_long : most < length text - 1 → false ≡ is_tail most text
-    tail_long h = sym (tail_some text some ∙ go (eqb (get_or text 0 0) 46 && digits (drop 1 text) && leb 1 (length (drop 1 text))) (leb (length (drop 1 text)) most) (lt-leb (length
-        (drop 1 text)) most (omega (arith, rest_long)))) where
-          go : (p r : Bool) → r ≡ false → (p && r) ≡ false
-          go true r e = e
-          go false r e = refl
-
-    pub tail_is : get_or text 0 0 ≡ 46 → 2 ≤ length text → length text - 1 ≤ most → digits (drop 1 text) ≡ is_tail most text
-    tail_is p l h = sym (tail_some text some ∙ go (digits (drop 1 text)) (eq-eqb (get_or text 0 0) 46 p) (le-leb 1 (length (drop 1 text)) (omega (arith, rest_long))) (le-leb (length
-        (drop 1 text)) most (omega (arith, rest_long)))) where
-          go : (q : Bool) {a b d : Bool} → a ≡ true → b ≡ true → d ≡ true → (a && q && b && d) ≡ q
-          go true e f g = rw (e, f, g) refl
-          go false e f g = rw e refl
-
   tail_length : (text : List ℕ) → is_tail most text ≡ true → length text ≤ most + 1
-  unfolding is_tail
-  tail_length [] h = omega arith
-  tail_length (b ∷ bs) h = go (eqb b 46) (digits bs) (leb 1 (length bs)) (leb (length bs) most) refl h where
-    go : (p q r s : Bool) → leb (length bs) most ≡ s → (p && q && r && s) ≡ true → length (b ∷ bs) ≤ most + 1
-    go p q r true e h = omega (arith, leb-true (length bs) most e)
-    go true true true false e h = absurd (let z : ◌≡◌ {A = ℕ} 0 1 = cc in omega arith)
-    go true true false false e h = absurd (let z : ◌≡◌ {A = ℕ} 0 1 = cc in omega arith)
-    go true false r false e h = absurd (let z : ◌≡◌ {A = ℕ} 0 1 = cc in omega arith)
-    go false q r false e h = absurd (let z : ◌≡◌ {A = ℕ} 0 1 = cc in omega arith)
+  tail_length text h = go (eqb (length text) 0) (eqb (get_or text 0 0) 46) (leb 2 (length text)) (leb (length text - 1) most) (digits (drop 1 text)) refl refl h where
+    go : (e p q r s : Bool) → eqb (length text) 0 ≡ e → leb (length text - 1) most ≡ r → (e || (p && q && r && s)) ≡ true → length text ≤ most + 1
+    go true p q r s z f h = omega (arith, eqb-true (length text) 0 z)
+    go false p q true s z f h = omega (arith, leb-true (length text - 1) most f)
+    go false true true false s z f h = absurd (let n : ◌≡◌ {A = ℕ} 0 1 = cc in omega arith)
+    go false true false false s z f h = absurd (let n : ◌≡◌ {A = ℕ} 0 1 = cc in omega arith)
+    go false false q false s z f h = absurd (let n : ◌≡◌ {A = ℕ} 0 1 = cc in omega arith)
 
 module _ (width most : ℕ) (text : List ℕ) where
   pub form_short : length text < width → false ≡ has_form width most text
@@ -236,8 +197,8 @@ module _ (text : List ℕ) where
   no_sign n m = simp (ne_eqb (get_or text 0 0) 43 n, ne_eqb (get_or text 0 0) 45 m)
 
 -- ---- degrees of a word
-module _ (limit : ℕ) (text : List ℕ) (place : ℕ) {r : Sized} (e : told_size r ≡ at place (decimal_of limit (unsigned text))) where
-  pub degrees_are : {num den : ℕ} → r ≡ S.Is num den → {x : Float} → x ≡ nearest_to (record { minus = is_minus text; size = record { num = num; den = den } })
+module _ (limit : ℕ) (text : List ℕ) (place : ℕ) {r : Result Ratio Refusal} (e : r ≡ at place (decimal_of limit (unsigned text))) where
+  pub degrees_are : {size : Ratio} → r ≡ Ok size → {x : Float} → x ≡ nearest_to (record { minus = is_minus text; size = record { num = size.num; den = size.den } })
       → given x ≡ shown (at place (degrees_of limit text)) nearest_to
   unfolding degrees_of
   degrees_are is f = ap given f ∙ go (decimal_of limit (unsigned text)) (rw is at e) where
@@ -248,7 +209,7 @@ module _ (limit : ℕ) (text : List ℕ) (place : ℕ) {r : Sized} (e : told_siz
     go failed e = absurd (let z : ◌≡◌ {A = ℕ} 0 1 = cc in omega arith)
     go (A.refused n) e = absurd (let z : ◌≡◌ {A = ℕ} 0 1 = cc in omega arith)
 
-  pub degrees_refused : {why : Refusal} → r ≡ S.Refused why → refused why ≡ shown (at place (degrees_of limit text)) nearest_to
+  pub degrees_refused : {why : Refusal} → r ≡ Err why → refused why ≡ shown (at place (degrees_of limit text)) nearest_to
   unfolding degrees_of
   degrees_refused is = go (decimal_of limit (unsigned text)) (rw is at e) where
     go : (a : Answer Size) {why : Refusal} → refused why ≡ at place a → refused why ≡ shown (at place (a >>= λ size. found (record { minus = is_minus text; size = size }))) nearest_to
@@ -260,7 +221,6 @@ module _ (limit : ℕ) (text : List ℕ) (place : ℕ) {r : Sized} (e : told_siz
 pub whole_is : (text : List ℕ) (whole : ℕ) → whole ≡ 0 + length (until 46 46 text) → whole ≡ length (until 46 46 text)
 whole_is text whole e = omega arith
 
--- a size that was given
-pub size_held : {r : Sized} {num den : ℕ} → r ≡ S.Is num den → IsSize r → (0 < den) × (num / den < 16777216)
+pub size_held : {r : Result Ratio Refusal} {size : Ratio} → r ≡ Ok size → IfOk r IsSize → (0 < size.den) × (size.num / size.den < 16777216)
 unfolding IsSize
-size_held is h = rw is at h
+size_held is h = held IsSize is h

@@ -1,14 +1,13 @@
 -- Replies that follow one another, as the code meets them. Assumes nothing.
-use Rattle.numbers.proofs.Prelude.{ℕ, zero, suc, ◌+◌, ◌-◌, ◌/◌, ◌%◌, ◌≤◌, ◌<◌, eq-eqb, ne_eqb, le-leb, lt-leb, eqb, Float, ℤ, length, take, drop, get_or, length-drop, drop-drop, take-length, Bool}
-use Rattle.numbers.proofs.Prelude.{true, false, ◌||◌, List, [], ◌∷◌, ◌≡◌, refl, sym, ap, ◌∙◌, arith}
+use Rattle.numbers.proofs.Prelude.{ℕ, zero, suc, ◌+◌, ◌-◌, ◌/◌, ◌%◌, ◌≤◌, ◌<◌, eq-eqb, ne_eqb, le-leb, lt-leb, eqb, Float, ℤ, length, take, drop, get_or, length-drop, drop-drop, Bool}
+use Rattle.numbers.proofs.Prelude.{true, false, List, [], ◌∷◌, ◌≡◌, refl, sym, ap, ◌∙◌, arith}
 use Rattle.numbers.{proofs.Replies.{given_from, refused_from}, specs.{Answer.{Answer}, Reply.{Reply, given, refused, refusal, plain, demand, ◌>>=◌, ◌>>◌}, declared.refusal.Refusal.{Refusal}}}
 use Rattle.calendar.specs.Moments.{instant_of}
 use Rattle.request.proofs.Texts.{form_length, behind_on, behind_end, until_take, part_is, place_is}
 use Rattle.request.specs.{Clock.{Date, Time, When, utc, time_of, date_of, when_of, day_of, second_of, instant_at}, Number.{Size, Fraction, angle_of, side_of, degrees_of, nearest_to}}
-use Rattle.request.specs.Request.{Spelt, at, star_of, body_of, is_hex, is_sealed, is_address, is_rmc, is_mode, place_of, in_field, turned, fix_of, fields_of, sentence_of, place_in, in_word, plain_of, spelt_of}
-use Rattle.request.specs.{Request.{meaning, request_of}, Text.{every, formed, count, xors, behind, field, to_comma, word, unblanked, past_word, next_word, unended, line_of}, Told.{shown, Below}}
-use Rattle.request.specs.declared.{clock.Whole.{Whole}, read.Fix.{Fix}}
-use Rattle.request.specs.declared.clock.Whole.TheVariants as W
+use Rattle.request.specs.Request.{Spelt, at, star_of, body_of, is_hex, is_sealed, is_address, is_rmc, is_known, is_mode, place_of, in_field, turned, fix_of, fields_of, sentence_of, place_in, in_word, plain_of, spelt_of}
+use Rattle.request.specs.{Request.{meaning, request_of}, Text.{every, formed, count, xors, behind, field, to_comma, word, unblanked, past_word, next_word, line_of}, Told.{shown}}
+use Rattle.request.specs.declared.read.Fix.{Fix}
 
 -- ---- fields
 module _ (n : ℕ) (body : List ℕ) (from to : ℕ) (b : drop from body ≡ behind n body) where
@@ -18,14 +17,10 @@ module _ (n : ℕ) (body : List ℕ) (from to : ℕ) (b : drop from body ≡ beh
   pub field_place : from ≤ length body → 1 + from ≡ place_of n body
   field_place h = ap (λ (k : ℕ). 1 + k) (place_is body (behind n body) from b h)
 
-  pub shown_in_field : to ≡ from + length (to_comma (drop from body)) → from ≤ length body → {A : Type 0} (reading : List ℕ → Answer A)
-      → at (1 + from) (reading (take (to - from) (drop from body))) ≡ in_field n body reading
-  shown_in_field e h reading = ap (λ (l : List ℕ). at (1 + from) (reading l)) (field_is e) ∙ ap (λ (k : ℕ). at k (reading (field n body))) (field_place h)
-
--- the first field
-pub field_first : (body : List ℕ) (end : ℕ) → end ≡ 0 + length (to_comma body) → take end body ≡ field 0 body
-unfolding behind
-field_first body end e = ap (λ (k : ℕ). take k body) (let z : end ≡ length (to_comma body) = omega arith in z) ∙ until_take 44 44 body
+-- what a field spells, by its bytes and its place
+pub in_its_field : (n : ℕ) (body : List ℕ) {text : List ℕ} {place : ℕ} → text ≡ field n body → place ≡ place_of n body → {A : Type 0} (reading : List ℕ → Answer A)
+    → at place (reading text) ≡ in_field n body reading
+in_its_field n body t p reading = λ i. at (p i) (reading (t i))
 
 -- ---- what was shown
 pub record Shown {A B : Type 0} (reply : Reply A) (f : A → B) (b : B) : Type 0 where
@@ -136,7 +131,6 @@ module _ (body : List ℕ) where
 
 -- ---- the tests of a sentence
 pub address_is : (text : List ℕ) → 2 ≤ length text → length text ≤ 8 → every true text ≡ is_address text
-unfolding is_address
 address_is text l h = sym (simp (le-leb 2 (length text) l, le-leb (length text) 8 h))
 
 pub rmc_short : (text : List ℕ) → length text < 2 → false ≡ is_rmc text
@@ -153,22 +147,11 @@ mode_long [] h = absurd (omega arith)
 mode_long (b ∷ []) h = absurd (omega arith)
 mode_long (b ∷ d ∷ more) h = refl
 
-pub mode_one : (text : List ℕ) → (length text ≡ 0 → ⊥) → length text ≤ 1
-    → is_mode text ≡ ((eqb (get_or text 0 0) 65 || eqb (get_or text 0 0) 68) || (eqb (get_or text 0 0) 70 || eqb (get_or text 0 0) 80) || eqb (get_or text 0 0) 82)
+pub mode_one : (text : List ℕ) → 1 ≤ length text → length text < 2 → is_mode text ≡ is_known (get_or text 0 0)
 unfolding is_mode
-mode_one [] n h = absurd (n refl)
+mode_one [] n h = absurd (omega arith)
 mode_one (b ∷ []) n h = refl
 mode_one (b ∷ d ∷ more) n h = absurd (omega arith)
-
-module _ (x y z : Bool) where
-  pub or_first : x ≡ true → (x || y || z) ≡ true
-  or_first e = rw e refl
-
-  pub or_second : x ≡ false → y ≡ true → (x || y || z) ≡ true
-  or_second e f = rw (e, f) refl
-
-  pub or_third : x ≡ false → y ≡ false → (x || y || z) ≡ z
-  or_third e f = rw (e, f) refl
 
 -- the checksum
 module _ (line : List ℕ) {star : ℕ} (s : star ≡ star_of line) where
@@ -283,11 +266,6 @@ in_first line end e reading f =
     ap (λ (t : List ℕ). shown (at 0 (reading t)) f) (ap (λ (k : ℕ). take k line) (let z : end ≡ length (word line) = omega arith in z) ∙ until_take 32 9 line)
     ∙ ap (λ (k : ℕ). shown (at k (reading (word line))) f) (place_is line line 0 refl (omega arith))
 
--- a number below a bound
-pub below_held : (bound : ℕ) {r : Whole} {value : ℕ} → r ≡ W.Is value → Below bound r → value < bound
-unfolding Below
-below_held bound is h = rw is at h
-
 abbrev plaining : Reply Fraction → Reply Fraction → Reply When → Bool → Refusal → Reply Spelt
 plaining a b c test why = do
   lat ← a
@@ -356,9 +334,6 @@ module _ (line : List ℕ) where
             (in_word line third when_of) instant_at g).is (eq-eqb (length (past_word third)) 0 h)
 
 -- ---- the request
-pub line_is : (text : List ℕ) (size end : ℕ) → take size text ≡ unended 10 (take (length text) text) → take end text ≡ unended 13 (take size text) → take end text ≡ line_of text
-line_is text size end e f = f ∙ ap (unended 13) (e ∙ ap (unended 10) (take-length text))
-
 module _ (text line : List ℕ) (l : line ≡ line_of text) where
   pub too_long : 255 < length line → refused (refusal 80 0 255) ≡ request_of text
   unfolding request_of spelt_of

@@ -1,29 +1,20 @@
 -- What the request promises, by name. Assumes nothing.
-use Rattle.numbers.{proofs.{Prelude.{ℕ, List, ◌≡◌, refl, sym, ap, subst, ◌∙◌}, Refusals.{Listed}, Replies.{number_of_lem}}, specs.{Reply.{Reply, given, refused}, declared.refusal.Refusal.{Refusal}}}
+use Rattle.numbers.{proofs.{Prelude.{ℕ, List, ◌≡◌, refl, sym, ap, subst, ◌∙◌}, Refusals.{Listed}, Replies.{number_of_lem}}, specs.{Reply.{given}, declared.refusal.Refusal.{Refusal}}}
 use lib.IntN.{+ℤ_idr}
 use Rattle.calendar.specs.Civil.{CivilOf}
 use Rattle.request.proofs.{Meanings.{Civilly, Ranged, spelt_meant}, Nearing.{nearest_to_is_nearest}, Refusing.{five_numbers, request_told}, Replied.{shown_from}, Times.{in_date, in_time}}
-use Rattle.request.specs.{Clock.{Date, Time, utc, instant_at}, Nearest.{Nearest}, Only.{OnlyAt}, Request.{Spelt, spelt_of, meaning, request_of}, Text.{line_of}, Told.{told}}
-use Rattle.request.specs.declared.read.{Asked.{Asked}, Fix.{Fix}}
-use Rattle.request.specs.declared.read.Asked.TheVariants as R
+use Rattle.request.specs.{Clock.{Date, Time, utc, instant_at}, Nearest.{Nearest}, Only.{OnlyAt}, Request.{Spelt, spelt_of, meaning, request_of}, Text.{line_of}}
+use Rattle.request.specs.declared.read.Fix.{Fix}
+use Rattle.std.specs.Prelude.{Result, Ok, Err}
 
 -- ---- same_request
-untold : Reply Fix → Asked
-untold (given fix) = R.Fix fix
-untold (refused why) = R.Refused why
-
-untold_told : (r : Asked) → untold (told r) ≡ r
-unfolding untold
-untold_told (R.Fix fix) = refl
-untold_told (R.Refused why) = refl
-
 -- two replies that the promise of `read_request` permits are equal
-pub same_request : (text : List ℕ) (r s : Asked) → told r ≡ request_of text → told s ≡ request_of text → r ≡ s
-same_request text r s p q = sym (untold_told r) ∙ ap untold (p ∙ sym q) ∙ untold_told s
+pub same_request : (text : List ℕ) (r s : Result Fix Refusal) → r ≡ request_of text → s ≡ request_of text → r ≡ s
+same_request text r s p q = p ∙ sym q
 
 -- ---- request_refusals
 -- a request is refused with 80 to 84 alone
-pub request_refusals : (text : List ℕ) {why : Refusal} → told (R.Refused why) ≡ request_of text → Listed five_numbers why.number
+pub request_refusals : (text : List ℕ) {why : Refusal} → Err why ≡ request_of text → Listed five_numbers why.number
 request_refusals text e = number_of_lem (request_told text) (sym e)
 
 -- ---- request_instant
@@ -35,7 +26,7 @@ only_at date time r = let t = in_time time r.time_is in record {
 }
 
 -- the instant of a fix is the one whose civil reading in UTC is the date and time that the request spells
-pub request_instant : (text : List ℕ) {fix : Fix} {spelt : Spelt} {date : Date} {time : Time} → told (R.Fix fix) ≡ request_of text → given spelt ≡ spelt_of (line_of text)
+pub request_instant : (text : List ℕ) {fix : Fix} {spelt : Spelt} {date : Date} {time : Time} → Ok fix ≡ request_of text → given spelt ≡ spelt_of (line_of text)
     → spelt.when ≡ utc date time → OnlyAt date time fix.instant
 unfolding request_of meaning Civilly
 request_instant text {fix = fix} {spelt = spelt} {date = date} {time = time} e s w = let f = shown_from (spelt_of (line_of text)) meaning e in
@@ -45,7 +36,7 @@ request_instant text {fix = fix} {spelt = spelt} {date = date} {time = time} e s
 
 -- ---- request_nearest
 -- the two floats of a fix are the f32 nearest to the fractions that the request spells, ties to even
-pub request_nearest : (text : List ℕ) {fix : Fix} {spelt : Spelt} → told (R.Fix fix) ≡ request_of text → given spelt ≡ spelt_of (line_of text)
+pub request_nearest : (text : List ℕ) {fix : Fix} {spelt : Spelt} → Ok fix ≡ request_of text → given spelt ≡ spelt_of (line_of text)
     → Nearest spelt.lat fix.lat × Nearest spelt.lon fix.lon
 unfolding request_of meaning
 request_nearest text {fix = fix} {spelt = spelt} e s = let f = shown_from (spelt_of (line_of text)) meaning e in let same : spelt ≡ f.it = cc in

@@ -1,9 +1,9 @@
 -- Dates, times and instants, as the code works them out. Assumes nothing.
-use Rattle.numbers.proofs.Prelude.{ℕ, suc, ◌+◌, ◌-◌, ◌*◌, ◌^◌, ◌≤◌, ◌<◌, sfits_of, ne_eqb, lt-ltb, le-leb, le-ltb, leb-true, lt-leb, ltb, leb, ℤ, pos, negsuc, ◌-ℤ◌, length, mag, Bool, true, false}
+use Rattle.numbers.proofs.Prelude.{ℕ, suc, ◌+◌, ◌-◌, ◌*◌, ◌/◌, ◌^◌, ◌≤◌, ◌<◌, sfits_of, ne_eqb, lt-ltb, ltb-true, le-leb, le-ltb, leb-true, lt-leb, ltb, leb, ℤ, pos, negsuc, ◌-ℤ◌, length, mag, Bool, true, false}
 use Rattle.numbers.proofs.Prelude.{◌&&◌, cond, List, ◌≡◌, refl, sym, ap, subst, ◌∙◌, w64, SFits, to_z, arith}
 use Rattle.numbers.{proofs.Tests.{both}, specs.{Answer.{found, if◌then◌else◌}, Reply.{given, refused, refusal}, declared.refusal.Refusal.{Refusal}}}
 use mir.ValLaws.{to_z_pos}
-use Rattle.calendar.{proofs.{Dates.{number_short}, Laws.{epoch}, Months.{month_more}}, specs.{Calendar.{is_leap, month_length, days_of_months, day_number, IsDate}, Moments.{seconds_to, instant_of}}}
+use Rattle.calendar.{proofs.{Dates.{number_short}, Laws.{epoch}, Months.{month_more, months_closed}}, specs.{Calendar.{is_leap, month_length, days_of_months, day_number, IsDate}, Moments.{seconds_to, instant_of}}}
 use Rattle.calendar.specs.{Rules.{day_of}, declared.rule.When.TheVariants.{Zero}}
 use Rattle.request.specs.Clock.{Date, Time, is_date, is_time, time_of, full_year, date_of, moment_form, moment_date, moment_time, moment_of, signed_of, seconds_of, when_of, second_of, instant_at}
 use Rattle.request.specs.{Number.{spelled, value_of, part_of, has_form, unsigned, is_minus}, Request.{at}, Text.{digits, formed}, Told.{shown, timely, is_month, dated, signed_to}}
@@ -78,6 +78,13 @@ module _ (d : Date) (place : ℕ) where
     pub date_is : d.day ≤ month_length (is_leap d.year) d.month → is_date d ≡ true
     unfolding is_date is_month
     date_is h = simp (e, le-leb d.day (month_length (is_leap d.year) d.month) h)
+
+pub months_few : (leap : Bool) (month : ℕ) → month ≤ 12 → days_of_months leap month ≤ 366
+months_few leap month h = let few = go (ltb month 2) refl leap in omega (arith, months_closed leap month h, few) where
+  go : (t : Bool) → ltb month 2 ≡ t → (leap : Bool) → (367 * month + 5) / 12 - (if t then 0 else if leap then 1 else 2) ≤ 366
+  go true e leap = omega (arith, ltb-true month 2 e, h)
+  go false e true = omega (arith, h)
+  go false e false = omega (arith, h)
 
 -- the month's length as the code has it, and the day's number
 module _ (year month : ℕ) {leap : Bool} {before upto : ℕ} (l : leap ≡ is_leap year) (b : before ≡ days_of_months leap (month - 1)) (u : upto ≡ days_of_months leap month) (from : 1 ≤ month) where

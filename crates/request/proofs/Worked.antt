@@ -2,9 +2,9 @@
 use Rattle.numbers.{proofs.Prelude.{ℕ, binary32, ℤ, pos, List, [], ◌∷◌, map, ◌≡◌, refl}, specs.Reply.{Reply, given, refused}}
 use lib.Ieee.{to_bits, round}
 use Rattle.calendar.specs.{Calendar.{is_leap, year_length, days_of_years, month_length, days_of_months, day_number}, Moments.{seconds_to, instant_of}}
-use Rattle.request.specs.{Clock.{is_date, is_time, time_of, full_year, date_of, moment_of, seconds_of, when_of, instant_at}, Number.{spelled, value_from, part_of, is_tail, has_form, angle_of, side_of}}
-use Rattle.request.specs.{Number.{decimal_of, degrees_of, nearest_to}, Request.{is_sealed, is_address, is_mode, turned, fix_of, fields_of, sentence_of, plain_of, spelt_of, meaning, request_of}}
-use Rattle.request.specs.{Text.{every, formed, count, xors, until, behind, unblanked}, declared.read.Fix.{Fix}}
+use Rattle.request.specs.{Clock.{is_date, is_time, time_of, full_year, date_of, moment_of, seconds_of, when_of, instant_at}, Number.{spelled, value_from, part_of, has_form, angle_of, side_of}}
+use Rattle.request.specs.{Number.{decimal_of, degrees_of, nearest_to}, Request.{is_sealed, is_mode, turned, fix_of, fields_of, sentence_of, plain_of, spelt_of, meaning, request_of}}
+use Rattle.request.specs.{Text.{formed, until, behind, unblanked}, declared.read.Fix.{Fix}}
 
 -- latitude and longitude as bits, and the instant; or number and detail
 pub data Worked : Type 0 where
@@ -73,7 +73,7 @@ worked =
 
 -- the definitions and the document agree on every row
 pub worked_hold : map computed worked ≡ worked
-unfolding worked computed row shown_as every formed count xors until behind unblanked spelled value_from part_of is_tail has_form angle_of side_of decimal_of degrees_of
-    nearest_to is_date is_time time_of full_year date_of moment_of seconds_of when_of instant_at is_sealed is_address is_mode turned fix_of fields_of sentence_of plain_of
+unfolding worked computed row is_time shown_as formed until behind unblanked spelled value_from part_of has_form angle_of side_of decimal_of degrees_of
+    nearest_to is_date time_of full_year date_of moment_of seconds_of when_of instant_at is_sealed is_mode turned fix_of fields_of sentence_of plain_of
     spelt_of meaning request_of is_leap year_length days_of_years month_length days_of_months day_number seconds_to instant_of to_bits round
 worked_hold = refl

@@ -3,6 +3,7 @@ use Rattle.std.specs.Prelude.{◌+◌, ◌-◌, ◌*◌, ◌^◌, ◌&&◌, ◌|
 use Rattle.numbers.specs.Prelude.{ℕ, eqb, leb, Float, binary32, fin, pos, length, take, drop, get_or, Bool, true, false, List, []}
 use Rattle.numbers.specs.Answer.{Answer, found, failed, refused, ◌>>=◌}
 use Rattle.std.specs.Float.Ieee.{round}
+pub use Rattle.request.specs.declared.degrees.Ratio.{Ratio as Size}
 use Rattle.request.specs.Text.{is_digit, digits, formed, until}
 
 -- what bytes spell: nothing where they have not the form, 84 where they have it but are out of range
@@ -27,9 +28,8 @@ unfoldable pub part_of : ℕ → ℕ → List ℕ → ℕ
 part_of from n text = value_of (take n (drop from text))
 
 -- nothing, or a point and one digit to so many
-unfoldable pub is_tail : ℕ → List ℕ → Bool
-is_tail most [] = true
-is_tail most (byte ∷ more) = eqb byte 46 && digits more && leb 1 (length more) && leb (length more) most
+abbrev pub is_tail : ℕ → List ℕ → Bool
+is_tail most text = eqb (length text) 0 || (eqb (get_or text 0 0) 46 && leb 2 (length text) && leb (length text - 1) most && digits (drop 1 text))
 
 -- so many digits, and behind them nothing, or a point and one digit to so many
 unfoldable pub has_form : ℕ → ℕ → List ℕ → Bool
@@ -37,10 +37,6 @@ has_form width most text = leb width (length text) && digits (take width text) &
 
 -- ---- degrees
 -- a size is num / den; with its sign it is a fraction
-pub record Size : Type 0 where
-  pub num : ℕ
-  pub den : ℕ
-
 pub record Fraction : Type 0 where
   pub minus : Bool
   pub size : Size

@@ -28,7 +28,7 @@ body_of line = take (star_of line - 1) (drop 1 line)
 
 -- a hexadecimal digit, of either case
 abbrev pub is_hex : ℕ → ℕ → Bool
-is_hex n byte = if ltb n 10 then eqb byte (48 + n) else (eqb byte (55 + n) || eqb byte (87 + n))
+is_hex n byte = if ltb n 10 then eqb byte (48 + n) else (eqb byte (65 + (n - 10)) || eqb byte (97 + (n - 10)))
 
 -- 1: the last three bytes are `*` and two hexadecimal digits that are the exclusive or of the body; no other `*` stands in the line
 unfoldable pub is_sealed : List ℕ → Bool
@@ -38,16 +38,20 @@ is_sealed line =
     eqb (get_or line star 0) 42 && eqb (count 42 line) 1 && is_hex (sum / 16) (get_or line (star + 1) 0) && is_hex (sum % 16) (get_or line (star + 2) 0)
 
 -- 2: two to eight letters A to Z and digits; two bytes and then RMC
-unfoldable pub is_address : List ℕ → Bool
+abbrev pub is_address : List ℕ → Bool
 is_address text = leb 2 (length text) && leb (length text) 8 && every true text
 
 abbrev pub is_rmc : List ℕ → Bool
 is_rmc text = formed (82 ∷ 77 ∷ 67 ∷ []) (drop 2 text)
 
--- 4: empty, or one of A, D, F, P, R
+-- A, D, F, P, R
+abbrev pub is_known : ℕ → Bool
+is_known byte = eqb byte 65 || eqb byte 68 || eqb byte 70 || eqb byte 80 || eqb byte 82
+
+-- 4: empty, or one of these
 unfoldable pub is_mode : List ℕ → Bool
 is_mode [] = true
-is_mode (byte ∷ []) = (eqb byte 65 || eqb byte 68) || (eqb byte 70 || eqb byte 80) || eqb byte 82
+is_mode (byte ∷ []) = is_known byte
 is_mode (byte ∷ other ∷ more) = false
 
 -- the place of a field in the line, behind the `$`

@@ -1,5 +1,6 @@
 -- Bytes of a line: what they are, and the fields and words that they make.
-use Rattle.std.specs.Prelude.{if◌then◌else◌, ◌+◌, ◌-◌, ◌&&◌, ◌||◌, ◌∷◌}
+use Rattle.std.specs.Prelude.{if◌then◌else◌, ◌+◌, ◌-◌, ◌&&◌, ◌||◌, ◌∷◌, ◌==◌, count_by, fold}
+use Rattle.std.specs.List.{list_all}
 use Rattle.numbers.specs.Prelude.{ℕ, zero, suc, eqb, leb, length, take, drop, get_or, Bool, true, false, List, []}
 use Rattle.std.specs.Int.Bits.{bit_xor}
 
@@ -12,9 +13,8 @@ abbrev pub is_capital : ℕ → Bool
 is_capital byte = leb 65 byte && leb byte 90
 
 -- every byte is a digit, or, where letters are taken, a letter A to Z
-unfoldable pub every : Bool → List ℕ → Bool
-every letters [] = true
-every letters (byte ∷ more) = (is_digit byte || (letters && is_capital byte)) && every letters more
+abbrev pub every : Bool → List ℕ → Bool
+every letters text = list_all (λ byte. is_digit byte || (letters && is_capital byte)) text
 
 abbrev pub digits : List ℕ → Bool
 digits = every false
@@ -27,14 +27,12 @@ formed (mark ∷ form) [] = false
 formed (mark ∷ form) (byte ∷ more) = (if eqb mark 48 then is_digit byte else eqb byte mark) && formed form more
 
 -- how often a byte stands there
-unfoldable pub count : ℕ → List ℕ → ℕ
-count byte [] = 0
-count byte (b ∷ more) = (if eqb b byte then 1 else 0) + count byte more
+abbrev pub count : ℕ → List ℕ → ℕ
+count byte text = count_by (λ b. b == byte) text
 
 -- the exclusive or of all bytes
-unfoldable pub xors : List ℕ → ℕ
-xors [] = 0
-xors (byte ∷ more) = bit_xor byte (xors more)
+abbrev pub xors : List ℕ → ℕ
+xors text = fold (λ sum byte. bit_xor sum byte) 0 text
 
 -- what stands before the first of two bytes; all of it where there is none
 unfoldable pub until : ℕ → ℕ → List ℕ → List ℕ

@@ -1,41 +1,8 @@
 -- What the code's answers say, and what its inner functions say to each other.
 use Rattle.std.specs.Prelude.{if◌then◌else◌, ◌-◌, ◌*◌, ◌/◌, ◌^◌, ◌<◌, ◌&&◌, ◌||◌}
-use Rattle.numbers.specs.{Answer.{Answer, found}, Prelude.{ℕ, eqb, leb, Float, ℤ, Bool}, Reply.{Reply, given, refused, ◌>>=◌}}
-use Rattle.request.specs.{Clock.{Date, Time, is_date, is_time, day_of, second_of, signed_of}, Number.{Size}, Text.{is_digit, is_capital}, declared.clock.{Instant.{Instant}, Whole.{Whole}}}
-use Rattle.request.specs.declared.{degrees.{Degrees.{Degrees}, Sided.{Sided}, Sized.{Sized}}, read.{Asked.{Asked}, Fix.{Fix}}}
+use Rattle.numbers.specs.{Answer.{Answer, found}, Prelude.{ℕ, eqb, leb, ℤ, Bool}, Reply.{Reply, given, ◌>>=◌}}
+use Rattle.request.specs.{Clock.{Date, Time, is_date, is_time, day_of, second_of, signed_of}, Number.{Size}, Text.{is_digit, is_capital}, declared.degrees.Ratio.{Ratio}}
 use Rattle.numbers.specs.Answer as A
-use Rattle.request.specs.declared.degrees.Sized.TheVariants as S
-use Rattle.request.specs.declared.degrees.Sided.TheVariants as T
-use Rattle.request.specs.declared.degrees.Degrees.TheVariants as D
-use Rattle.request.specs.declared.clock.Whole.TheVariants as W
-use Rattle.request.specs.declared.clock.Instant.TheVariants as I
-use Rattle.request.specs.declared.read.Asked.TheVariants as R
-
--- ---- answers
-abbrev pub told_size : Sized → Reply Size
-told_size (S.Is num den) = given (record { num = num; den = den })
-told_size (S.Refused why) = refused why
-
-abbrev pub told_side : Sided → Reply Bool
-told_side (T.Is minus) = given minus
-told_side (T.Refused why) = refused why
-
-abbrev pub told_degrees : Degrees → Reply Float
-told_degrees (D.Are degrees) = given degrees
-told_degrees (D.Refused why) = refused why
-
-abbrev pub told_whole : Whole → Reply ℕ
-told_whole (W.Is value) = given value
-told_whole (W.Refused why) = refused why
-
-abbrev pub told_instant : Instant → Reply ℤ
-told_instant (I.Is instant) = given instant
-told_instant (I.Refused why) = refused why
-
--- the request's answer
-abbrev pub told : Asked → Reply Fix
-told (R.Fix fix) = given fix
-told (R.Refused why) = refused why
 
 -- ---- pieces of the definitions
 -- what is given is shown as something else
@@ -70,11 +37,5 @@ signed_to minus size = if leb size (if minus then 2 ^ 63 else 2 ^ 63 - 1) then f
 
 -- ---- bounds
 -- a size that rounds as it should
-unfoldable pub IsSize : Sized → Type 0
-IsSize (S.Is num den) = (0 < den) × (num / den < 16777216)
-IsSize (S.Refused why) = Unit {0}
-
--- a number below a bound
-unfoldable pub Below : ℕ → Whole → Type 0
-Below bound (W.Is value) = value < bound
-Below bound (W.Refused why) = Unit {0}
+unfoldable pub IsSize : Ratio → Type 0
+IsSize size = (0 < size.den) × (size.num / size.den < 16777216)

@@ -1,30 +1,18 @@
 // Latitudes and longitudes of a request.
-ghost use Rattle.std.specs.Prelude.{◌≡◌, ◌+◌, ◌*◌, ◌^◌, ◌≤◌, ◌<◌, length, get_or, drop};
-ghost use Rattle.request.specs.{Number.{value_from, unsigned, angle_of, side_of, decimal_of, degrees_of, nearest_to}, Request.{at}, Told.{shown, told_size, told_side, told_degrees, limited_to, IsSize}};
+ghost use Rattle.std.specs.Prelude.{◌≡◌, ◌+◌, ◌*◌, ◌^◌, ◌≤◌, ◌<◌, length, get_or, drop, IfOk};
+ghost use Rattle.request.specs.{Number.{value_from, unsigned, angle_of, side_of, decimal_of, degrees_of, nearest_to}, Request.{at}, Told.{shown, limited_to, IsSize}};
 
 use crate::fraction::nearest_to;
 use crate::number::{Digits, has_form, part, value};
 use crate::text::{find, formed};
-use numbers::refusal::{Refusal, refuse};
+use numbers::fault::Fault;
+use numbers::refusal::Refusal;
 
 // A size: num / den.
 #[derive(Clone, Copy)]
-pub enum Sized {
-    Is { num: u64, den: u64 },
-    Refused(Refusal),
-}
-
-// The side of a size: is it the minus side?
-#[derive(Clone, Copy)]
-pub enum Sided {
-    Is(bool),
-    Refused(Refusal),
-}
-
-#[derive(Clone, Copy)]
-pub enum Degrees {
-    Are(f32),
-    Refused(Refusal),
+pub struct Ratio {
+    pub num: u64,
+    pub den: u64,
 }
 
 // The digits from a place on, behind those that made a number; there may be none.
@@ -42,27 +30,27 @@ fn decimals(text: &[u8], from: usize, start: u64) -> Digits
 }
 
 // At most so many degrees.
-fn limited(num: u64, den: u64, limit: u64, place: usize) -> Sized
+fn limited(num: u64, den: u64, limit: u64, place: usize) -> Result<Ratio, Refusal>
     requires { (1 ≤ den) × (den ≤ 60000000000) × (limit ≤ 180) }
-    ensures { (told_size result ≡ at place (limited_to limit num den)) × IsSize result }
+    ensures { (result ≡ at place (limited_to limit num den)) × IfOk result IsSize }
 {
     if limit * den < num {
-        return Sized::Refused(refuse(84, 0, place as u64));
+        return Err(Fault::NoPlace.at(place));
     }
-    Sized::Is { num, den }
+    Ok(Ratio { num, den })
 }
 
 // Degrees of so many digits, minutes of two, and their decimals.
-pub(crate) fn angle(text: &[u8], width: usize, limit: u64, place: usize) -> Sized
+pub(crate) fn angle(text: &[u8], width: usize, limit: u64, place: usize) -> Result<Ratio, Refusal>
     requires { (width ≤ 3) × (limit ≤ 180) }
-    ensures { (told_size result ≡ at place (angle_of width limit text.now)) × IsSize result }
+    ensures { (result ≡ at place (angle_of width limit text.now)) × IfOk result IsSize }
 {
     if !has_form(text, width + 2, 9) {
-        return Sized::Refused(refuse(80, 0, place as u64));
+        return Err(Fault::NotRequest.at(place));
     }
     let minutes = part(text, width, 2);
     if 59 < minutes {
-        return Sized::Refused(refuse(84, 0, place as u64));
+        return Err(Fault::NoPlace.at(place));
     }
     let degrees = part(text, 0, width);
     let behind = decimals(text, width + 3, minutes);
@@ -72,34 +60,34 @@ pub(crate) fn angle(text: &[u8], width: usize, limit: u64, place: usize) -> Size
 }
 
 // The letter of one side or of the other.
-pub(crate) fn side(text: &[u8], plus: u8, minus: u8, place: usize) -> Sided
-    ensures { told_side result ≡ at place (side_of plus minus text.now) }
+pub(crate) fn side(text: &[u8], plus: u8, minus: u8, place: usize) -> Result<bool, Refusal>
+    ensures { result ≡ at place (side_of plus minus text.now) }
 {
     let pluses = [plus];
     if formed(&pluses, text) {
-        return Sided::Is(false);
+        return Ok(false);
     }
     let minuses = [minus];
     if formed(&minuses, text) {
-        return Sided::Is(true);
+        return Ok(true);
     }
-    Sided::Refused(refuse(80, 0, place as u64))
+    Err(Fault::NotRequest.at(place))
 }
 
 // One digit to three, and their decimals.
-fn decimal(text: &[u8], limit: u64, place: usize) -> Sized
+fn decimal(text: &[u8], limit: u64, place: usize) -> Result<Ratio, Refusal>
     requires { limit ≤ 180 }
-    ensures { (told_size result ≡ at place (decimal_of limit text.now)) × IsSize result }
+    ensures { (result ≡ at place (decimal_of limit text.now)) × IfOk result IsSize }
 {
-    let whole = find(text, 0, 46, 46);
+    let whole = find(text, 0, b'.', b'.');
     if whole < 1 {
-        return Sized::Refused(refuse(80, 0, place as u64));
+        return Err(Fault::NotRequest.at(place));
     }
     if 3 < whole {
-        return Sized::Refused(refuse(80, 0, place as u64));
+        return Err(Fault::NotRequest.at(place));
     }
     if !has_form(text, whole, 9) {
-        return Sized::Refused(refuse(80, 0, place as u64));
+        return Err(Fault::NotRequest.at(place));
     }
     let start = part(text, 0, whole);
     let behind = decimals(text, whole + 1, start);
@@ -112,10 +100,7 @@ fn decimal(text: &[u8], limit: u64, place: usize) -> Sized
 pub(crate) fn first(text: &[u8]) -> u8
     ensures { result ≡ get_or text.now 0 0 }
 {
-    if text.len() == 0 {
-        return 0;
-    }
-    text[0]
+    text.first().copied().unwrap_or(0)
 }
 
 // How long its sign is.
@@ -123,25 +108,16 @@ pub(crate) fn sign_size(text: &[u8]) -> usize
     ensures { (drop result text.now ≡ unsigned text.now) × (result ≤ length text.now) }
 {
     let byte = first(text);
-    if byte == 43 {
-        return 1;
-    }
-    if byte == 45 {
-        return 1;
-    }
-    0
+    if byte == b'+' || byte == b'-' { 1 } else { 0 }
 }
 
 // A word of a plain line as degrees.
-pub(crate) fn signed_degrees(text: &[u8], limit: u64, place: usize) -> Degrees
+pub(crate) fn signed_degrees(text: &[u8], limit: u64, place: usize) -> Result<f32, Refusal>
     requires { limit ≤ 180 }
-    ensures { told_degrees result ≡ shown (at place (degrees_of limit text.now)) nearest_to }
+    ensures { result ≡ shown (at place (degrees_of limit text.now)) nearest_to }
 {
     let sign = sign_size(text);
-    let minus = first(text) == 45;
-    let size = decimal(&text[sign..], limit, place);
-    match size {
-        Sized::Is { num, den } => Degrees::Are(nearest_to(minus, num, den)),
-        Sized::Refused(why) => Degrees::Refused(why),
-    }
+    let minus = first(text) == b'-';
+    let size = decimal(&text[sign..], limit, place)?;
+    Ok(nearest_to(minus, size.num, size.den))
 }

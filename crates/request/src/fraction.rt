@@ -39,6 +39,7 @@ fn nearest_fraction(num: u64, den: u64) -> f32
     let mut kept = num / den;
     let mut rest = num % den;
     let mut place: u64 = 149;
+    // Stays a loop: its step doubles.
     while kept < 8388608 {
         let over = den - rest;
         if rest < over {

@@ -15,13 +15,11 @@ pub struct Digits {
 fn digit(byte: u8) -> u64
     ensures { result ≡ digit_of byte }
 {
-    if byte < 48 {
-        return 0;
+    if byte.is_ascii_digit() {
+        u64::from(byte - b'0')
+    } else {
+        0
     }
-    if 57 < byte {
-        return 0;
-    }
-    (byte - 48) as u64
 }
 
 // The number of the digits, behind those that made a number.
@@ -31,11 +29,9 @@ pub(crate) fn value(start: u64, text: &[u8]) -> Digits
 {
     let mut value = start;
     let mut scale: u64 = 1;
-    let mut at: usize = 0;
-    while at < text.len() {
-        value = 10 * value + digit(text[at]);
+    for byte in text {
+        value = 10 * value + digit(*byte);
         scale = 10 * scale;
-        at += 1;
     }
     Digits { value, scale }
 }
@@ -55,19 +51,7 @@ fn is_tail(text: &[u8], most: usize) -> bool
     ensures { result ≡ is_tail most text.now }
 {
     let size = text.len();
-    if size == 0 {
-        return true;
-    }
-    if text[0] != 46 {
-        return false;
-    }
-    if size < 2 {
-        return false;
-    }
-    if most < size - 1 {
-        return false;
-    }
-    every(&text[1..], false)
+    size == 0 || text[0] == b'.' && 2 <= size && size - 1 <= most && every(&text[1..], false)
 }
 
 // So many digits, and behind them nothing, or a point and one digit to so many.
@@ -77,8 +61,5 @@ pub(crate) fn has_form(text: &[u8], width: usize, most: usize) -> bool
     if text.len() < width {
         return false;
     }
-    if !every(&text[..width], false) {
-        return false;
-    }
-    is_tail(&text[width..], most)
+    every(&text[..width], false) && is_tail(&text[width..], most)
 }

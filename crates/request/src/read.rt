@@ -1,12 +1,13 @@
 // A request: what is asked about, or why it is none.
 ghost use Rattle.std.specs.Prelude.{◌≡◌};
-ghost use Rattle.request.specs.{Request.{request_of}, Told.{told}};
+ghost use Rattle.request.specs.{Request.{request_of}};
 
 use crate::degrees::first;
 use crate::plain::plain;
 use crate::sentence::sentence;
 use crate::text::without;
-use numbers::refusal::{Refusal, refuse};
+use numbers::fault::Fault;
+use numbers::refusal::Refusal;
 
 // Degrees, and seconds from 1970.
 #[derive(Clone, Copy)]
@@ -16,23 +17,15 @@ pub struct Fix {
     pub instant: i64,
 }
 
-#[derive(Clone, Copy)]
-pub enum Asked {
-    Fix(Fix),
-    Refused(Refusal),
-}
-
 // The request that a line is, with or without its end.
-pub fn read_request(text: &[u8]) -> Asked
-    ensures { told result ≡ request_of text.now }
+pub fn read_request(text: &[u8]) -> Result<Fix, Refusal>
+    ensures { result ≡ request_of text.now }
 {
-    let size = without(text, text.len(), 10);
-    let end = without(text, size, 13);
-    if 255 < end {
-        return Asked::Refused(refuse(80, 0, 255));
+    let line = without(without(text, b'\n'), b'\r');
+    if 255 < line.len() {
+        return Err(Fault::NotRequest.at(255));
     }
-    let line = &text[..end];
-    if first(line) == 36 {
+    if first(line) == b'$' {
         return sentence(line);
     }
     plain(line)

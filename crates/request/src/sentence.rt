@@ -1,14 +1,15 @@
 // A sentence: RMC of NMEA 0183.
-ghost use Rattle.std.specs.Prelude.{◌≡◌, ◌+◌, ◌≤◌, ◌<◌, length, get_or, drop};
+ghost use Rattle.std.specs.Prelude.{◌≡◌, ◌+◌, ◌≤◌, ◌<◌, length, get_or, drop, IfOk};
 ghost use Rattle.request.specs.{Text.{behind, field, formed}, Number.{nearest_to}, Clock.{time_of, date_of, day_of, second_of}};
-ghost use Rattle.request.specs.{Request.{is_hex, is_sealed, is_address, is_rmc, is_mode, place_of, in_field, turned, fix_of, fields_of, star_of, sentence_of, meaning}, Told.{shown, told_degrees, told_whole, told, Below}};
+ghost use Rattle.request.specs.{Request.{is_hex, is_sealed, is_address, is_rmc, is_known, is_mode, place_of, in_field, turned, fix_of, fields_of, star_of, sentence_of, meaning}, Told.{shown}};
 
-use crate::clock::{Whole, date, instant_of, time};
-use crate::degrees::{Degrees, Sided, Sized, angle, side};
+use crate::clock::{date, instant_of, time};
+use crate::degrees::{angle, side};
 use crate::fraction::nearest_to;
-use crate::read::{Asked, Fix};
-use crate::text::{count, every, find, formed, is_either, xors};
-use numbers::refusal::{plain, refuse};
+use crate::read::Fix;
+use crate::text::{count, every, find, formed, xors};
+use numbers::fault::Fault;
+use numbers::refusal::Refusal;
 
 // A hexadecimal digit, of either case.
 fn is_hex(n: u8, byte: u8) -> bool
@@ -16,12 +17,10 @@ fn is_hex(n: u8, byte: u8) -> bool
     ensures { result ≡ is_hex n byte }
 {
     if n < 10 {
-        return byte == 48 + n;
+        byte == b'0' + n
+    } else {
+        byte == b'A' + (n - 10) || byte == b'a' + (n - 10)
     }
-    if byte == 55 + n {
-        return true;
-    }
-    byte == 87 + n
 }
 
 // The checksum is right, and there is one star.
@@ -33,10 +32,10 @@ fn sealed(line: &[u8]) -> bool
     if star < 1 {
         return false;
     }
-    if line[star] != 42 {
+    if line[star] != b'*' {
         return false;
     }
-    if count(line, 42) != 1 {
+    if count(line, b'*') != 1 {
         return false;
     }
     let sum = xors(&line[1..star]);
@@ -51,165 +50,137 @@ fn field_start(body: &[u8], n: usize) -> usize
     ensures { (drop result body.now ≡ behind n body.now) × (result ≤ length body.now) }
 {
     let mut at: usize = 0;
-    let mut left = n;
-    while 0 < left {
-        let comma = find(body, at, 44, 44);
+    for _ in 0..n {
+        let comma = find(body, at, b',', b',');
         if comma == body.len() {
             return comma;
         }
         at = comma + 1;
-        left -= 1;
     }
     at
 }
 
-// A field is of a form.
-fn field_formed(body: &[u8], n: usize, form: &[u8]) -> bool
-    ensures { result ≡ formed form.now (field n body.now) }
+// A field of a body, and its place in the line, where the body stands behind the `$`.
+#[derive(Clone, Copy)]
+struct Placed<'a> {
+    text: &'a [u8],
+    place: usize,
+}
+
+fn field(body: &[u8], n: usize) -> Placed
+    requires { length body.now < 256 }
+    ensures { (result.text.now ≡ field n body.now) × (result.place ≡ place_of n body.now) }
 {
     let from = field_start(body, n);
-    let to = find(body, from, 44, 44);
-    formed(form, &body[from..to])
+    let to = find(body, from, b',', b',');
+    Placed {
+        text: &body[from..to],
+        place: 1 + from,
+    }
 }
 
 fn is_address(text: &[u8]) -> bool
     ensures { result ≡ is_address text.now }
 {
-    if text.len() < 2 {
-        return false;
-    }
-    if 8 < text.len() {
-        return false;
-    }
-    every(text, true)
+    2 <= text.len() && text.len() <= 8 && every(text, true)
 }
 
 // Two bytes and then RMC.
 fn is_rmc(text: &[u8]) -> bool
     ensures { result ≡ is_rmc text.now }
 {
-    if text.len() < 2 {
-        return false;
-    }
-    formed(b"RMC", &text[2..])
+    2 <= text.len() && formed(b"RMC", &text[2..])
+}
+
+// The modes of a fix that was measured.
+fn is_known(mode: u8) -> bool
+    ensures { result ≡ is_known mode }
+{
+    mode == b'A' || mode == b'D' || mode == b'F' || mode == b'P' || mode == b'R'
 }
 
 fn is_mode(text: &[u8]) -> bool
     ensures { result ≡ is_mode text.now }
 {
-    if text.len() == 0 {
-        return true;
+    match text {
+        [] => true,
+        [byte] => is_known(*byte),
+        _ => false,
     }
-    if 1 < text.len() {
-        return false;
-    }
-    let byte = text[0];
-    if is_either(byte, 65, 68) {
-        return true;
-    }
-    if is_either(byte, 70, 80) {
-        return true;
-    }
-    byte == 82
 }
 
-fn mode_known(body: &[u8]) -> bool
-    ensures { result ≡ is_mode (field 12 body.now) }
-{
-    let from = field_start(body, 12);
-    let to = find(body, from, 44, 44);
-    is_mode(&body[from..to])
-}
-
-fn time_in(body: &[u8]) -> Whole
+fn time_in(body: &[u8]) -> Result<u64, Refusal>
     requires { length body.now < 256 }
-    ensures { (told_whole result ≡ shown (in_field 1 body.now time_of) second_of) × Below 86400 result }
+    ensures { (result ≡ shown (in_field 1 body.now time_of) second_of) × IfOk result (λ n. n < 86400) }
 {
-    let from = field_start(body, 1);
-    let to = find(body, from, 44, 44);
-    time(&body[from..to], 1 + from)
+    let said = field(body, 1);
+    time(said.text, said.place)
 }
 
-fn date_in(body: &[u8]) -> Whole
+fn date_in(body: &[u8]) -> Result<u64, Refusal>
     requires { length body.now < 256 }
-    ensures { (told_whole result ≡ shown (in_field 9 body.now date_of) day_of) × Below 3652059 result }
+    ensures { (result ≡ shown (in_field 9 body.now date_of) day_of) × IfOk result (λ n. n < 3652059) }
 {
-    let from = field_start(body, 9);
-    let to = find(body, from, 44, 44);
-    date(&body[from..to], 1 + from)
+    let said = field(body, 9);
+    date(said.text, said.place)
 }
 
 // A size in one field and its side in the next.
-fn turned_in(body: &[u8], n: usize, width: usize, limit: u64, plus: u8, minus: u8) -> Degrees
+fn turned_in(
+    body: &[u8],
+    n: usize,
+    width: usize,
+    limit: u64,
+    plus: u8,
+    minus: u8,
+) -> Result<f32, Refusal>
     requires { (length body.now < 256) × (n < 10) × (width ≤ 3) × (limit ≤ 180) }
-    ensures { told_degrees result ≡ shown (turned n width limit plus minus body.now) nearest_to }
+    ensures { result ≡ shown (turned n width limit plus minus body.now) nearest_to }
 {
-    let from = field_start(body, n);
-    let to = find(body, from, 44, 44);
-    let size = angle(&body[from..to], width, limit, 1 + from);
-    match size {
-        Sized::Is { num, den } => {
-            let next = field_start(body, n + 1);
-            let end = find(body, next, 44, 44);
-            match side(&body[next..end], plus, minus, 1 + next) {
-                Sided::Is(south) => Degrees::Are(nearest_to(south, num, den)),
-                Sided::Refused(why) => Degrees::Refused(why),
-            }
-        }
-        Sized::Refused(why) => Degrees::Refused(why),
-    }
+    let first = field(body, n);
+    let size = angle(first.text, width, limit, first.place)?;
+    let second = field(body, n + 1);
+    let south = side(second.text, plus, minus, second.place)?;
+    Ok(nearest_to(south, size.num, size.den))
 }
 
 // 5 to 8: time, places and date.
-fn fix(body: &[u8]) -> Asked
+fn fix(body: &[u8]) -> Result<Fix, Refusal>
     requires { length body.now < 256 }
-    ensures { told result ≡ shown (fix_of body.now) meaning }
+    ensures { result ≡ shown (fix_of body.now) meaning }
 {
-    let second = match time_in(body) {
-        Whole::Is(second) => second,
-        Whole::Refused(why) => return Asked::Refused(why),
-    };
-    let lat = match turned_in(body, 3, 2, 90, 78, 83) {
-        Degrees::Are(lat) => lat,
-        Degrees::Refused(why) => return Asked::Refused(why),
-    };
-    let lon = match turned_in(body, 5, 3, 180, 69, 87) {
-        Degrees::Are(lon) => lon,
-        Degrees::Refused(why) => return Asked::Refused(why),
-    };
-    let day = match date_in(body) {
-        Whole::Is(day) => day,
-        Whole::Refused(why) => return Asked::Refused(why),
-    };
+    let second = time_in(body)?;
+    let lat = turned_in(body, 3, 2, 90, b'N', b'S')?;
+    let lon = turned_in(body, 5, 3, 180, b'E', b'W')?;
+    let day = date_in(body)?;
     let instant = instant_of(day, second);
-    Asked::Fix(Fix { lat, lon, instant })
+    Ok(Fix { lat, lon, instant })
 }
 
 // The address, how many fields there are, status and mode; then the fields.
-fn fields(body: &[u8], star: usize) -> Asked
+fn fields(body: &[u8], star: usize) -> Result<Fix, Refusal>
     requires { length body.now < 256 }
-    ensures { told result ≡ shown (fields_of body.now star) meaning }
+    ensures { result ≡ shown (fields_of body.now star) meaning }
 {
-    let end = find(body, 0, 44, 44);
-    let address = &body[..end];
-    if !is_address(address) {
-        return Asked::Refused(refuse(80, 0, 1));
+    let address = field(body, 0);
+    if !is_address(address.text) {
+        return Err(Fault::NotRequest.at(1));
     }
-    if !is_rmc(address) {
-        return Asked::Refused(plain(83));
+    if !is_rmc(address.text) {
+        return Err(Fault::OtherSentence.alone());
     }
-    if count(body, 44) < 9 {
-        return Asked::Refused(refuse(80, 0, star as u64));
+    if count(body, b',') < 9 {
+        return Err(Fault::NotRequest.at(star));
     }
-    if field_formed(body, 2, b"V") {
-        return Asked::Refused(plain(81));
+    let status = field(body, 2);
+    if formed(b"V", status.text) {
+        return Err(Fault::NoFix.alone());
     }
-    if !field_formed(body, 2, b"A") {
-        let place = 1 + field_start(body, 2);
-        return Asked::Refused(refuse(80, 0, place as u64));
+    if !formed(b"A", status.text) {
+        return Err(Fault::NotRequest.at(status.place));
     }
-    if !mode_known(body) {
-        return Asked::Refused(plain(81));
+    if !is_mode(field(body, 12).text) {
+        return Err(Fault::NoFix.alone());
     }
     fix(body)
 }
@@ -218,20 +189,16 @@ fn fields(body: &[u8], star: usize) -> Asked
 fn star_of(line: &[u8]) -> usize
     ensures { result ≡ star_of line.now }
 {
-    let size = line.len();
-    if size < 3 {
-        return 0;
-    }
-    size - 3
+    line.len().saturating_sub(3)
 }
 
-pub(crate) fn sentence(line: &[u8]) -> Asked
+pub(crate) fn sentence(line: &[u8]) -> Result<Fix, Refusal>
     requires { (length line.now < 256) × (get_or line.now 0 0 ≡ 36) }
-    ensures { told result ≡ shown (sentence_of line.now) meaning }
+    ensures { result ≡ shown (sentence_of line.now) meaning }
 {
     let star = star_of(line);
     if !sealed(line) {
-        return Asked::Refused(refuse(82, 0, star as u64));
+        return Err(Fault::BadChecksum.at(star));
     }
     fields(&line[1..star], star)
 }

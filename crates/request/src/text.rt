@@ -1,136 +1,92 @@
 // Bytes of a line.
-ghost use Rattle.std.specs.Prelude.{◌≡◌, ◌+◌, ◌≤◌, ◌||◌, eqb, length, take, drop, if◌then◌else◌};
-ghost use Rattle.request.specs.{Text.{is_digit, every, formed, count, xors, until, unblanked, unended}, Told.{taken, likened}};
-
-fn is_digit(byte: u8) -> bool
-    ensures { result ≡ is_digit byte }
-{
-    if byte < 48 {
-        return false;
-    }
-    byte <= 57
-}
+ghost use Rattle.std.specs.Prelude.{◌≡◌, ◌+◌, ◌≤◌, ◌||◌, eqb, not, position, length, take, drop};
+ghost use Rattle.std.specs.List.{list_all, zip};
+ghost use Rattle.request.specs.{Text.{every, formed, count, xors, until, unblanked, unended}, Told.{taken, likened}};
 
 fn is_taken(byte: u8, letters: bool) -> bool
     ensures { result ≡ taken letters byte }
 {
-    if is_digit(byte) {
-        return true;
-    }
-    if !letters {
-        return false;
-    }
-    if byte < 65 {
-        return false;
-    }
-    byte <= 90
+    byte.is_ascii_digit() || (letters && byte.is_ascii_uppercase())
 }
 
 // Every byte is a digit or, where letters are taken, a letter A to Z.
 pub(crate) fn every(text: &[u8], letters: bool) -> bool
     ensures { result ≡ every letters text.now }
 {
-    let mut at: usize = 0;
-    while at < text.len() {
-        let byte = text[at];
-        if !is_taken(byte, letters) {
-            return false;
-        }
-        at += 1;
-    }
-    true
+    text.iter().all(|byte| is_taken(*byte, letters))
 }
 
 // A byte as a form has it.
 fn likened(mark: u8, byte: u8) -> bool
     ensures { result ≡ likened mark byte }
 {
-    if mark == 48 {
-        return is_digit(byte);
+    if mark == b'0' {
+        byte.is_ascii_digit()
+    } else {
+        byte == mark
     }
-    byte == mark
+}
+
+// Each byte is as its form's, one beside the other.
+fn all_likened(form: &[u8], text: &[u8]) -> bool
+    ensures { result ≡ list_all (λ pair. likened pair.0 pair.1) (zip form.now text.now) }
+{
+    form.iter()
+        .zip(text)
+        .all(|(mark, byte)| likened(*mark, *byte))
 }
 
 // The bytes are those of a form, in which a 0 stands for any digit.
 pub(crate) fn formed(form: &[u8], text: &[u8]) -> bool
     ensures { result ≡ formed form.now text.now }
 {
-    if text.len() != form.len() {
-        return false;
-    }
-    let mut at: usize = 0;
-    while at < text.len() {
-        let mark = form[at];
-        let byte = text[at];
-        if !likened(mark, byte) {
-            return false;
-        }
-        at += 1;
-    }
-    true
-}
-
-// 1 where two bytes are the same, else 0.
-fn same(a: u8, b: u8) -> usize
-    ensures { result ≡ (if eqb a b then 1 else 0) }
-{
-    if a == b {
-        return 1;
-    }
-    0
+    text.len() == form.len() && all_likened(form, text)
 }
 
 // How often a byte stands there.
 pub(crate) fn count(text: &[u8], byte: u8) -> usize
     ensures { result ≡ count byte text.now }
 {
-    let mut sum: usize = 0;
-    let mut at = text.len();
-    while 0 < at {
-        at -= 1;
-        let more = same(text[at], byte);
-        sum += more;
-    }
-    sum
+    text.iter().filter(|b| **b == byte).count()
 }
 
 // The exclusive or of all bytes.
 pub(crate) fn xors(text: &[u8]) -> u8
     ensures { result ≡ xors text.now }
 {
-    let mut sum: u8 = 0;
-    let mut at = text.len();
-    while 0 < at {
-        at -= 1;
-        sum = text[at] ^ sum;
-    }
-    sum
+    text.iter().fold(0, |sum, byte| sum ^ *byte)
 }
 
-// One of two bytes.
-pub(crate) fn is_either(byte: u8, a: u8, b: u8) -> bool
-    ensures { result ≡ (eqb byte a || eqb byte b) }
+// A space or a tab.
+fn is_blank(byte: u8) -> bool
+    ensures { result ≡ (eqb byte 32 || eqb byte 9) }
 {
-    if byte == a {
-        return true;
-    }
-    byte == b
+    byte == b' ' || byte == b'\t'
 }
 
-// The place of the first of two bytes, from a place on, or the end.
+// The place of the first of two bytes.
+fn first_of(text: &[u8], a: u8, b: u8) -> Option<usize>
+    ensures { result ≡ position (λ byte. eqb byte a || eqb byte b) text.now }
+{
+    text.iter().position(|byte| *byte == a || *byte == b)
+}
+
+// The same from a place on, or the end: callers cut there, so it stays a place.
 pub(crate) fn find(text: &[u8], from: usize, a: u8, b: u8) -> usize
     requires { from ≤ length text.now }
     ensures { (result ≡ from + length (until a b (drop from text.now))) × (result ≤ length text.now) }
 {
-    let mut at = from;
-    while at < text.len() {
-        let byte = text[at];
-        if is_either(byte, a, b) {
-            return at;
-        }
-        at += 1;
+    match first_of(&text[from..], a, b) {
+        Some(at) => from + at,
+        None => text.len(),
     }
-    at
+}
+
+// The place of the first byte that is no blank.
+fn first_mark(text: &[u8]) -> Option<usize>
+    ensures { result ≡ position (λ byte. not (eqb byte 32 || eqb byte 9)) text.now }
+{
+    text.iter().position(|byte| !is_blank(*byte))
 }
 
 // Behind the blanks at a place.
@@ -138,28 +94,18 @@ pub(crate) fn skip(text: &[u8], from: usize) -> usize
     requires { from ≤ length text.now }
     ensures { (drop result text.now ≡ unblanked (drop from text.now)) × (result ≤ length text.now) }
 {
-    let mut at = from;
-    while at < text.len() {
-        let byte = text[at];
-        if !is_either(byte, 32, 9) {
-            return at;
-        }
-        at += 1;
+    match first_mark(&text[from..]) {
+        Some(at) => from + at,
+        None => text.len(),
     }
-    at
 }
 
-// How many of the first bytes there are without one that may be the last of them.
-pub(crate) fn without(text: &[u8], size: usize, byte: u8) -> usize
-    requires { size ≤ length text.now }
-    ensures { (take result text.now ≡ unended byte (take size text.now)) × (result ≤ length text.now) }
+// The bytes without one, where it is the last of them.
+pub(crate) fn without(text: &[u8], byte: u8) -> &[u8]
+    ensures { result.now ≡ unended byte text.now }
 {
-    if size == 0 {
-        return 0;
+    match text.strip_suffix(&[byte]) {
+        Some(rest) => rest,
+        None => text,
     }
-    let less = size - 1;
-    if text[less] == byte {
-        return less;
-    }
-    size
 }

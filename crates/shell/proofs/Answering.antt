@@ -5,8 +5,7 @@ use Rattle.numbers.{proofs.Replies.{given_one}, specs.{Lists.{zeros, padded}, Re
 use Rattle.line.{proofs.{Decimals.{decimal_short}, Puts.{put_front, put_length}}, specs.Put.{Put, decimal}}
 use Rattle.shell.proofs.Saying.{words_short}
 use Rattle.shell.specs.{Answer.{hit_words, text_room, line_room, slip_for, reason_line, line_for, fault_for, Rooms, Answers}, Text.{bytes}, Words.{words_of}}
-use Rattle.slip.{proofs.Length.{slip_length}, specs.{Slip.{Slip, slip_of, Replied, replied, replied_of, slipped}, Told.{told}, declared.slip.{Slipped.{Slipped}, Stamped.{Stamped}}}}
-use Rattle.slip.specs.declared.slip.Slipped.TheVariants as S
+use Rattle.slip.{proofs.Length.{slip_length}, specs.{Slip.{Slip, slip_of, Replied, replied, replied_of, slipped}, declared.slip.Stamped.{Stamped}}}
 
 -- ---- a reason
 said_short : length (bytes "not stamped:") ≤ 12
@@ -84,10 +83,10 @@ unfolding replied_of
 by_refused n room size why (given slip) e r = let said = sym r ∙ ap (λ (x : Replied). x.reply) e in let z : ◌≡◌ {A = ℕ} 0 1 = cc in absurd (omega arith)
 by_refused n room size why (refused other) e r = let said = sym r ∙ ap (λ (x : Replied). x.reply) e in let same : why ≡ other = cc in ap refused same
 
-pub slip_refused : (request map zones : List ℕ) {n room size : ℕ} {answer : Slipped} {hits text out : List ℕ} {why : Refusal} → n ≡ hit_words → room ≡ text_room
-    → size ≡ line_room → answer ≡ S.Refused why → replied (told answer) hits text out ≡ slipped request map [] zones n room size → refused why ≡ slip_for request map zones
+pub slip_refused : (request map zones : List ℕ) {n room size : ℕ} {answer : Reply Stamped} {hits text out : List ℕ} {why : Refusal} → n ≡ hit_words → room ≡ text_room
+    → size ≡ line_room → answer ≡ refused why → replied answer hits text out ≡ slipped request map [] zones n room size → refused why ≡ slip_for request map zones
 unfolding slipped
-slip_refused request map zones {n} {room} {size} {why = why} en er es is e = by_refused n room size why _ e (ap told is) ∙ in_rooms request map zones en er es
+slip_refused request map zones {n} {room} {size} {why = why} en er es is e = by_refused n room size why _ e is ∙ in_rooms request map zones en er es
 
 pub answers_as : {reply reply' : Reply (List ℕ)} {hits text out : List ℕ} {answered : _} → reply ≡ reply' → Answers reply hits text out answered → Answers reply' hits text out answered
 answers_as {hits = hits} {text = text} {out = out} {answered = answered} e a = subst (λ (r : Reply (List ℕ)). Answers r hits text out answered) e a
@@ -112,10 +111,10 @@ by_given n room size stamped (given slip) e r law =
     }
 by_given n room size stamped (refused why) e r law = let said = sym r ∙ ap (λ (x : Replied). x.reply) e in let z : ◌≡◌ {A = ℕ} 0 1 = cc in absurd (omega arith)
 
-pub stood : (request map zones : List ℕ) (n room size : ℕ) {answer : Slipped} {hits text out : List ℕ} {stamped : Stamped} → answer ≡ S.Stamped stamped
-    → replied (told answer) hits text out ≡ slipped request map [] zones n room size → Stood (slip_of request map [] zones n room size) size stamped out
+pub stood : (request map zones : List ℕ) (n room size : ℕ) {answer : Reply Stamped} {hits text out : List ℕ} {stamped : Stamped} → answer ≡ given stamped
+    → replied answer hits text out ≡ slipped request map [] zones n room size → Stood (slip_of request map [] zones n room size) size stamped out
 unfolding slipped
-stood request map zones n room size {stamped = stamped} is e = by_given n room size stamped _ e (ap told is) (λ slip given. slip_length request map [] zones n room size given)
+stood request map zones n room size {stamped = stamped} is e = by_given n room size stamped _ e is (λ slip given. slip_length request map [] zones n room size given)
 
 -- it is no longer than its room
 pub stood_fits : {s : Reply Slip} {size : ℕ} {stamped : Stamped} {out : List ℕ} → Stood s size stamped out → length out ≡ size → stamped.length ≤ size

@@ -49,7 +49,7 @@ left_pieces (byte ∷ a) b line = left_pieces_if line b a byte (eqb byte 10) (le
 pub took_none : (chunk : List ℕ) (from : ℕ) (line : List ℕ) → Took chunk from line [] from line
 took_none chunk from line = record { requests = refl; rest = refl }
 
-pub took_end : {chunk line l : List ℕ} {from at : ℕ} → Took chunk from line [] at l → at < length chunk → get_or chunk at 0 ≡ 10 → Took chunk from line (done_of 1 l) (at + 1) (rest_of 1 l)
+pub took_end : {chunk line l : List ℕ} {from at : ℕ} → Took chunk from line [] at l → at < length chunk → get_or chunk at 0 ≡ 10 → Took chunk from line (done_of true l) (at + 1) (rest_of true l)
 unfolding done_of rest_of
 took_end {chunk} {line} {l} {from} {at} t h e =
     record {
@@ -72,7 +72,7 @@ took_then {chunk} {line} {l} {m} {from} {at} {next} xs ys p q =
       rest = p.rest ∙ q.rest;
     }
 
-pub took_plain : {chunk line l : List ℕ} {from at : ℕ} → Took chunk from line [] at l → Took chunk from line (done_of 0 l) at (rest_of 0 l)
+pub took_plain : {chunk line l : List ℕ} {from at : ℕ} → Took chunk from line [] at l → Took chunk from line (done_of false l) at (rest_of false l)
 unfolding done_of rest_of
 took_plain t = t
 

@@ -1,6 +1,6 @@
 -- What a turn takes from a piece of the input, and what it writes.
 use Rattle.std.specs.Prelude.{◌+◌, ◌≤◌, ◌<◌, ◌∷◌, ◌++◌, ◌≡◌}
-use Rattle.numbers.specs.Prelude.{ℕ, zero, suc, length, take, drop, List, []}
+use Rattle.numbers.specs.Prelude.{ℕ, Bool, true, false, length, take, drop, List, []}
 use Rattle.shell.specs.{Answer.{Rooms, line_room}, Kept.{most, ended, left}, Written.{lines_of, worst}, declared.{gather.Step.{Step}, turn.Turn.{Turn}}}
 
 -- from a piece, a place in it and a line so far: the requests that ended, the next place, and the line so far there
@@ -9,13 +9,13 @@ pub record Took (chunk : List ℕ) (from : ℕ) (line : List ℕ) (done : List (
   pub rest : left line (drop from chunk) ≡ left line' (drop next chunk)
 
 -- a line that has ended is a request, and the next begins empty
-unfoldable pub done_of : ℕ → List ℕ → List (List ℕ)
-done_of zero line = []
-done_of (suc n) line = line ∷ []
+unfoldable pub done_of : Bool → List ℕ → List (List ℕ)
+done_of false line = []
+done_of true line = line ∷ []
 
-unfoldable pub rest_of : ℕ → List ℕ → List ℕ
-rest_of zero line = line
-rest_of (suc n) line = []
+unfoldable pub rest_of : Bool → List ℕ → List ℕ
+rest_of false line = line
+rest_of true line = []
 
 pub record Gathered (chunk : List ℕ) (from : ℕ) (line space : List ℕ) (step : Step) : Type 0 where
   pub within : step.next ≤ length chunk

@@ -7,9 +7,9 @@ ghost use Rattle.numbers.specs.Reply.{refused};
 use crate::words::put_words;
 use line::put::{put, put_all, put_number};
 use numbers::refusal::Refusal;
-use slip::slip::{Slipped, slip};
+use slip::slip::slip;
 
-// How many bytes to write, and 1 where the request is not stamped.
+// How many bytes to write, and 1 where the request is not stamped: a number, since `status_of` and its theorems take the greatest.
 #[derive(Clone, Copy)]
 pub struct Answered {
     pub size: usize,
@@ -54,8 +54,8 @@ pub(crate) fn answer(
 {
     let atlas = [0u32; 0];
     let stamped = match slip(request, map, &atlas, zones, hits, text, &mut out[..4096]) {
-        Slipped::Stamped(stamped) => stamped,
-        Slipped::Refused(why) => return refuse(hits, text, out, why),
+        Ok(stamped) => stamped,
+        Err(why) => return refuse(hits, text, out, why),
     };
     let length = stamped.length;
     out[length] = b'\n';

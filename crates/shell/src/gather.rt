@@ -2,12 +2,12 @@
 ghost use Rattle.std.specs.Prelude.{◌≡◌, ◌≤◌, length, take};
 ghost use Rattle.shell.specs.{Kept.{most}, Turn.{Gathered}};
 
-// The place behind the bytes that were taken, how many bytes the line has, and 1 where it has ended.
+// The place behind the bytes that were taken, how many bytes the line has, and whether it has ended.
 #[derive(Clone, Copy)]
 pub struct Step {
     pub next: usize,
     pub used: usize,
-    pub ended: u64,
+    pub ended: bool,
 }
 
 // Takes a piece's bytes from a place on, up to a line end or the piece's end. Of a line of more than 258 bytes its front is kept.
@@ -24,7 +24,7 @@ pub(crate) fn gather(chunk: &[u8], from: usize, line: &mut [u8], used: usize) ->
             return Step {
                 next: at,
                 used: size,
-                ended: 1,
+                ended: true,
             };
         }
         if size < 258 {
@@ -35,6 +35,6 @@ pub(crate) fn gather(chunk: &[u8], from: usize, line: &mut [u8], used: usize) ->
     Step {
         next: at,
         used: size,
-        ended: 0,
+        ended: false,
     }
 }

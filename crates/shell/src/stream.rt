@@ -25,12 +25,6 @@ pub enum Broken {
     Endless,
 }
 
-fn worse(a: u64, b: u64) -> u64
-    ensures { result ≡ max a b }
-{
-    if a < b { b } else { a }
-}
-
 // Writes some lines, whole.
 fn put_lines<W: Write>(writer: &mut W, lines: &[u8]) -> Result<(), Broken>
     ensures { OnOk result (Appends (W.contents writer.old) (W.contents writer.new) lines.now) }
@@ -71,7 +65,7 @@ fn piece<W: Write>(
         let turned = take_turn(chunk, at, line, size, map, zones, hits, text, out);
         let length = turned.size;
         put_lines(writer, &out[..length])?;
-        worst = worse(worst, turned.fault);
+        worst = worst.max(turned.fault);
         size = turned.used;
         at = turned.next;
     }
@@ -105,7 +99,7 @@ fn finish<W: Write>(
     let answered = answer(request, map, zones, hits, text, out);
     let length = answered.size;
     put_lines(writer, &out[..length])?;
-    Ok(worse(status, answered.fault))
+    Ok(status.max(answered.fault))
 }
 
 // A proved loop has to end, and nothing says that an input does: so the pieces are counted up to a number that no run comes to.

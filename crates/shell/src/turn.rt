@@ -31,19 +31,19 @@ pub(crate) fn take_turn(
 {
     let step = gather(chunk, from, line, used);
     let size = step.used;
-    if step.ended == 0 {
+    if step.ended {
+        let answered = answer(&line[..size], map, zones, hits, text, out);
         return Turn {
             next: step.next,
-            used: size,
-            size: 0,
-            fault: 0,
+            used: 0,
+            size: answered.size,
+            fault: answered.fault,
         };
     }
-    let answered = answer(&line[..size], map, zones, hits, text, out);
     Turn {
         next: step.next,
-        used: 0,
-        size: answered.size,
-        fault: answered.fault,
+        used: size,
+        size: 0,
+        fault: 0,
     }
 }

@@ -18,7 +18,6 @@ digit_counts n = ap (λ (t : Bool). if t then digit n - 48 else 0) (digit_is n) 
 
 -- of two texts one behind the other
 digits_append : (xs ys : List ℕ) → digits xs ≡ true → digits ys ≡ true → digits (xs ++ ys) ≡ true
-unfolding every
 digits_append [] ys h k = k
 digits_append (x ∷ xs) ys h k = let b = both (is_digit x || false) (digits xs) h in
     ap (λ (t : Bool). t && digits (xs ++ ys)) b.0 ∙ digits_append xs ys b.1 k
@@ -34,7 +33,6 @@ unfolding value_from
 value_next xs n = value_append 0 xs (digit n ∷ []) ∙ ap (λ (d : ℕ). 10 * value_of xs + d) (digit_counts n)
 
 two_are_digits : (n : ℕ) → digits (two_digits n) ≡ true
-unfolding every
 two_are_digits n = rw (digit_is (n / 10), digit_is n) refl
 
 two_value : (n : ℕ) → n < 100 → value_of (two_digits n) ≡ n
@@ -50,7 +48,7 @@ four_value n h =
 
 -- ---- a number in decimal
 decimal_digits : (k n : ℕ) → digits (decimal_of k n) ≡ true
-unfolding decimal_of every
+unfolding decimal_of
 decimal_digits zero n = rw (digit_is n) refl
 decimal_digits (suc k) n = go (ltb n 10) (decimal_digits k (n / 10)) where
   one : digits (digit n ∷ []) ≡ true
@@ -106,7 +104,7 @@ hours_back hours h = go (ltb hours 100) refl where
 
 -- ---- up to a byte that is no digit
 until_digits : (a b : ℕ) (xs ys : List ℕ) → is_digit a ≡ false → is_digit b ≡ false → digits xs ≡ true → until a b (xs ++ ys) ≡ xs ++ until a b ys
-unfolding until every
+unfolding until
 until_digits a b [] ys na nb h = refl
 until_digits a b (x ∷ xs) ys na nb h = let p = both (is_digit x || false) (digits xs) h in let digit-x : is_digit x ≡ true = plain (is_digit x) p.0 in
     let other : (c : ℕ) → is_digit c ≡ false → eqb x c ≡ false = λ c n. ne_eqb x c (λ e. differ (sym n ∙ ap is_digit (sym e) ∙ digit-x)) in

@@ -1,69 +1,66 @@
 -- What a match says, by how far the code came: its file, the local time in it, the clock. Assumes nothing.
 use Rattle.numbers.proofs.Prelude.{ℕ, ◌+◌, ◌≤◌, eq-eqb, ne_eqb, ℤ, length, List, ◌≡◌, refl, sym, ap, subst, ◌∙◌, arith}
-use Rattle.numbers.{proofs.Replies.{carried, onward}, specs.{Reply.{given, refused, refusal, plain, ◌>>=◌}, declared.refusal.Refusal.{Refusal}}}
+use Rattle.numbers.{proofs.Replies.{carried, onward, passed_on}, specs.{Reply.{Reply, given, refused, refusal, plain, ◌>>=◌}, declared.refusal.Refusal.{Refusal}}}
 use Rattle.bundle.{proofs.Theorems.{found_inside}, specs.{Bundle.{find_of}, declared.find.File.{File}}}
-use Rattle.calendar.{proofs.CivilAt.{is_civil_at}, specs.{Civil.{civil_at, CivilOf}, declared.civil.{Civil.{Civil}, Reading.{Reading}}}}
+use Rattle.calendar.{proofs.CivilAt.{is_civil_at}, specs.{Civil.{civil_at, CivilOf}, declared.civil.Reading.{Reading}}}
 use Rattle.header.specs.declared.header.Head.{Head}
-use Rattle.localtime.specs.{Local.{answer_at, scale_at, told_said, HeldSaid}, declared.local.Said.{Said}}
-use Rattle.slip.specs.{Hour.{name_of, plainly, known, local_in, shown, hour_in, blamed, of_match, hour_of}, Told.{name_in, hour_at, told_local, HeldTold, told_clock, told_hour, StandsHour}}
-use Rattle.slip.specs.declared.hour.{Hourly.{Hourly}, Spot.{Spot}, Told.{Told}}
+use Rattle.localtime.specs.Local.{answer_at, scale_at, HeldSaid}
+use Rattle.slip.specs.{Hour.{name_of, plainly, known, local_in, shown, hour_in, blamed, of_match, hour_of}, Told.{name_in, hour_at, Stands}, declared.hour.Spot.{Spot}}
+use Rattle.std.specs.Prelude.{Option, Some, None, Result, ok_or, IfOk, IsErrAnd}
 use Rattle.table.specs.declared.hits.Hit.{Hit}
-use Rattle.tzif.specs.{Header.{rfc9636}, Text.{slice}, declared.local.Found.{Found}}
+use Rattle.tzif.specs.{Header.{rfc9636}, Local.{Held}, Text.{slice}, declared.local.Found.{Found}}
 use Rattle.zones.specs.{Simple.{LiesParts}, declared.simple.Parts.{Parts}}
-use Rattle.calendar.specs.declared.civil.Civil.TheVariants as C
-use Rattle.localtime.specs.declared.local.Said.TheVariants as S
-use Rattle.slip.specs.declared.hour.Hourly.TheVariants as H
-use Rattle.slip.specs.declared.hour.Told.TheVariants as T
-use Rattle.slip.specs.declared.hour.Clock.TheVariants as K
+use Rattle.request.specs.Told as T
 use Rattle.tzif.specs.Reply as R
 use Rattle.tzif.specs.declared.refusal.Refusal as Q
 
+-- what holds of a refusal holds where `?` hands it on
+pub as_passed : {A : Type 0} (P : Reply A → Type 0) (r : Reply A) {why : Refusal} → IsErrAnd r (λ e. e ≡ why) → P (refused why) → P r
+as_passed P r h p = subst P (sym (passed_on r h)) p
+
 -- ---- the local time in a file
 module _ (file : List ℕ) (instant : ℤ) {kind : ℕ} (on : kind ≡ (scale_at file instant).kind) where
-  abbrev Told-by : Told → Type 0
-  Told-by told = (told_local told ≡ local_in file instant) × HeldTold (length file) told
+  abbrev pub Local : Reply Found → Type 0
+  Local reply = (reply ≡ local_in file instant) × IfOk reply (Held (length file))
 
-  pub leaps : {why : Refusal} → kind ≡ 2 → why ≡ plain 91 → Told-by (T.Refused why)
-  unfolding local_in HeldTold
-  leaps k w = (ap refused w ∙ rw (eq-eqb (scale_at file instant).kind 2 (sym on ∙ k)) refl, tt)
+  pub leaps : {reply : Reply Found} → kind ≡ 2 → reply ≡ refused (plain 91) → Local reply
+  unfolding local_in
+  leaps k w = subst Local (sym w) (rw (eq-eqb (scale_at file instant).kind 2 (sym on ∙ k)) refl, tt)
 
-  module _ (other : kind ≡ 2 → ⊥) (said : Said) (e : told_said said ≡ answer_at rfc9636 file instant) (held : HeldSaid (length file) said) where
-    goes : (plainly (told_said said) >>= known) ≡ local_in file instant
+  module _ (other : kind ≡ 2 → ⊥) (said : R.Reply (Option Found)) (e : said ≡ answer_at rfc9636 file instant) (held : HeldSaid (length file) said) where
+    goes : (plainly said >>= known) ≡ local_in file instant
     unfolding local_in
-    goes = ap (λ (r : R.Reply _). plainly r >>= known) e ∙ rw (ne_eqb (scale_at file instant).kind 2 (λ k. other (on ∙ k))) refl
+    goes = ap (λ (r : R.Reply (Option Found)). plainly r >>= known) e ∙ rw (ne_eqb (scale_at file instant).kind 2 (λ k. other (on ∙ k))) refl
 
-    pub is_known : {found : Found} → said ≡ S.Found found → Told-by (T.Found found)
-    unfolding plainly known told_said HeldTold HeldSaid
-    is_known is = (ap (λ (s : Said). plainly (told_said s) >>= known) (sym is) ∙ goes, subst (λ (s : Said). HeldSaid (length file) s) is held)
+    abbrev Held-so : Reply (Option Found) → Type 0
+    Held-so reply = IfOk (reply >>= known) (Held (length file))
 
-    pub not_known : {why : Refusal} → said ≡ S.Unknown → why ≡ plain 90 → Told-by (T.Refused why)
-    unfolding plainly known told_said HeldTold
-    not_known is w = (ap refused w ∙ ap (λ (s : Said). plainly (told_said s) >>= known) (sym is) ∙ goes, tt)
+    held_so : (said : R.Reply (Option Found)) → HeldSaid (length file) said → Held-so (plainly said)
+    held_so (R.given (Some found)) h = h
+    held_so (R.given None) h = tt
+    held_so (R.refused why) h = tt
 
-    pub not_told : {why : Refusal} {own : Q.Refusal} → said ≡ S.Refused own → why ≡ refusal own.number 0 own.detail → Told-by (T.Refused why)
-    unfolding plainly known told_said HeldTold
-    not_told is w = (ap refused w ∙ ap (λ (s : Said). plainly (told_said s) >>= known) (sym is) ∙ goes, tt)
+    pub is_known : {answer : Option Found} {reply : Reply Found} → given answer ≡ plainly said → reply ≡ known answer → Local reply
+    is_known a w = subst Local (sym w) (onward a known ∙ goes, subst Held-so (sym a) (held_so said held))
+
+    pub not_told : {why : Refusal} → refused why ≡ plainly said → Local (refused why)
+    not_told a = (carried a known ∙ goes, tt)
 
 -- ---- the clock
-module _ (instant offset : ℤ) {a b : ℤ} (p : a ≡ instant) (q : b ≡ offset) (civil : Civil) (c : CivilOf a b civil) where
+module _ (instant offset : ℤ) {a b : ℤ} (p : a ≡ instant) (q : b ≡ offset) (civil : Option Reading) (c : CivilOf a b civil) where
   is : civil ≡ civil_at instant offset
   is = is_civil_at instant offset civil (subst (λ (z : ℤ). CivilOf z offset civil) p (subst (λ (z : ℤ). CivilOf a z civil) q c))
 
-  pub is_shown : {reading : Reading} → civil ≡ C.Shown reading → told_clock (K.Shown reading) ≡ shown (civil_at instant offset)
-  unfolding shown
-  is_shown e = ap shown (sym e ∙ is)
-
-  pub not_shown : {why : Refusal} → civil ≡ C.Outside → why ≡ plain 61 → told_clock (K.Refused why) ≡ shown (civil_at instant offset)
-  unfolding shown
-  not_shown e w = ap refused w ∙ ap shown (sym e ∙ is)
+  pub is_shown : shown civil ≡ shown (civil_at instant offset)
+  is_shown = ap shown is
 
 -- ---- the match
 module _ (map zones : List ℕ) (instant : ℤ) (name : Parts) (lies : LiesParts (length map) name) where
-  abbrev Hour-by : Hourly → Type 0
-  Hour-by hourly = (told_hour map zones hourly ≡ hour_in zones instant (name_in map name)) × StandsHour (length map) (length zones) hourly
+  abbrev pub Hour-by : Reply Spot → Type 0
+  Hour-by reply = (T.shown reply (hour_at map zones) ≡ hour_in zones instant (name_in map name)) × IfOk reply (Stands (length map) (length zones))
 
-  pub not_found : {why : Refusal} → refused why ≡ find_of zones (name_in map name) → Hour-by (H.Refused why)
-  unfolding hour_in StandsHour
+  pub not_found : {why : Refusal} → refused why ≡ find_of zones (name_in map name) → Hour-by (refused why)
+  unfolding hour_in
   not_found e = (carried e _, tt)
 
   module _ {file : File} (e : given file ≡ find_of zones (name_in map name)) where
@@ -73,18 +70,18 @@ module _ (map zones : List ℕ) (instant : ℤ) (name : Parts) (lies : LiesParts
     abbrev own : List ℕ
     own = slice zones file.start file.length
 
-    pub no_local : {why : Refusal} → refused why ≡ local_in own instant → Hour-by (H.Refused why)
-    unfolding hour_in StandsHour
+    pub no_local : {why : Refusal} → refused why ≡ local_in own instant → Hour-by (refused why)
+    unfolding hour_in
     no_local l = (carried l _ ∙ onward e _, tt)
 
     module _ {found : Found} (l : given found ≡ local_in own instant) where
-      pub no_clock : {why : Refusal} → refused why ≡ shown (civil_at instant found.offset) → Hour-by (H.Refused why)
-      unfolding hour_in StandsHour
+      pub no_clock : {why : Refusal} → refused why ≡ shown (civil_at instant found.offset) → Hour-by (refused why)
+      unfolding hour_in
       no_clock k = (carried k _ ∙ onward l _ ∙ onward e _, tt)
 
       pub the_hour : {reading : Reading} {offset : ℤ} → given reading ≡ shown (civil_at instant found.offset) → found.place + found.length ≤ file.length → offset ≡ found.offset
-          → Hour-by (H.Hour (record { name = name; place = file.start + found.place; size = found.length; offset = offset; reading = reading }))
-      unfolding hour_in StandsHour
+          → Hour-by (given (record { name = name; place = file.start + found.place; size = found.length; offset = offset; reading = reading }))
+      unfolding hour_in
       the_hour {reading} k h o = (
         ap (λ (z : ℤ). given (hour_at map zones (record { name = name; place = file.start + found.place; size = found.length; offset = z; reading = reading }))) o
             ∙ onward k _ ∙ onward l _ ∙ onward e _,
@@ -93,23 +90,19 @@ module _ (map zones : List ℕ) (instant : ℤ) (name : Parts) (lies : LiesParts
 
 -- ---- with its number
 module _ (map : List ℕ) (head : Head) (zones : List ℕ) (instant : ℤ) (number : ℕ) (hit : Hit) where
-  abbrev Of : Hourly → Type 0
-  Of hourly = (told_hour map zones hourly ≡ hour_of map head zones instant number hit) × StandsHour (length map) (length zones) hourly
+  abbrev pub Of : Reply Spot → Type 0
+  Of reply = (T.shown reply (hour_at map zones) ≡ hour_of map head zones instant number hit) × IfOk reply (Stands (length map) (length zones))
 
-  pub no_name : {why : Refusal} → refused why ≡ name_of map head hit.metadata → Of (H.Refused why)
-  unfolding hour_of StandsHour
+  pub no_name : {why : Refusal} → refused why ≡ name_of map head hit.metadata → Of (refused why)
+  unfolding hour_of
   no_name e = (carried e _, tt)
 
-  module _ {name : List ℕ} (e : given name ≡ name_of map head hit.metadata) (hourly : Hourly) (h : told_hour map zones hourly ≡ hour_in zones instant name)
-      (stands : StandsHour (length map) (length zones) hourly) where
-    numbered : of_match number (told_hour map zones hourly) ≡ hour_of map head zones instant number hit
+  module _ {name : List ℕ} (e : given name ≡ name_of map head hit.metadata) where
+    numbered : (reply : Reply Spot) → T.shown reply (hour_at map zones) ≡ hour_in zones instant name → of_match number (T.shown reply (hour_at map zones)) ≡ hour_of map head zones instant number hit
     unfolding hour_of
-    numbered = ap (of_match number) h ∙ onward e _
+    numbered reply h = ap (of_match number) h ∙ onward e _
 
-    pub of_hour : {spot : Spot} → hourly ≡ H.Hour spot → Of (H.Hour spot)
-    unfolding of_match
-    of_hour is = (ap (λ (x : Hourly). of_match number (told_hour map zones x)) (sym is) ∙ numbered, subst (λ (x : Hourly). StandsHour (length map) (length zones) x) is stands)
-
-    pub of_fault : {why blame : Refusal} → hourly ≡ H.Refused why → blame ≡ blamed number why → Of (H.Refused blame)
-    unfolding of_match StandsHour
-    of_fault is b = (ap refused b ∙ ap (λ (x : Hourly). of_match number (told_hour map zones x)) (sym is) ∙ numbered, tt)
+    pub of_reply : (reply : Reply Spot) → T.shown reply (hour_at map zones) ≡ hour_in zones instant name → IfOk reply (Stands (length map) (length zones))
+        → {r : Reply Spot} → r ≡ of_match number reply → Of r
+    of_reply (given spot) h stands w = subst Of (sym w) (numbered (given spot) h, stands)
+    of_reply (refused why) h stands w = subst Of (sym w) (numbered (refused why) h, tt)

@@ -4,20 +4,19 @@ use Rattle.numbers.proofs.{Replies.{given_from, given_one, demanded}, Tests.{bot
 use Rattle.numbers.specs.{Answer.{if◌then◌else◌}, Lists.{padded}, Reply.{Reply, given, refused, refusal, plain, demand, ◌>>=◌, ◌>>◌}}
 use Rattle.atlas.specs.Beside.{zones_beside}
 use Rattle.bundle.{proofs.Theorems.{found_first, entry_bytes}, specs.{Bundle.{find_of}, declared.find.File.{File}}}
-use Rattle.calendar.{proofs.CivilAt.{civil_at_is}, specs.{Civil.{civil_at, Shows, CivilOf}, declared.civil.{Civil.{Civil}, Reading.{Reading}}}}
+use Rattle.calendar.{proofs.CivilAt.{civil_at_is}, specs.{Civil.{civil_at, Shows, CivilOf}, declared.civil.Reading.{Reading}}}
 use Rattle.header.specs.{Header.{head_of}, declared.header.Head.{Head}}
 use Rattle.line.specs.Put.{far}
-use Rattle.localtime.{proofs.Offsets.{offset_fits}, specs.{Local.{rules_in, answer_by, answer_at, scale_in, scale_or, scale_by, scale_at}, declared.{rule.Rules.{Rules}, scale.Scale.{Scale}}}}
+use Rattle.localtime.{proofs.Offsets.{offset_fits}, specs.{Local.{rules_in, answer_by, answer_at, scale_in, scale_or, scale_by, scale_at}, declared.scale.Scale.{Scale}}}
 use Rattle.request.specs.{Request.{request_of}, declared.read.Fix.{Fix}}
+use Rattle.std.specs.Prelude.{Option, Some, None}
 use Rattle.slip.proofs.Zones.{same_match}
 use Rattle.slip.specs.{Hour.{Hour, name_of, plainly, known, local_in, shown, hour_in, hour_of, hours_from}, Line.{line_of}, Says.{Meant, Says, EachSays}}
 use Rattle.slip.specs.{Slip.{Slip, place_of, on_globe, have_offset, agreed, fitted, slip_at, slip_of, Replied, replied, replied_of, slipped_at, slipped}, declared.slip.Stamped.{Stamped}}
 use Rattle.table.specs.{Hits.{words}, declared.hits.Hit.{Hit}}
-use Rattle.tzif.specs.{Header.{rfc9636}, Number.{lift}, Text.{slice}, Zone.{read_zone_by}, declared.{local.{Answer.{Answer}, Found.{Found}}, zone.Zone.{Zone}}}
+use Rattle.tzif.specs.{Header.{rfc9636}, Number.{lift}, Text.{slice}, Zone.{read_zone_by}, declared.{local.Found.{Found}, zone.Zone.{Zone}}}
 use Rattle.verdict.{proofs.Compared.{same_eq}, specs.Edge.{same_z}}
 use Rattle.zones.specs.{Lent.{Outcome}, declared.lookup.Zones.{Zones}}
-use Rattle.calendar.specs.declared.civil.Civil.TheVariants as C
-use Rattle.tzif.specs.declared.local.Answer.TheVariants as A
 use Rattle.tzif.specs.Reply as Z
 
 abbrev unix_scale : Scale
@@ -113,19 +112,17 @@ pub record Hourly (map : List ℕ) (head : Head) (zones : List ℕ) (instant : �
   pub fits : SFits w32 hour.offset
   pub short : length hour.name ≤ 40
 
-was_shown : (instant offset : ℤ) (civil : Civil) {reading : Reading} → CivilOf instant offset civil → given reading ≡ shown civil → Shows (instant +ℤ offset) reading
-unfolding CivilOf shown
-was_shown instant offset (C.Shown r) c e = subst (λ (x : Reading). Shows (instant +ℤ offset) x) (sym (given_one e)) c
-was_shown instant offset C.Outside c e = let z : ◌≡◌ {A = ℕ} 0 1 = cc in absurd (omega arith)
+was_shown : (instant offset : ℤ) (civil : Option Reading) {reading : Reading} → CivilOf instant offset civil → given reading ≡ shown civil → Shows (instant +ℤ offset) reading
+unfolding CivilOf
+was_shown instant offset (Some r) c e = subst (λ (x : Reading). Shows (instant +ℤ offset) x) (sym (given_one e)) c
+was_shown instant offset None c e = let z : ◌≡◌ {A = ℕ} 0 1 = cc in absurd (omega arith)
 
 -- its offset fits 32 bits
-found_known : (answer : Answer) {found : Found} → given found ≡ known answer → A.Found found ≡ answer
-unfolding known
-found_known (A.Found found) e = ap A.Found (given_one e)
-found_known A.Unknown e = let z : ◌≡◌ {A = ℕ} 0 1 = cc in absurd (omega arith)
+found_known : (answer : Option Found) {found : Found} → given found ≡ known answer → Some found ≡ answer
+found_known (Some found) e = ap Some (given_one e)
+found_known None e = let z : ◌≡◌ {A = ℕ} 0 1 = cc in absurd (omega arith)
 
-said_plainly : (reply : Z.Reply Answer) {answer : Answer} → given answer ≡ plainly reply → Z.given answer ≡ reply
-unfolding plainly
+said_plainly : (reply : Z.Reply (Option Found)) {answer : Option Found} → given answer ≡ plainly reply → Z.given answer ≡ reply
 said_plainly (Z.given a) e = ap Z.given (given_one e)
 said_plainly (Z.refused why) e = let z : ◌≡◌ {A = ℕ} 0 1 = cc in absurd (omega arith)
 
@@ -141,11 +138,11 @@ unix_kind : (none : Bool) (correction : ℕ) → not (eqb (if none then unix_sca
 unix_kind true correction e = refl
 unix_kind false correction e = let z : ◌≡◌ {A = ℕ} 0 1 = cc in absurd (omega arith)
 
-scale_there : (zone : Z.Reply Zone) (rules : Zone → Z.Reply Rules) (next : Zone → Rules → Z.Reply Answer) (scale : Zone → Scale) {answer : Answer}
+scale_there : {Rules : Type 0} (zone : Z.Reply Zone) (rules : Zone → Z.Reply Rules) (next : Zone → Rules → Z.Reply (Option Found)) (scale : Zone → Scale) {answer : Option Found}
     → Z.given answer ≡ Z.◌>>=◌ zone (λ z. Z.◌>>=◌ (rules z) (next z)) → (z : Zone) × (scale_or (Z.◌>>=◌ zone (λ z. Z.◌>>=◌ (rules z) (λ r. Z.given (scale z)))) ≡ scale z)
 unfolding scale_or Z.◌>>=◌
-scale_there (Z.given z) rules next scale {answer} e = (z, by_rules (rules z) (next z) e) where
-  by_rules : (rs : Z.Reply Rules) (onto : Rules → Z.Reply Answer) → Z.given answer ≡ Z.◌>>=◌ rs onto → scale_or (Z.◌>>=◌ rs (λ r. Z.given (scale z))) ≡ scale z
+scale_there {Rules} (Z.given z) rules next scale {answer} e = (z, by_rules (rules z) (next z) e) where
+  by_rules : (rs : Z.Reply Rules) (onto : Rules → Z.Reply (Option Found)) → Z.given answer ≡ Z.◌>>=◌ rs onto → scale_or (Z.◌>>=◌ rs (λ r. Z.given (scale z))) ≡ scale z
   by_rules (Z.given r) onto e = refl
   by_rules (Z.refused why) onto e = let z : ◌≡◌ {A = ℕ} 0 1 = cc in absurd (omega arith)
 scale_there (Z.refused why) rules next scale e = let z : ◌≡◌ {A = ℕ} 0 1 = cc in absurd (omega arith)

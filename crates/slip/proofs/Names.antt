@@ -1,38 +1,34 @@
 -- Names of zones: by the map's type, and byte by byte. Assumes nothing.
 use Rattle.numbers.proofs.Prelude.{ℕ, ◌+◌, ◌-◌, ◌≤◌, ◌<◌, eq-eqb, ne_eqb, length, take, drop, get_or, length-append, length-drop, List·getD-append, List·getD-eq-default, length-take-le, get_or-take}
-use Rattle.numbers.{proofs.Prelude.{get_or-drop, get_or-append-add, List, ◌≡◌, refl, sym, ap, subst, ◌∙◌, arith}, specs.{Reply.{Reply, refused, plain, ◌>>=◌}, declared.refusal.Refusal.{Refusal}}}
+use Rattle.numbers.{proofs.Prelude.{get_or-drop, get_or-append-add, List, ◌≡◌, refl, sym, ap, subst, ◌∙◌, arith}, specs.{Reply.{Reply, given, refused, plain, ◌>>=◌}, declared.refusal.Refusal.{Refusal}}}
 use lib.Bits.{bit_xor}
 use Rattle.header.{proofs.Buffers.{map_at}, specs.{Text.{bytes_of}, Utf8.{unmasked}, declared.{header.Head.{Head}, text.Text.{Text}}}}
-use Rattle.slip.specs.{Hour.{named, name_of}, Told.{name_in, told_zone, LiesZone}, declared.name.Zone.{Zone}}
-use Rattle.zones.{proofs.simple.Joining.{bytes_length}, specs.{Simple.{description_at, told_named, LiesParts, LiesNamed}, declared.simple.{Named.{Named}, Parts.{Parts}}}}
-use Rattle.slip.specs.declared.name.Zone.TheVariants as Z
-use Rattle.zones.specs.declared.simple.Named.TheVariants as N
+use Rattle.request.specs.Told.{shown}
+use Rattle.std.specs.Prelude.{Option, Some, None, ok_or, IfOk}
+use Rattle.slip.specs.{Hour.{named, name_of}, Told.{name_in}}
+use Rattle.zones.{proofs.simple.Joining.{bytes_length}, specs.{Simple.{description_at, told_named, LiesParts, LiesNamed}, declared.simple.Parts.{Parts}}}
 
 -- ---- the zone of a match, by how far the code came
 module _ (file : List ℕ) (head : Head) (metadata : ℕ) where
-  abbrev Told : Zone → Type 0
-  Told zone = (told_zone file zone ≡ name_of file head metadata) × LiesZone (length file) zone
+  abbrev pub Named : Reply Parts → Type 0
+  Named reply = (shown reply (name_in file) ≡ name_of file head metadata) × IfOk reply (LiesParts (length file))
 
-  pub not_times : {why : Refusal} → (head.preamble.kind ≡ 0x54 → ⊥) → why ≡ plain 87 → Told (Z.Refused why)
-  unfolding name_of LiesZone
-  not_times n e = (ap refused e ∙ rw (ne_eqb head.preamble.kind 0x54 n) refl, tt)
+  pub not_times : {reply : Reply Parts} → (head.preamble.kind ≡ 0x54 → ⊥) → reply ≡ refused (plain 87) → Named reply
+  unfolding name_of
+  not_times n e = subst Named (sym e) (rw (ne_eqb head.preamble.kind 0x54 n) refl, tt)
 
-  module _ (kind : head.preamble.kind ≡ 0x54) (result : Named) (e : told_named file result ≡ description_at file head metadata) (lies : LiesNamed (length file) result) where
+  module _ (kind : head.preamble.kind ≡ 0x54) (result : Reply (Option Parts)) (e : told_named file result ≡ description_at file head metadata) (lies : LiesNamed (length file) result) where
     onward : (told_named file result >>= named) ≡ name_of file head metadata
     unfolding name_of
     onward = ap (λ (r : Reply _). r >>= named) e ∙ rw (eq-eqb head.preamble.kind 0x54 kind) refl
 
-    pub is_named : {parts : Parts} → result ≡ N.Name parts → Told (Z.Name parts)
-    unfolding named LiesZone LiesNamed
-    is_named {parts} is = (ap (λ (r : Named). told_named file r >>= named) (sym is) ∙ onward, subst (λ (r : Named). LiesNamed (length file) r) is lies)
+    pub is_named : (answer : Option Parts) → result ≡ given answer → {reply : Reply Parts} → reply ≡ ok_or answer (plain 87) → Named reply
+    unfolding LiesNamed
+    is_named (Some parts) is w = subst Named (sym w) (ap (λ (r : Reply (Option Parts)). told_named file r >>= named) (sym is) ∙ onward, subst (LiesNamed (length file)) is lies)
+    is_named None is w = subst Named (sym w) (ap (λ (r : Reply (Option Parts)). told_named file r >>= named) (sym is) ∙ onward, tt)
 
-    pub not_named : {why : Refusal} → result ≡ N.Missing → why ≡ plain 87 → Told (Z.Refused why)
-    unfolding named LiesZone
-    not_named is w = (ap refused w ∙ ap (λ (r : Named). told_named file r >>= named) (sym is) ∙ onward, tt)
-
-    pub not_read : {why : Refusal} → result ≡ N.Refused why → Told (Z.Refused why)
-    unfolding named LiesZone
-    not_read is = (ap (λ (r : Named). told_named file r >>= named) (sym is) ∙ onward, tt)
+    pub not_read : {why : Refusal} {reply : Reply Parts} → result ≡ refused why → reply ≡ refused why → Named reply
+    not_read is w = subst Named (sym w) (ap (λ (r : Reply (Option Parts)). told_named file r >>= named) (sym is) ∙ onward, tt)
 
 -- ---- its bytes
 module _ (file : List ℕ) (text : Text) (inside : text.start + text.size ≤ length file) where

@@ -2,10 +2,10 @@
 use Rattle.numbers.proofs.Prelude.{ℕ, ◌+◌, min, le-leb, leb-true, eqb, leb, ℤ, length, Bool, true, false, ◌&&◌, ◌||◌, not, List, [], ◌∷◌, ◌++◌, ◌≡◌, refl, sym, ap, subst, ◌∙◌, arith}
 use Rattle.numbers.proofs.{Refusals.{Listed, listed_so}, Replies.{NumberedReply, answers, refuses, then_reply, then_with, and_then, demands}, Tests.{both, differ}}
 use Rattle.numbers.specs.{Reply.{Reply, given, refused, refusal, plain, ◌>>=◌}, declared.refusal.Refusal.{Refusal}}
-use mathlib.Core.Option.{Option, none, some}
+use Rattle.std.specs.Prelude.{Option, Some, None}
 use Rattle.atlas.{proofs.{BesideIsPlain.{zones_beside_is_plain}, NumberedAtlas.{zones_beside_refusals}}, specs.Beside.{NoneOrAtlas, zones_beside}}
 use Rattle.bundle.{proofs.Theorems.{found_refusals}, specs.Bundle.{find_of}}
-use Rattle.calendar.specs.{Civil.{civil_at}, declared.civil.Civil.{Civil}}
+use Rattle.calendar.specs.{Civil.{civil_at}, declared.civil.Reading.{Reading}}
 use Rattle.header.{proofs.StrictHead.{head_strict}, specs.{Header.{head_of}, declared.header.Head.{Head}}}
 use Rattle.line.specs.Put.{far}
 use Rattle.localtime.{proofs.Numbered.{footer_numbers, local_time_refusals}, specs.Local.{scale_at, answer_at, local_time_by}}
@@ -13,10 +13,8 @@ use Rattle.request.{proofs.Refusing.{five_numbers, request_told}, specs.declared
 use Rattle.slip.specs.{Hour.{Hour, named, name_of, plainly, known, local_in, shown, hour_in, blamed, of_match, hour_of, hours_from}, Line.{line_of}, Says.{from, is_at_number, is_slip_number}}
 use Rattle.slip.specs.Slip.{place_of, on_globe, have_offset, agreed, fitted, slip_at, slip_of}
 use Rattle.table.specs.declared.{hits.Hit.{Hit}, location.Location.{Location}}
-use Rattle.tzif.specs.{Header.{rfc9636}, Local.{lent}, Text.{slice}, declared.local.Answer.{Answer}}
+use Rattle.tzif.specs.{Header.{rfc9636}, Local.{lent}, Text.{slice}, declared.local.Found.{Found}}
 use Rattle.zones.{proofs.NumberedLookup.{lookup_numbers, Known, described_at, lookup_refusals}, specs.{Lookup.{zones_with, zones_in, looked_up}, declared.lookup.Zones.{Zones}}}
-use Rattle.calendar.specs.declared.civil.Civil.TheVariants as C
-use Rattle.tzif.specs.declared.local.Answer.TheVariants as A
 use Rattle.tzif.specs.Reply as Z
 use Rattle.zones.specs.Lent as L
 
@@ -57,30 +55,30 @@ module _ (map : List ℕ) (place : Location) (n room : ℕ) where
       ∙ ap (λ x. (L.replied_of n room x).reply) (sym e))))
 
 name_told : (map : List ℕ) (head : Head) (metadata : ℕ) → head_of map ≡ given head → Told (name_of map head metadata)
-unfolding name_of is_at_number named
+unfolding name_of is_at_number
 name_told map head metadata o =
     and_then (demands (eqb head.preamble.kind 0x54) (plain 87) refl)
     (then_reply (wider (λ n h. lookup_mine n (subst (λ (s : Bool). Known s n) (head_strict false map o) h)) (described_at map head metadata)) named_told) where
       named_told : (name : Option (List ℕ)) → Told (named name)
-      named_told none = refuses refl
-      named_told (some name) = answers
+      named_told None = refuses refl
+      named_told (Some name) = answers
 
 local_told : (file : List ℕ) (instant : ℤ) → Told (local_in file instant)
-unfolding local_in is_at_number plainly local_time_by lent known
+unfolding local_in is_at_number local_time_by lent
 local_told file instant =
     and_then (demands (not (eqb (scale_at file instant).kind 2)) (plain 91) refl) (then_reply (go (answer_at rfc9636 file instant) refl) known_told) where
-      go : (reply : Z.Reply Answer) → answer_at rfc9636 file instant ≡ reply → Told (plainly reply)
+      go : (reply : Z.Reply (Option Found)) → answer_at rfc9636 file instant ≡ reply → Told (plainly reply)
       go (Z.given a) e = answers
-      go (Z.refused why) e = refuses (listed_so is_at_number footer_numbers why.number refl (local_time_refusals file instant 0 why (ap (λ (x : Z.Reply Answer). (lent file 0 x).reply) e)))
+      go (Z.refused why) e = refuses (listed_so is_at_number footer_numbers why.number refl (local_time_refusals file instant 0 why (ap (λ (x : Z.Reply (Option Found)). (lent file 0 x).reply) e)))
 
-      known_told : (answer : Answer) → Told (known answer)
-      known_told (A.Found found) = answers
-      known_told A.Unknown = refuses refl
+      known_told : (answer : Option Found) → Told (known answer)
+      known_told (Some found) = answers
+      known_told None = refuses refl
 
-shown_told : (civil : Civil) → Told (shown civil)
-unfolding shown is_at_number
-shown_told (C.Shown reading) = answers
-shown_told C.Outside = refuses refl
+shown_told : (civil : Option Reading) → Told (shown civil)
+unfolding is_at_number
+shown_told (Some reading) = answers
+shown_told None = refuses refl
 
 hour_told : (zones : List ℕ) (instant : ℤ) (name : List ℕ) → Told (hour_in zones instant name)
 unfolding hour_in is_at_number
@@ -89,7 +87,6 @@ hour_told zones instant name =
     (λ file. then_reply (local_told (slice zones file.start file.length) instant) (λ found. then_reply (shown_told (civil_at instant found.offset)) (λ reading. answers)))
 
 match_told : {A : Type 0} (number : ℕ) {reply : Reply A} → Told reply → Told (of_match number reply)
-unfolding of_match blamed
 match_told number answers = answers
 match_told number (refuses h) = refuses h
 

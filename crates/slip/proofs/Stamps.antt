@@ -7,8 +7,9 @@ use Rattle.header.specs.{Header.{head_of}, declared.header.Head.{Head}}
 use Rattle.line.{proofs.Puts.{put_size, put_whole}, specs.Put.{far}}
 use Rattle.request.specs.{Request.{request_of}, declared.read.Fix.{Fix}}
 use Rattle.slip.specs.{Hour.{Hour, hour_of, hours_from}, Line.{line_of}, Slip.{Slip, place_of, on_globe, have_offset, agreed, fitted, slip_at, slip_of, replied, replied_of, slipped_at, slipped}}
-use Rattle.slip.specs.{Told.{hour_at, Seen, Inked, Ink, ink_of, slip_with, Wrote, Filled}, declared.{hours.All.{All}, slip.Stamped.{Stamped}}}
+use Rattle.slip.specs.{Told.{hour_at, Seen, Inked, Ink, ink_of, slip_with, Wrote, Filled, zeroed_unless}, declared.{hours.All.{All}, slip.Stamped.{Stamped}}}
 use Rattle.table.{proofs.Agreeing.{agree_given, agree_refused, gave, refused_so}, specs.{Hits.{slots}, declared.hits.Hit.{Hit}, inner.Agreeing.{Agrees}}}
+use Rattle.std.specs.Result.{is_err}
 use Rattle.zones.{proofs.Lent.{Lent}, specs.{Lent.{Outcome}, declared.lookup.Zones.{Zones}}}
 
 -- an hour for each match
@@ -25,7 +26,7 @@ module _ (fix : Fix) (map : List ℕ) (head : Head) (zones : List ℕ) (size : �
   abbrev hours : Reply (List Hour)
   hours = hours_from map head zones fix.instant 1 matches
 
-  abbrev Says : List ℕ → Reply Stamped → Type 0
+  abbrev pub Says : List ℕ → Reply Stamped → Type 0
   Says out reply = Agrees (Wrote size out) (ink_of fix map head zones size matches) reply
 
   pub no_match : {why : Refusal} (out : List ℕ) → matches ≡ [] → why ≡ plain 86 → Says out (refused why)
@@ -82,7 +83,7 @@ abbrev slip_from : Outcome Zones → Ink → Reply Slip
 slip_from outcome ink = given (record { stamped = ink.stamped; line = ink.line; matches = outcome.matches; text = outcome.text })
 
 module _ (fix : Fix) (map : List ℕ) (head : Head) (atlas zones : List ℕ) (n room size : ℕ) where
-  abbrev With : List ℕ → List ℕ → List ℕ → Reply Stamped → Type 0
+  abbrev pub With : List ℕ → List ℕ → List ℕ → Reply Stamped → Type 0
   With hits text out reply = Agrees (Filled n room size hits text out) (slip_with fix map head atlas zones n room size) reply
 
   pub not_looked : {why : Refusal} (hits text out : List ℕ) → refused why ≡ zones_beside map head atlas (place_of fix) false n room → With hits text out (refused why)
@@ -129,7 +130,7 @@ module _ (fix : Fix) (map : List ℕ) (head : Head) (atlas zones : List ℕ) (n 
 
 -- ---- all of it
 module _ (fix : Fix) (map atlas zones : List ℕ) (n room size : ℕ) where
-  abbrev At : List ℕ → List ℕ → List ℕ → Reply Stamped → Type 0
+  abbrev pub At : List ℕ → List ℕ → List ℕ → Reply Stamped → Type 0
   At hits text out reply = Agrees (Filled n room size hits text out) (slip_at fix map atlas zones n room size) reply
 
   pub not_placed : {why : Refusal} (hits text out : List ℕ) → on_globe fix ≡ false → why ≡ plain 84 → At hits text out (refused why)
@@ -154,13 +155,12 @@ module _ (whole : ℕ → ℕ → ℕ → Reply Slip) (reply : Reply Stamped) (h
       subst (λ (k : ℕ). Agrees (Filled n room k hs ts os) (whole n room k) reply) o (subst (λ (k : ℕ). Agrees (Filled n k size' hs ts os) (whole n k size') reply) t
       (subst (λ (k : ℕ). Agrees (Filled k room' size' hs ts os) (whole k room' size') reply) h agrees))
 
-  pub given_reply : {stamped : Stamped} → reply ≡ given stamped → replied (given stamped) hs ts os ≡ replied_of n room size (whole n room size)
-  given_reply e = let g = gave (Filled n room size hs ts os) (whole n room size) settled e in g.fits ∙ ap (replied_of n room size) g.is
-
-  pub refused_reply : {why : Refusal} {hs' ts' os' : List ℕ} → reply ≡ refused why → hs' ≡ zeros n → ts' ≡ zeros room → os' ≡ zeros size
-      → replied (refused why) hs' ts' os' ≡ replied_of n room size (whole n room size)
+  pub reply_so : length hs ≡ n → length ts ≡ room → length os ≡ size → zeroed_unless reply hs ts os ≡ replied_of n room size (whole n room size)
   unfolding replied_of
-  refused_reply {why} e zh zt zo = (λ i. replied (refused why) (zh i) (zt i) (zo i)) ∙ ap (replied_of n room size) (refused_so (Filled n room size hs ts os) (whole n room size) settled e)
+  reply_so l m k = go reply refl where
+    go : (r : Reply Stamped) → reply ≡ r → zeroed_unless r hs ts os ≡ replied_of n room size (whole n room size)
+    go (given stamped) e = let g = gave (Filled n room size hs ts os) (whole n room size) settled e in g.fits ∙ ap (replied_of n room size) g.is
+    go (refused why) e = (λ i. replied (refused why) (zeros (l i)) (zeros (m i)) (zeros (k i))) ∙ ap (replied_of n room size) (refused_so (Filled n room size hs ts os) (whole n room size) settled e)
 
 -- a request that is none, and what one means
 module _ (request map atlas zones : List ℕ) (n room size : ℕ) where
@@ -172,3 +172,14 @@ module _ (request map atlas zones : List ℕ) (n room size : ℕ) where
   pub asked_so : {fix : Fix} → given fix ≡ request_of request → slipped_at fix map atlas zones n room size ≡ slipped request map atlas zones n room size
   unfolding slipped slip_of slipped_at
   asked_so e = ap (replied_of n room size) (onward e _)
+
+-- what was lent, zero where the answer is a refusal
+module _ (hs ts os : List ℕ) where
+  pub zeroed : (answer : Reply Stamped) {hs' ts' os' : List ℕ} → is_err answer ≡ true → hs' ≡ zeros (length hs) → ts' ≡ zeros (length ts) → os' ≡ zeros (length os)
+      → replied answer hs' ts' os' ≡ zeroed_unless answer hs ts os
+  zeroed (given stamped) e h t o = let z : ◌≡◌ {A = ℕ} 0 1 = cc in absurd (omega arith)
+  zeroed (refused why) e h t o = λ i. replied (refused why) (h i) (t i) (o i)
+
+  pub kept : (answer : Reply Stamped) → is_err answer ≡ false → replied answer hs ts os ≡ zeroed_unless answer hs ts os
+  kept (given stamped) e = refl
+  kept (refused why) e = let z : ◌≡◌ {A = ℕ} 0 1 = cc in absurd (omega arith)

@@ -11,35 +11,26 @@ use Rattle.slip.proofs.Numbered.{slip_at_told, slip_at_beside_told, slip_told, s
 use Rattle.slip.proofs.Shortness.{Named, names_short, clock_short, zones_all}
 use Rattle.slip.specs.{Hour.{Hour}, Line.{clock_text, is_among, between, zone_text, added, zones_from, line_of}, ReadBack.{read_back}}
 use Rattle.slip.specs.Says.{Meant, Whole, AllSay, Agreed, Clocked, Short, is_at_number, is_slip_number, zones_most}
-use Rattle.slip.specs.{Slip.{Slip, place_of, on_globe, slip_at, slip_of, Replied, replied, replied_of, slipped_at, slipped}, Told.{told}, declared.slip.{Slipped.{Slipped}, Stamped.{Stamped}}}
+use Rattle.slip.specs.{Slip.{Slip, place_of, on_globe, slip_at, slip_of, Replied, replied, replied_of, slipped_at, slipped}, declared.slip.Stamped.{Stamped}}
+use Rattle.std.specs.Prelude.{Result}
 use Rattle.table.specs.{Hits.{words}, declared.hits.Hit.{Hit}}
 use Rattle.zones.{proofs.WholeMeansWhole.{whole_means_whole}, specs.{Lookup.{zones_in, looked_up}, declared.lookup.Zones.{Zones}}}
-use Rattle.slip.specs.declared.slip.Slipped.TheVariants as S
 use Rattle.zones.specs.Lent as L
 
 -- ---- one slip
-back : Reply Stamped → Slipped
-back (given stamped) = S.Stamped stamped
-back (refused why) = S.Refused why
-
-again : (r : Slipped) → back (told r) ≡ r
-unfolding back
-again (S.Stamped stamped) = refl
-again (S.Refused why) = refl
-
-one_reply : (whole : Replied) (r r' : Slipped) (hs hs' ts ts' os os' : List ℕ) → replied (told r) hs ts os ≡ whole → replied (told r') hs' ts' os' ≡ whole
+one_reply : (whole : Replied) (r r' : Result Stamped Refusal) (hs hs' ts ts' os os' : List ℕ) → replied r hs ts os ≡ whole → replied r' hs' ts' os' ≡ whole
     → (r ≡ r') × (hs ≡ hs') × (ts ≡ ts') × (os ≡ os')
 one_reply whole r r' hs hs' ts ts' os os' e e' = let same = e ∙ sym e' in
-    (sym (again r) ∙ ap (λ (x : Replied). back x.reply) same ∙ again r', ap (λ (x : Replied). x.hits) same, ap (λ (x : Replied). x.text) same, ap (λ (x : Replied). x.out) same)
+    (ap (λ (x : Replied). x.reply) same, ap (λ (x : Replied). x.hits) same, ap (λ (x : Replied). x.text) same, ap (λ (x : Replied). x.out) same)
 
 -- Two replies that the promise permits are one, with all lent output.
-pub one_slip_at : (fix : Fix) (map atlas zones : List ℕ) (n room size : ℕ) (r r' : Slipped) (hs hs' ts ts' os os' : List ℕ)
-    → replied (told r) hs ts os ≡ slipped_at fix map atlas zones n room size → replied (told r') hs' ts' os' ≡ slipped_at fix map atlas zones n room size
+pub one_slip_at : (fix : Fix) (map atlas zones : List ℕ) (n room size : ℕ) (r r' : Result Stamped Refusal) (hs hs' ts ts' os os' : List ℕ)
+    → replied r hs ts os ≡ slipped_at fix map atlas zones n room size → replied r' hs' ts' os' ≡ slipped_at fix map atlas zones n room size
     → (r ≡ r') × (hs ≡ hs') × (ts ≡ ts') × (os ≡ os')
 one_slip_at fix map atlas zones n room size = one_reply (slipped_at fix map atlas zones n room size)
 
-pub one_slip : (request map atlas zones : List ℕ) (n room size : ℕ) (r r' : Slipped) (hs hs' ts ts' os os' : List ℕ) → replied (told r) hs ts os ≡ slipped request map atlas zones n room size
-    → replied (told r') hs' ts' os' ≡ slipped request map atlas zones n room size → (r ≡ r') × (hs ≡ hs') × (ts ≡ ts') × (os ≡ os')
+pub one_slip : (request map atlas zones : List ℕ) (n room size : ℕ) (r r' : Result Stamped Refusal) (hs hs' ts ts' os os' : List ℕ) → replied r hs ts os ≡ slipped request map atlas zones n room size
+    → replied r' hs' ts' os' ≡ slipped request map atlas zones n room size → (r ≡ r') × (hs ≡ hs') × (ts ≡ ts') × (os ≡ os')
 one_slip request map atlas zones n room size = one_reply (slipped request map atlas zones n room size)
 
 -- ---- an atlas

@@ -7,7 +7,7 @@ use Rattle.atlas.specs.Beside.{matched_beside, zones_beside}
 use Rattle.border.specs.{Place.{moved_by}, Reader.{advanced, marker, packed_turn, turn_of}, Trace.{round_again, next_within, next_point, trace_then, trace_within, trace_of}}
 use Rattle.bundle.specs.{Bundle.{find_of}, declared.find.File.{File}}
 use Rattle.calendar.{proofs.{CivilAt.{is_civil_at}, Laws.{days_closed, weekday_closed}}, specs.Calendar.{is_leap, year_length, days_of_years, month_length, days_of_months, day_number, weekday_of}}
-use Rattle.calendar.specs.{Civil.{reading_at, civil_at, CivilOf}, Moments.{seconds_to, instant_of}, declared.civil.{Civil.{Civil}, Reading.{Reading}}}
+use Rattle.calendar.specs.{Civil.{reading_at, civil_at, CivilOf}, Moments.{seconds_to, instant_of}, declared.civil.Reading.{Reading}}
 use Rattle.header.specs.{Field.{field_at}, Header.{preamble_of, texts_from, sections_from, sections_at, contents_by, head_by, head_of}, Text.{remote_at, string_at, bytes_of, text_at}}
 use Rattle.header.specs.{Utf8.{characters, started_by, begun_by, followed, goes_on, is_utf8}, declared.header.Head.{Head}}
 use Rattle.line.specs.Clock.{weekday_text, date_text, time_text, hours_text, seconds_text, span_text, offset_text}
@@ -30,7 +30,7 @@ use Rattle.verdict.specs.Winding.{turned, quarter_by, half_turn, turn_at, crossi
 use Rattle.zones.proofs.WorkedEnding.{printed, in_the_zone}
 use Rattle.zones.specs.{Fields.{fields_from, fields_of}, Lent.{Outcome}, Lookup.{safezone_bits}, Simple.{same, picked_from}, declared.lookup.Zones.{Zones}}
 use Rattle.bundle.specs.Bundle as B
-use Rattle.calendar.specs.declared.civil.Civil.TheVariants as C
+use Rattle.std.specs.Prelude.{Option, Some}
 use Rattle.header.specs.Text as H
 use Rattle.line.specs.Clock as L
 use Rattle.request.specs.Clock as QC
@@ -56,9 +56,9 @@ abbrev fix : Fix
 fix = fix_at (pos 1782907199)
 
 asked : given fix ≡ request_of sentence
-unfolding QT.every QT.formed QT.count QT.xors QT.until QT.behind QT.unblanked QN.spelled QN.value_from QN.part_of QN.is_tail QN.has_form QN.angle_of QN.side_of
+unfolding QT.formed QT.until QT.behind QT.unblanked QN.spelled QN.value_from QN.part_of QN.has_form QN.angle_of QN.side_of
     QN.decimal_of QN.degrees_of QN.nearest_to QC.is_date QC.is_time QC.time_of QC.full_year QC.date_of QC.moment_of QC.seconds_of QC.when_of QC.instant_at QR.is_sealed
-    QR.is_address QR.is_mode QR.turned QR.fix_of QR.fields_of QR.sentence_of QR.plain_of QR.spelt_of QR.meaning QR.request_of is_leap year_length days_of_years month_length
+    QR.is_mode QR.turned QR.fix_of QR.fields_of QR.sentence_of QR.plain_of QR.spelt_of QR.meaning QR.request_of is_leap year_length days_of_years month_length
     days_of_months day_number seconds_to instant_of round
 asked = refl
 
@@ -108,7 +108,7 @@ abbrev name : List ℕ
 name = 69 ∷ 117 ∷ 114 ∷ 111 ∷ 112 ∷ 101 ∷ 47 ∷ 66 ∷ 101 ∷ 114 ∷ 108 ∷ 105 ∷ 110 ∷ []
 
 name_is : given name ≡ name_of square head 0
-unfolding reading_of forward_at value_of size_of too_long picked_from H.within remote_at string_at bytes_of text_at characters started_by begun_by followed goes_on is_utf8 same name_of named
+unfolding reading_of forward_at value_of size_of too_long picked_from H.within remote_at string_at bytes_of text_at characters started_by begun_by followed goes_on is_utf8 same name_of
 name_is = refl
 
 -- ---- the zones: a bundle with one file of version 1, whose one type is `CEST`, two hours east
@@ -123,7 +123,7 @@ abbrev file : File
 file = record { start = 76; length = 55 }
 
 held : given file ≡ find_of berlin name
-unfolding B.word_at B.agrees B.is_bundle B.is_index B.is_data B.is_end B.head_of B.is_entry B.seek_of B.find_of
+unfolding B.word_at B.agrees B.head_of B.is_entry B.seek_of B.find_of
 held = refl
 
 abbrev local : Found
@@ -133,7 +133,7 @@ local_is : given local ≡ local_in (slice berlin 76 55) (pos 1782907199)
 unfolding read_zone_by read_short read_block begins is_version is_fourth version_fits check_header block_at none_or_all check_counts check_block check_part count_of check_of
     check_time check_index check_type check_leap check_leaps check_standard is_standard check_ut nul_end one_apart occurs_later correction_before correction_of correction_at
     is_expiry type_in type_behind is_after_last by_table octets be32 raised time_at lift T.demand T.each T.◌>>=◌ T.◌>>◌ first_with is_stop run_to time_in last_with
-    last_not_after scale_by scale_or scale_in rules_in answer_at answer_by local_in plainly known
+    last_not_after scale_by scale_or scale_in rules_in answer_at answer_by local_in
 local_is = refl
 
 -- ---- the clock
@@ -146,7 +146,7 @@ day_is = rw days_closed
 
 -- a time of that day
 shown_at : (offset : ℤ) (hour minute second : ℕ) → hour ≤ 23 → minute ≤ 59 → second ≤ 59 → instant_of 739797 (3600 * hour + 60 * minute + second) ≡ pos 1782907199 +ℤ offset
-    → CivilOf (pos 1782907199) offset (C.Shown (record { year = 2026; month = 7; day = 1; hour = hour; minute = minute; second = second; weekday = 3 }))
+    → CivilOf (pos 1782907199) offset (Some (record { year = 2026; month = 7; day = 1; hour = hour; minute = minute; second = second; weekday = 3 }))
 unfolding CivilOf month_length is_leap
 shown_at offset hour minute second h m s e =
     record {
@@ -158,18 +158,18 @@ shown_at offset hour minute second h m s e =
       back = ap (λ (day : ℕ). instant_of day (3600 * hour + 60 * minute + second)) day_is ∙ e;
     }
 
-shown_so : CivilOf (pos 1782907199) (pos 7200) (C.Shown reading)
+shown_so : CivilOf (pos 1782907199) (pos 7200) (Some reading)
 unfolding instant_of seconds_to days_of_years year_length is_leap
 shown_so = shown_at (pos 7200) 13 59 59 (omega arith) (omega arith) (omega arith) refl
 
 -- what a match says, by its file, the local time in it and the clock
 hour_by : (zones name : List ℕ) (at : File) (local : Found) (reading : Reading) → given at ≡ find_of zones name → given local ≡ local_in (slice zones at.start at.length) (pos 1782907199)
-    → CivilOf (pos 1782907199) local.offset (C.Shown reading)
+    → CivilOf (pos 1782907199) local.offset (Some reading)
     → given (record { name = name; abbreviation = slice zones (at.start + local.place) local.length; offset = local.offset; reading = reading }) ≡ hour_in zones (pos 1782907199) name
-unfolding hour_in shown
+unfolding hour_in
 hour_by zones name at local reading f l c =
-    ap (λ (civil : Civil). shown civil >>= λ reading. given (record { name = name; abbreviation = slice zones (at.start + local.place) local.length; offset = local.offset; reading = reading }))
-    (is_civil_at (pos 1782907199) local.offset (C.Shown reading) c)
+    ap (λ (civil : Option Reading). shown civil >>= λ reading. given (record { name = name; abbreviation = slice zones (at.start + local.place) local.length; offset = local.offset; reading = reading }))
+    (is_civil_at (pos 1782907199) local.offset (Some reading) c)
     ∙ onward l _
     ∙ onward f _
 
@@ -191,7 +191,7 @@ line_is = refl
 
 -- which is read back as that
 pub line_back : read_back line ≡ found (record { reading = reading; offset = pos 7200 })
-unfolding read_back weekday_in is_minutes span_in offset_in reading_in weekday_text same QT.every QT.formed QT.until QN.value_from QN.part_of
+unfolding read_back weekday_in is_minutes span_in offset_in reading_in weekday_text same QT.formed QT.until QN.value_from QN.part_of
 line_back = refl
 
 -- ---- what comes behind the lookup
@@ -212,25 +212,25 @@ by_match zones instant size e =
 
 -- The example sentence, stamped: one match, two hours east, and the line fills its room.
 pub stamped : slipped sentence square [] berlin 4 19 49 ≡ replied (given (record { length = 49; matches = 1; offset = pos 7200 })) (0 ∷ 0 ∷ 1 ∷ 39 ∷ []) texts line
-unfolding slipped_at replied_of of_match agreed have_offset fitted words line_of clock_text weekday_text date_text time_text hours_text seconds_text span_text offset_text
+unfolding slipped_at replied_of agreed have_offset fitted words line_of clock_text weekday_text date_text time_text hours_text seconds_text span_text offset_text
     zones_from added is_among between zone_text L.shown
 stamped = sym (asked_so sentence square [] berlin 4 19 49 asked) ∙ ap (replied_of 4 19 49) (sym (by_match berlin (pos 1782907199) 49 hour_is))
 
 -- with a byte less of room: 18, and the line's length
 pub no_room : slipped sentence square [] berlin 4 19 48 ≡ replied (refused (refusal 18 0 49)) (zeros 4) (zeros 19) (zeros 48)
-unfolding slipped_at replied_of of_match agreed have_offset fitted line_of clock_text weekday_text date_text time_text hours_text seconds_text span_text offset_text
+unfolding slipped_at replied_of agreed have_offset fitted line_of clock_text weekday_text date_text time_text hours_text seconds_text span_text offset_text
     zones_from added is_among between zone_text L.shown
 no_room = sym (asked_so sentence square [] berlin 4 19 48 asked) ∙ ap (replied_of 4 19 48) (sym (by_match berlin (pos 1782907199) 48 hour_is))
 
 -- ---- not stamped: the zones
 by_zones : (zones : List ℕ) (instant : ℤ) {why : Refusal} → refused why ≡ hour_in zones instant name
     → slipped_at (fix_at instant) square [] zones 4 19 49 ≡ replied (refused (blamed 1 why)) (zeros 4) (zeros 19) (zeros 49)
-unfolding slipped_at replied_of of_match
+unfolding slipped_at replied_of
 by_zones zones instant e = ap (replied_of 4 19 49) (sym (by_match zones instant 49 e))
 
 -- no bundle: 89 at 0, of the first match
 pub no_bundle : slipped_at fix square [] [] 4 19 49 ≡ replied (refused (refusal 89 1 0)) (zeros 4) (zeros 19) (zeros 49)
-unfolding blamed hour_in B.word_at B.agrees B.is_bundle B.is_index B.is_data B.is_end B.head_of B.is_entry B.seek_of B.find_of
+unfolding hour_in B.word_at B.agrees B.head_of B.is_entry B.seek_of B.find_of
 no_bundle = by_zones [] (pos 1782907199) refl
 
 -- a bundle without entries: 88
@@ -238,7 +238,7 @@ abbrev empty : List ℕ
 empty = 116 ∷ 122 ∷ 100 ∷ 97 ∷ 116 ∷ 97 ∷ 50 ∷ 48 ∷ 50 ∷ 54 ∷ 97 ∷ 0 ∷ 0 ∷ 0 ∷ 0 ∷ 24 ∷ 0 ∷ 0 ∷ 0 ∷ 24 ∷ 0 ∷ 0 ∷ 0 ∷ 24 ∷ []
 
 pub no_zone : slipped_at fix square [] empty 4 19 49 ≡ replied (refused (refusal 88 1 0)) (zeros 4) (zeros 19) (zeros 49)
-unfolding blamed hour_in B.word_at B.agrees B.is_bundle B.is_index B.is_data B.is_end B.head_of B.is_entry B.seek_of B.find_of
+unfolding hour_in B.word_at B.agrees B.head_of B.is_entry B.seek_of B.find_of
 no_zone = by_zones empty (pos 1782907199) refl
 
 -- a file whose last transition is past, without a string behind it: 90
@@ -250,11 +250,11 @@ unknown =
     ∷ 0 ∷ 0 ∷ 0 ∷ 0 ∷ 0 ∷ 0 ∷ 0 ∷ 1 ∷ 0 ∷ 0 ∷ 0 ∷ 1 ∷ 0 ∷ 0 ∷ 0 ∷ 5 ∷ 0 ∷ 0 ∷ 0 ∷ 0 ∷ 0 ∷ 0 ∷ 0 ∷ 28 ∷ 32 ∷ 1 ∷ 0 ∷ 67 ∷ 69 ∷ 83 ∷ 84 ∷ 0 ∷ []
 
 pub not_known : slipped_at fix square [] unknown 4 19 49 ≡ replied (refused (refusal 90 1 0)) (zeros 4) (zeros 19) (zeros 49)
-unfolding blamed hour_in B.word_at B.agrees B.is_bundle B.is_index B.is_data B.is_end B.head_of B.is_entry B.seek_of B.find_of read_zone_by read_short read_block begins
+unfolding hour_in B.word_at B.agrees B.head_of B.is_entry B.seek_of B.find_of read_zone_by read_short read_block begins
     is_version is_fourth version_fits check_header block_at none_or_all check_counts check_block check_part count_of check_of check_time check_index check_type check_leap
     check_leaps check_standard is_standard check_ut nul_end one_apart occurs_later correction_before correction_of correction_at is_expiry type_in type_behind is_after_last
     by_table octets be32 raised time_at lift T.demand T.each T.◌>>=◌ T.◌>>◌ first_with is_stop run_to time_in last_with last_not_after scale_by scale_or scale_in rules_in
-    answer_at answer_by local_in plainly known
+    answer_at answer_by local_in
 not_known = by_zones unknown (pos 1782907199) refl
 
 -- a file that counts leap seconds: 91
@@ -266,20 +266,20 @@ leaping =
     ∷ 0 ∷ 0 ∷ 0 ∷ 1 ∷ 0 ∷ 0 ∷ 0 ∷ 0 ∷ 0 ∷ 0 ∷ 0 ∷ 1 ∷ 0 ∷ 0 ∷ 0 ∷ 5 ∷ 0 ∷ 0 ∷ 28 ∷ 32 ∷ 1 ∷ 0 ∷ 67 ∷ 69 ∷ 83 ∷ 84 ∷ 0 ∷ 4 ∷ 178 ∷ 88 ∷ 0 ∷ 0 ∷ 0 ∷ 0 ∷ 1 ∷ []
 
 pub not_unix : slipped_at fix square [] leaping 4 19 49 ≡ replied (refused (refusal 91 1 0)) (zeros 4) (zeros 19) (zeros 49)
-unfolding blamed hour_in B.word_at B.agrees B.is_bundle B.is_index B.is_data B.is_end B.head_of B.is_entry B.seek_of B.find_of read_zone_by read_short read_block begins
+unfolding hour_in B.word_at B.agrees B.head_of B.is_entry B.seek_of B.find_of read_zone_by read_short read_block begins
     is_version is_fourth version_fits check_header block_at none_or_all check_counts check_block check_part count_of check_of check_time check_index check_type check_leap
     check_leaps check_standard is_standard check_ut nul_end one_apart occurs_later correction_before correction_of correction_at is_expiry type_in type_behind is_after_last
     by_table octets be32 raised time_at lift T.demand T.each T.◌>>=◌ T.◌>>◌ first_with is_stop run_to time_in last_with last_not_after scale_by scale_or scale_in rules_in
-    answer_at answer_by local_in plainly known
+    answer_at answer_by local_in
 not_unix = by_zones leaping (pos 1782907199) refl
 
 -- a clock behind the year 9999: 61
 pub too_late : slipped_at (fix_at (pos 9223372036854775807)) square [] berlin 4 19 49 ≡ replied (refused (refusal 61 1 0)) (zeros 4) (zeros 19) (zeros 49)
-unfolding blamed hour_in shown civil_at reading_at seconds_to days_of_years year_length is_leap B.word_at B.agrees B.is_bundle B.is_index B.is_data B.is_end B.head_of
+unfolding hour_in civil_at reading_at seconds_to days_of_years year_length is_leap B.word_at B.agrees B.head_of
     B.is_entry B.seek_of B.find_of read_zone_by read_short read_block begins is_version is_fourth version_fits check_header block_at none_or_all check_counts check_block
     check_part count_of check_of check_time check_index check_type check_leap check_leaps check_standard is_standard check_ut nul_end one_apart occurs_later correction_before
     correction_of correction_at is_expiry type_in type_behind is_after_last by_table octets be32 raised time_at lift T.demand T.each T.◌>>=◌ T.◌>>◌ first_with is_stop
-    run_to time_in last_with last_not_after scale_by scale_or scale_in rules_in answer_at answer_by local_in plainly known
+    run_to time_in last_with last_not_after scale_by scale_or scale_in rules_in answer_at answer_by local_in
 too_late = by_zones berlin (pos 9223372036854775807) refl
 
 -- ---- not stamped: two zones
@@ -328,11 +328,11 @@ abbrev kolkata : List ℕ
 kolkata = 65 ∷ 115 ∷ 105 ∷ 97 ∷ 47 ∷ 75 ∷ 111 ∷ 108 ∷ 107 ∷ 97 ∷ 116 ∷ 97 ∷ []
 
 first_name : given name ≡ name_of pair pair_head 0
-unfolding reading_of forward_at value_of size_of too_long picked_from H.within remote_at string_at bytes_of text_at characters started_by begun_by followed goes_on is_utf8 same name_of named
+unfolding reading_of forward_at value_of size_of too_long picked_from H.within remote_at string_at bytes_of text_at characters started_by begun_by followed goes_on is_utf8 same name_of
 first_name = refl
 
 second_name : given kolkata ≡ name_of pair pair_head 17
-unfolding reading_of forward_at value_of size_of too_long picked_from H.within remote_at string_at bytes_of text_at characters started_by begun_by followed goes_on is_utf8 same name_of named
+unfolding reading_of forward_at value_of size_of too_long picked_from H.within remote_at string_at bytes_of text_at characters started_by begun_by followed goes_on is_utf8 same name_of
 second_name = refl
 
 -- Berlin's file, and one whose type is `IST`, five hours and a half east
@@ -349,29 +349,27 @@ two =
 abbrev second_hour : Hour
 second_hour = record { name = kolkata; abbreviation = 73 ∷ 83 ∷ 84 ∷ []; offset = pos 19800; reading = record { year = 2026; month = 7; day = 1; hour = 17; minute = 29; second = 59; weekday = 3 } }
 
-second_shown : CivilOf (pos 1782907199) (pos 19800) (C.Shown second_hour.reading)
+second_shown : CivilOf (pos 1782907199) (pos 19800) (Some second_hour.reading)
 unfolding instant_of seconds_to days_of_years year_length is_leap
 second_shown = shown_at (pos 19800) 17 29 59 (omega arith) (omega arith) (omega arith) refl
 
 first_in : given hour ≡ hour_in two (pos 1782907199) name
-unfolding B.word_at B.agrees B.is_bundle B.is_index B.is_data B.is_end B.head_of B.is_entry B.seek_of B.find_of read_zone_by read_short read_block begins is_version is_fourth
+unfolding B.word_at B.agrees B.head_of B.is_entry B.seek_of B.find_of read_zone_by read_short read_block begins is_version is_fourth
     version_fits check_header block_at none_or_all check_counts check_block check_part count_of check_of check_time check_index check_type check_leap check_leaps check_standard
     is_standard check_ut nul_end one_apart occurs_later correction_before correction_of correction_at is_expiry type_in type_behind is_after_last by_table octets be32 raised
     time_at lift T.demand T.each T.◌>>=◌ T.◌>>◌ first_with is_stop run_to time_in last_with last_not_after scale_by scale_or scale_in rules_in answer_at answer_by local_in
-    plainly known
 first_in = hour_by two name (record { start = 128; length = 55 }) local reading refl refl shown_so
 
 second_in : given second_hour ≡ hour_in two (pos 1782907199) kolkata
-unfolding B.word_at B.agrees B.is_bundle B.is_index B.is_data B.is_end B.head_of B.is_entry B.seek_of B.find_of read_zone_by read_short read_block begins is_version is_fourth
+unfolding B.word_at B.agrees B.head_of B.is_entry B.seek_of B.find_of read_zone_by read_short read_block begins is_version is_fourth
     version_fits check_header block_at none_or_all check_counts check_block check_part count_of check_of check_time check_index check_type check_leap check_leaps check_standard
     is_standard check_ut nul_end one_apart occurs_later correction_before correction_of correction_at is_expiry type_in type_behind is_after_last by_table octets be32 raised
     time_at lift T.demand T.each T.◌>>=◌ T.◌>>◌ first_with is_stop run_to time_in last_with last_not_after scale_by scale_or scale_in rules_in answer_at answer_by local_in
-    plainly known
 second_in =
     hour_by two kolkata (record { start = 183; length = 54 }) (record { offset = pos 19800; daylight = 0; place = 50; length = 3 }) second_hour.reading refl refl second_shown
 
 both_hours : given (hour ∷ second_hour ∷ []) ≡ hours_from pair pair_head two (pos 1782907199) 1 matches
-unfolding hours_from hour_of of_match
+unfolding hours_from hour_of
 both_hours =
     ap (λ (h : Reply Hour). h >>= λ hour. given second_hour >>= λ second. given (hour ∷ second ∷ [])) (ap (of_match 1) first_in ∙ onward first_name _)
     ∙ ap (λ (s : Reply Hour). hour_of pair pair_head two (pos 1782907199) 1 (hit_of 0 0 1 44) >>= λ hour. s >>= λ second. given (hour ∷ second ∷ [])) (ap (of_match 2) second_in ∙ onward second_name _)
@@ -467,8 +465,8 @@ pub record Unread : Type 0 where
   pub late : slipped leap [] [] [] 0 0 0 ≡ replied (refused (refusal 84 0 7)) [] [] []
 
 pub unread : Unread
-unfolding QT.every QT.formed QT.count QT.xors QT.until QT.behind QT.unblanked QN.spelled QN.value_from QN.part_of QN.is_tail QN.has_form QN.angle_of QN.side_of
+unfolding QT.formed QT.until QT.behind QT.unblanked QN.spelled QN.value_from QN.part_of QN.has_form QN.angle_of QN.side_of
     QN.decimal_of QN.degrees_of QN.nearest_to QC.is_date QC.is_time QC.time_of QC.full_year QC.date_of QC.moment_of QC.seconds_of QC.when_of QC.instant_at QR.is_sealed
-    QR.is_address QR.is_mode QR.turned QR.fix_of QR.fields_of QR.sentence_of QR.plain_of QR.spelt_of QR.meaning QR.request_of is_leap year_length days_of_years month_length
+    QR.is_mode QR.turned QR.fix_of QR.fields_of QR.sentence_of QR.plain_of QR.spelt_of QR.meaning QR.request_of is_leap year_length days_of_years month_length
     days_of_months day_number seconds_to instant_of round
 unread = record { form = by_request [] refl; no_fix = by_request fixless refl; sum = by_request garbled refl; another = by_request other refl; late = by_request leap refl }

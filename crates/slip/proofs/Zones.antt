@@ -8,11 +8,11 @@ use Rattle.calendar.specs.Civil.{civil_at}
 use Rattle.line.{proofs.Puts.{put_none, put_as, put_then, put_length}, specs.Put.{Put}}
 use Rattle.slip.proofs.Asking.{Asked, asked_none, asked_one, asked_stop, asked_all}
 use Rattle.slip.specs.{Hour.{Hour, name_of, local_in, shown, hour_in, of_match, hour_of, hours_from}, Line.{clock_text, is_among, between, zone_text, added, zones_from, line_of}}
-use Rattle.slip.specs.{Told.{name_in, told_zone, is_named, is_named_in, added_by, Lined, Inked, Seen, FirstAt}, declared.{hours.All.{All}, name.Zone.{Zone}}}
+use Rattle.slip.specs.{Told.{name_in, is_named, is_named_in, added_by, Lined, Inked, Seen, FirstAt}, declared.hours.All.{All}}
 use Rattle.tzif.specs.Text.{slice}
 use Rattle.table.specs.{Hits.{no_hit}, declared.hits.Hit.{Hit}}
 use Rattle.zones.specs.{Simple.{same}, declared.simple.Parts.{Parts}}
-use Rattle.slip.specs.declared.name.Zone.TheVariants as Z
+use Rattle.request.specs.Told as T
 
 first_same : {A : Type 0} {a b : A} {xs ys : List A} → a ∷ xs ≡ b ∷ ys → a ≡ b
 first_same e = cc
@@ -40,14 +40,14 @@ pub zones_one : (done : List Hour) (hour : Hour) → zones_from [] (done ++ (hou
 zones_one done hour = zones_more [] done hour
 
 -- ---- a match has the name, by the code's answer
-module _ (file : List ℕ) (head : Head) (metadata : ℕ) (name : List ℕ) (zone : Zone) (e : told_zone file zone ≡ name_of file head metadata) where
-  pub is_called : {other : Parts} {r : Bool} → zone ≡ Z.Name other → r ≡ same (name_in file other) name → r ≡ is_named (name_of file head metadata) name
+module _ (file : List ℕ) (head : Head) (metadata : ℕ) (name : List ℕ) (zone : Reply Parts) (e : T.shown zone (name_in file) ≡ name_of file head metadata) where
+  pub is_called : {other : Parts} {r : Bool} → zone ≡ given other → r ≡ same (name_in file other) name → r ≡ is_named (name_of file head metadata) name
   unfolding is_named
-  is_called is r = r ∙ ap (λ (x : Zone). is_named (told_zone file x) name) (sym is) ∙ ap (λ (x : Reply (List ℕ)). is_named x name) e
+  is_called is r = r ∙ ap (λ (x : Reply Parts). is_named (T.shown x (name_in file)) name) (sym is) ∙ ap (λ (x : Reply (List ℕ)). is_named x name) e
 
-  pub not_called : {why : _} → zone ≡ Z.Refused why → false ≡ is_named (name_of file head metadata) name
+  pub not_called : {why : Refusal} → zone ≡ refused why → false ≡ is_named (name_of file head metadata) name
   unfolding is_named
-  not_called is = ap (λ (x : Zone). is_named (told_zone file x) name) (sym is) ∙ ap (λ (x : Reply (List ℕ)). is_named x name) e
+  not_called is = ap (λ (x : Reply Parts). is_named (T.shown x (name_in file)) name) (sym is) ∙ ap (λ (x : Reply (List ℕ)). is_named x name) e
 
 -- ---- one of the matches has it
 module _ (file : List ℕ) (head : Head) (name : List ℕ) (matches : List Hit) (i : ℕ) {whole : Bool} (so_far : is_named_in file head name (drop i matches) ≡ whole) where
@@ -101,7 +101,6 @@ module _ (file : List ℕ) (head : Head) where
 
 -- a match that says an hour has its name
 pub same_match : {A : Type 0} (number : ℕ) {a : A} (reply : Reply A) → given a ≡ of_match number reply → given a ≡ reply
-unfolding of_match
 same_match number (given b) e = e
 same_match number (refused why) e = let z : ◌≡◌ {A = ℕ} 0 1 = cc in absurd (omega arith)
 

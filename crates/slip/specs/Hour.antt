@@ -1,16 +1,14 @@
 -- S-3, step 6: what a match says of the instant. Its zone's name, the local time by that zone's file, and what a clock shows there.
-use Rattle.std.specs.Prelude.{◌+◌, ◌∷◌}
-use Rattle.numbers.specs.Prelude.{ℕ, min, eqb, ℤ, not, List, [], Option, some, none}
+use Rattle.std.specs.Prelude.{Option, ok_or, ◌+◌, ◌∷◌}
+use Rattle.numbers.specs.Prelude.{ℕ, min, eqb, ℤ, not, List, []}
 use Rattle.numbers.specs.{Reply.{Reply, given, refused, refusal, plain, demand, ◌>>=◌, ◌>>◌}, declared.refusal.Refusal.{Refusal}}
 use Rattle.bundle.specs.Bundle.{find_of}
-use Rattle.calendar.specs.{Civil.{civil_at}, declared.civil.{Civil.{Civil}, Reading.{Reading}}}
+use Rattle.calendar.specs.{Civil.{civil_at}, declared.civil.Reading.{Reading}}
 use Rattle.header.specs.declared.header.Head.{Head}
 use Rattle.localtime.specs.Local.{answer_at, scale_at}
 use Rattle.table.specs.declared.hits.Hit.{Hit}
-use Rattle.tzif.specs.{Header.{rfc9636}, Text.{slice}, declared.local.{Answer.{Answer}, Found.{Found}}}
+use Rattle.tzif.specs.{Header.{rfc9636}, Text.{slice}, declared.local.Found.{Found}}
 use Rattle.zones.specs.Simple.{description_at}
-use Rattle.calendar.specs.declared.civil.Civil.TheVariants as C
-use Rattle.tzif.specs.declared.local.Answer.TheVariants as A
 use Rattle.tzif.specs.Reply as Z
 
 -- what a match says: the zone's name, its abbreviation and offset at the instant, and what a clock shows there
@@ -22,9 +20,8 @@ pub record Hour : Type 0 where
 
 -- ---- the name
 -- 87: the map has not both names; else prefix and id, joined
-unfoldable pub named : Option (List ℕ) → Reply (List ℕ)
-named none = refused (plain 87)
-named (some name) = given name
+abbrev pub named : Option (List ℕ) → Reply (List ℕ)
+named name = ok_or name (plain 87)
 
 -- the zone's name of a metadata id; 87 too where the map is not one of time zones. Names and type are the map's: they are missing for all matches or for none
 unfoldable pub name_of : List ℕ → Head → ℕ → Reply (List ℕ)
@@ -35,14 +32,13 @@ name_of map head metadata = do
 
 -- ---- the local time
 -- a refusal of a zone's file has no cause of its own
-unfoldable pub plainly : {A : Type 0} → Z.Reply A → Reply A
+abbrev pub plainly : {A : Type 0} → Z.Reply A → Reply A
 plainly (Z.given a) = given a
 plainly (Z.refused why) = refused (refusal why.number 0 why.detail)
 
 -- 90: no local time is known
-unfoldable pub known : Answer → Reply Found
-known (A.Found found) = given found
-known A.Unknown = refused (plain 90)
+abbrev pub known : Option Found → Reply Found
+known found = ok_or found (plain 90)
 
 -- by a zone's file: 91 where the block that answers has leap-second records, so that its scale is not the instant's. A file that is refused (1, 40 to 60) has no scale; then 61, 90
 unfoldable pub local_in : List ℕ → ℤ → Reply Found
@@ -52,9 +48,8 @@ local_in file instant = do
   known answer
 
 -- 61: the clock is outside the years 1 to 9999
-unfoldable pub shown : Civil → Reply Reading
-shown (C.Shown reading) = given reading
-shown C.Outside = refused (plain 61)
+abbrev pub shown : Option Reading → Reply Reading
+shown reading = ok_or reading (plain 61)
 
 -- ---- the match
 -- by the file that the bundle has under a name: 89, 88; its own; the clock's. The abbreviation stands in the file
@@ -66,10 +61,10 @@ hour_in zones instant name = do
   given (record { name = name; abbreviation = slice zones (file.start + found.place) found.length; offset = found.offset; reading = reading })
 
 -- the first fault of a match is said with the match's number from 1, and 255 from the 255th on
-unfoldable pub blamed : ℕ → Refusal → Refusal
+abbrev pub blamed : ℕ → Refusal → Refusal
 blamed number why = refusal why.number (min number 255) why.detail
 
-unfoldable pub of_match : {A : Type 0} → ℕ → Reply A → Reply A
+abbrev pub of_match : {A : Type 0} → ℕ → Reply A → Reply A
 of_match number (given a) = given a
 of_match number (refused why) = refused (blamed number why)
 

@@ -1,35 +1,21 @@
 -- What the code's answers say: names, abbreviations and lines by where they stand in what was lent.
 use Rattle.std.specs.Prelude.{◌+◌, ◌≤◌, ◌||◌, ◌∷◌, ◌++◌, ◌≡◌, if◌then◌else◌}
 use Rattle.numbers.specs.Prelude.{ℕ, eqb, ℤ, length, Bool, false, List, []}
-use Rattle.numbers.specs.{Lists.{padded}, Reply.{Reply, given, refused, refusal, demand, ◌>>=◌, ◌>>◌}}
+use Rattle.numbers.specs.{Lists.{zeros, padded}, Reply.{Reply, given, refused, refusal, demand, ◌>>=◌, ◌>>◌}}
 use Rattle.atlas.specs.Beside.{zones_beside}
 use Rattle.header.specs.{Text.{bytes_of}, declared.header.Head.{Head}}
 use Rattle.calendar.specs.declared.civil.Reading.{Reading}
 use Rattle.line.specs.Put.{Put}
 use Rattle.request.specs.declared.read.Fix.{Fix}
-use Rattle.slip.specs.{Hour.{Hour, name_of, hour_of, hours_from}, Line.{between, zone_text, zones_from, line_of}, Slip.{Slip, place_of, agreed, fitted, replied_of, replied, have_offset}}
-use Rattle.slip.specs.declared.{hour.{Clock.{Clock}, Hourly.{Hourly}, Spot.{Spot}, Told.{Told}}, hours.{All.{All}, Hours.{Hours}}, name.Zone.{Zone}, slip.{Slipped.{Slipped}, Stamped.{Stamped}}}
+use Rattle.slip.specs.{Hour.{Hour, name_of, hour_of, hours_from}, Line.{between, zone_text, zones_from, line_of}, Slip.{Slip, Replied, place_of, agreed, fitted, replied_of, replied, have_offset}}
+use Rattle.slip.specs.declared.{hour.Spot.{Spot}, hours.All.{All}, slip.Stamped.{Stamped}}
 use Rattle.table.specs.declared.hits.Hit.{Hit}
 use Rattle.tzif.specs.{Local.{Held}, Text.{slice}, declared.local.Found.{Found}}
 use Rattle.zones.specs.{Simple.{same, LiesParts}, declared.simple.Parts.{Parts}}
-use Rattle.slip.specs.declared.hour.Hourly.TheVariants as H
-use Rattle.slip.specs.declared.hour.Told.TheVariants as T
-use Rattle.slip.specs.declared.hour.Clock.TheVariants as K
-use Rattle.slip.specs.declared.hours.Hours.TheVariants as A
-use Rattle.slip.specs.declared.name.Zone.TheVariants as Z
-use Rattle.slip.specs.declared.slip.Slipped.TheVariants as S
 
 -- ---- a name in the map
 abbrev pub name_in : List ℕ → Parts → List ℕ
 name_in map name = bytes_of map name.one ++ bytes_of map name.two
-
-abbrev pub told_zone : List ℕ → Zone → Reply (List ℕ)
-told_zone map (Z.Name name) = given (name_in map name)
-told_zone map (Z.Refused why) = refused why
-
-unfoldable pub LiesZone : ℕ → Zone → Type 0
-LiesZone size (Z.Name name) = LiesParts size name
-LiesZone size (Z.Refused why) = Unit {0}
 
 -- ---- what a match says
 abbrev pub hour_at : List ℕ → List ℕ → Spot → Hour
@@ -39,26 +25,6 @@ hour_at map zones spot = record { name = name_in map spot.name; abbreviation = s
 pub record Stands (map zones : ℕ) (spot : Spot) : Type 0 where
   pub name : LiesParts map spot.name
   pub abbreviation : spot.place + spot.size ≤ zones
-
-abbrev pub told_local : Told → Reply Found
-told_local (T.Found found) = given found
-told_local (T.Refused why) = refused why
-
-unfoldable pub HeldTold : ℕ → Told → Type 0
-HeldTold size (T.Found found) = Held size found
-HeldTold size (T.Refused why) = Unit {0}
-
-abbrev pub told_clock : Clock → Reply Reading
-told_clock (K.Shown reading) = given reading
-told_clock (K.Refused why) = refused why
-
-abbrev pub told_hour : List ℕ → List ℕ → Hourly → Reply Hour
-told_hour map zones (H.Hour spot) = given (hour_at map zones spot)
-told_hour map zones (H.Refused why) = refused why
-
-unfoldable pub StandsHour : ℕ → ℕ → Hourly → Type 0
-StandsHour map zones (H.Hour spot) = Stands map zones spot
-StandsHour map zones (H.Refused why) = Unit {0}
 
 -- ---- what all matches say
 -- the hours, by the first of them and whether all have its offset
@@ -72,10 +38,6 @@ pub record Seen (map zones : List ℕ) (hours : List Hour) (all : All) : Type 0 
 pub record FirstAt (map : List ℕ) (head : Head) (zones : List ℕ) (instant : ℤ) (first : Hit) (spot : Spot) : Type 0 where
   pub says : hour_of map head zones instant 1 first ≡ given (hour_at map zones spot)
   pub stands : Stands (length map) (length zones) spot
-
-abbrev pub told_hours : Hours → Reply All
-told_hours (A.All all) = given all
-told_hours (A.Refused why) = refused why
 
 -- ---- the line
 -- one of these matches has the name
@@ -129,10 +91,11 @@ pub record Wrote (size : ℕ) (out : List ℕ) (ink : Ink) (stamped : Stamped) :
   pub said : stamped ≡ ink.stamped
   pub kept : out ≡ padded size ink.line
 
-abbrev pub told : Slipped → Reply Stamped
-told (S.Stamped stamped) = given stamped
-told (S.Refused why) = refused why
-
 -- the lent lists hold a slip
 abbrev pub Filled : ℕ → ℕ → ℕ → List ℕ → List ℕ → List ℕ → Slip → Stamped → Type 0
 Filled n room size hits text out slip stamped = replied (given stamped) hits text out ≡ replied_of n room size (given slip)
+
+-- zeros throughout where it is refused
+abbrev pub zeroed_unless : Reply Stamped → List ℕ → List ℕ → List ℕ → Replied
+zeroed_unless (given stamped) hits text out = replied (given stamped) hits text out
+zeroed_unless (refused why) hits text out = replied (refused why) (zeros (length hits)) (zeros (length text)) (zeros (length out))

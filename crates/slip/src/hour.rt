@@ -1,16 +1,19 @@
 // What a match says of the instant: its zone's file is found in the bundle and asked, and a clock is read.
-ghost use Rattle.std.specs.Prelude.{◌≡◌, length, min};
+ghost use Rattle.std.specs.Prelude.{◌≡◌, length, min, IfOk};
 ghost use Rattle.calendar.specs.Civil.{civil_at};
-ghost use Rattle.slip.specs.Hour.{local_in, shown, hour_in, blamed, hour_of};
-ghost use Rattle.slip.specs.Told.{name_in, told_local, HeldTold, told_clock, told_hour, StandsHour};
+ghost use Rattle.request.specs.Told as Q;
+ghost use Rattle.slip.specs.Hour.{local_in, shown, hour_in, blamed, of_match, plainly, hour_of};
+ghost use Rattle.slip.specs.Told.{name_in, hour_at, Stands};
+ghost use Rattle.tzif.specs.Local.{Held};
 ghost use Rattle.zones.specs.Simple.{LiesParts};
 
-use crate::name::{Zone, zone_of};
-use bundle::find::{Found as InBundle, find};
-use calendar::civil::{Civil, Reading, civil_time};
+use crate::name::zone_of;
+use bundle::find::find;
+use calendar::civil::{Reading, civil_time};
 use header::header::Head;
-use localtime::local::{Said, answer_at};
-use numbers::refusal::{Refusal, plain, refuse};
+use localtime::local::answer_at;
+use numbers::fault::Fault;
+use numbers::refusal::{Refusal, refuse};
 use request::read::Fix;
 use table::hits::Hit;
 use tzif::local::Found;
@@ -26,82 +29,55 @@ pub struct Spot {
     pub reading: Reading,
 }
 
-#[derive(Clone, Copy)]
-pub enum Hourly {
-    Hour(Spot),
-    Refused(Refusal),
-}
-
-#[derive(Clone, Copy)]
-pub enum Told {
-    Found(Found),
-    Refused(Refusal),
-}
-
-#[derive(Clone, Copy)]
-pub enum Clock {
-    Shown(Reading),
-    Refused(Refusal),
+// A refusal of a zone's file has no cause of its own.
+fn plainly(answer: Result<Option<Found>, tzif::refusal::Refusal>) -> Result<Option<Found>, Refusal>
+    ensures { result ≡ plainly answer }
+{
+    answer.map_err(|why| refuse(why.number, 0, why.detail as u64))
 }
 
 // Local time by a zone's file; 91 where it reads the instant on its own scale.
-fn local_in(file: &[u8], fix: Fix) -> Told
-    ensures { (told_local result ≡ local_in file.now fix.instant) × HeldTold (length file.now) result }
+fn local_in(file: &[u8], fix: Fix) -> Result<Found, Refusal>
+    ensures { (result ≡ local_in file.now fix.instant) × IfOk result (Held (length file.now)) }
 {
     let answered = answer_at(file, fix.instant);
     let scale = answered.scale;
-    let said = answered.said;
     if scale.kind == 2 {
-        return Told::Refused(plain(91));
+        return Err(Fault::LeapSeconds.alone());
     }
-    match said {
-        Said::Found(found) => Told::Found(found),
-        Said::Unknown => Told::Refused(plain(90)),
-        Said::Refused(why) => Told::Refused(refuse(why.number, 0, why.detail as u64)),
-    }
+    let said = plainly(answered.said)?;
+    said.ok_or(Fault::UnknownHour.alone())
 }
 
 // 61 outside the years 1 to 9999.
-fn clock_of(fix: Fix, found: Found) -> Clock
-    ensures { told_clock result ≡ shown (civil_at fix.instant found.offset) }
+fn clock_of(fix: Fix, found: Found) -> Result<Reading, Refusal>
+    ensures { result ≡ shown (civil_at fix.instant found.offset) }
 {
     let civil = civil_time(fix.instant, found.offset);
-    match civil {
-        Civil::Shown(reading) => Clock::Shown(reading),
-        Civil::Outside => Clock::Refused(plain(61)),
-    }
+    civil.ok_or(Fault::YearOutside.alone())
 }
 
 // By the file that the bundle has under a name.
-fn hour_in(map: &[u8], zones: &[u8], fix: Fix, name: Parts) -> Hourly
+fn hour_in(map: &[u8], zones: &[u8], fix: Fix, name: Parts) -> Result<Spot, Refusal>
     requires { LiesParts (length map.now) name }
-    ensures { (told_hour map.now zones.now result ≡ hour_in zones.now fix.instant (name_in map.now name))
-        × StandsHour (length map.now) (length zones.now) result }
+    ensures { (Q.shown result (hour_at map.now zones.now) ≡ hour_in zones.now fix.instant (name_in map.now name))
+        × IfOk result (Stands (length map.now) (length zones.now)) }
 {
     let one = name.one;
     let two = name.two;
     let first = one.start;
     let second = two.start;
-    let file = match find(
+    let file = find(
         zones,
         &map[first..first + one.size],
         &map[second..second + two.size],
         0x80,
-    ) {
-        InBundle::At(file) => file,
-        InBundle::Refused(why) => return Hourly::Refused(why),
-    };
+    )?;
     let start = file.start as usize;
     let end = start + file.length as usize;
-    let found = match local_in(&zones[start..end], fix) {
-        Told::Found(found) => found,
-        Told::Refused(why) => return Hourly::Refused(why),
-    };
-    let reading = match clock_of(fix, found) {
-        Clock::Shown(reading) => reading,
-        Clock::Refused(why) => return Hourly::Refused(why),
-    };
-    Hourly::Hour(Spot {
+    let found = local_in(&zones[start..end], fix)?;
+    let reading = clock_of(fix, found)?;
+    Ok(Spot {
         name,
         place: start + found.place,
         size: found.length,
@@ -114,16 +90,20 @@ fn hour_in(map: &[u8], zones: &[u8], fix: Fix, name: Parts) -> Hourly
 fn cause_of(number: usize) -> u8
     ensures { result ≡ min number 255 }
 {
-    if number < 255 {
-        return number as u8;
-    }
-    255
+    number.min(255) as u8
 }
 
 fn blame(why: Refusal, number: usize) -> Refusal
     ensures { result ≡ blamed number why }
 {
     refuse(why.number, cause_of(number), why.detail)
+}
+
+// The first fault of a match is said with the match's number.
+fn of_match(number: usize, answer: Result<Spot, Refusal>) -> Result<Spot, Refusal>
+    ensures { result ≡ of_match number answer }
+{
+    answer.map_err(|why| blame(why, number))
 }
 
 // What the match with this number says.
@@ -134,17 +114,10 @@ pub(crate) fn hour_of(
     fix: Fix,
     number: usize,
     hit: Hit,
-) -> Hourly
-    ensures { (told_hour map.now zones.now result ≡ hour_of map.now head zones.now fix.instant number hit)
-        × StandsHour (length map.now) (length zones.now) result }
+) -> Result<Spot, Refusal>
+    ensures { (Q.shown result (hour_at map.now zones.now) ≡ hour_of map.now head zones.now fix.instant number hit)
+        × IfOk result (Stands (length map.now) (length zones.now)) }
 {
-    let name = match zone_of(map, head, hit.metadata) {
-        Zone::Name(name) => name,
-        Zone::Refused(why) => return Hourly::Refused(why),
-    };
-    let hour = hour_in(map, zones, fix, name);
-    match hour {
-        Hourly::Hour(spot) => Hourly::Hour(spot),
-        Hourly::Refused(why) => Hourly::Refused(blame(why, number)),
-    }
+    let name = zone_of(map, head, hit.metadata)?;
+    of_match(number, hour_in(map, zones, fix, name))
 }

@@ -1,16 +1,18 @@
 // The line, into a lent buffer: what does not fit is left out and counted.
-ghost use Rattle.std.specs.Prelude.{◌≡◌, ◌+◌, ◌≤◌, ◌<◌, ◌/◌, length, take};
+ghost use Rattle.std.specs.Prelude.{◌≡◌, ◌+◌, ◌≤◌, ◌<◌, ◌/◌, length, take, IfOk};
 ghost use Rattle.line.specs.{Clock.{offset_text}, Put.{Put}};
+ghost use Rattle.request.specs.Told.{shown};
 ghost use Rattle.slip.specs.{Hour.{name_of, hour_of, hours_from}, Line.{clock_text, between, shown_text, zone_text}};
-ghost use Rattle.slip.specs.Told.{name_in, hour_at, Stands, told_hour, StandsHour, is_named, is_named_in, added_by, Lined, Inked, FirstAt};
+ghost use Rattle.slip.specs.Told.{name_in, hour_at, Stands, is_named, is_named_in, added_by, Lined, Inked, FirstAt};
 ghost use Rattle.table.specs.Hits.{width, slots, hit_at};
 ghost use Rattle.zones.specs.Simple.{LiesParts};
 
-use crate::hour::{Hourly, Spot, hour_of};
-use crate::name::{Zone, is_same, zone_of};
+use crate::hour::{Spot, hour_of};
+use crate::name::{is_same, zone_of};
 use header::header::Head;
 use line::clock::{put_date, put_shown, put_span, put_time, put_weekday};
 use line::put::{put, put_all};
+use numbers::refusal::Refusal;
 use request::read::Fix;
 use table::hits::hit_at;
 use tzif::local::{Local, offset_bits};
@@ -77,10 +79,8 @@ fn is_before(map: &[u8], head: Head, hits: &[u32], count: usize, name: Parts) ->
     requires { LiesParts (length map.now) name × (count ≤ length hits.now / width) }
     ensures { result ≡ is_named_in map.now head (name_in map.now name) (take count (slots hits.now)) }
 {
-    let mut i = 0;
-    while i < count {
+    for i in 0..count {
         let hit = hit_at(hits, i);
-        i += 1;
         if is_called(map, head, hit.metadata, name) {
             return true;
         }
@@ -93,10 +93,9 @@ fn is_called(map: &[u8], head: Head, metadata: u32, name: Parts) -> bool
     requires { LiesParts (length map.now) name }
     ensures { result ≡ is_named (name_of map.now head metadata) (name_in map.now name) }
 {
-    let zone = zone_of(map, head, metadata);
-    match zone {
-        Zone::Name(other) => is_same(map, other, name),
-        Zone::Refused(_) => false,
+    match zone_of(map, head, metadata) {
+        Ok(other) => is_same(map, other, name),
+        Err(_) => false,
     }
 }
 
@@ -141,13 +140,13 @@ fn hour_again(
     hits: &[u32],
     i: usize,
     first: Spot,
-) -> Hourly
+) -> Result<Spot, Refusal>
     requires { (i < length hits.now / width) × FirstAt map.now head zones.now fix.instant (hit_at hits.now 0) first }
-    ensures { (told_hour map.now zones.now result ≡ hour_of map.now head zones.now fix.instant (i + 1) (hit_at hits.now i))
-        × StandsHour (length map.now) (length zones.now) result }
+    ensures { (shown result (hour_at map.now zones.now) ≡ hour_of map.now head zones.now fix.instant (i + 1) (hit_at hits.now i))
+        × IfOk result (Stands (length map.now) (length zones.now)) }
 {
     if i == 0 {
-        return Hourly::Hour(first);
+        return Ok(first);
     }
     hour_of(map, head, zones, fix, i + 1, hit_at(hits, i))
 }
@@ -169,14 +168,11 @@ fn put_zones(
         out.old at out.new result }
 {
     let mut next = at;
-    let mut i = 0;
-    while i < count {
-        let spot = match hour_again(map, head, zones, fix, hits, i, first) {
-            Hourly::Hour(spot) => spot,
-            Hourly::Refused(_) => return next,
+    for i in 0..count {
+        let Ok(spot) = hour_again(map, head, zones, fix, hits, i, first) else {
+            return next;
         };
         next = put_added(out, next, map, head, zones, hits, i, spot);
-        i += 1;
     }
     next
 }

@@ -1,32 +1,24 @@
 // A match's zone name: where its two parts stand in the map, and whether two are the same.
-ghost use Rattle.std.specs.Prelude.{◌≡◌, ◌≤◌, length, get_or};
-ghost use Rattle.slip.specs.{Hour.{name_of}, Told.{name_in, told_zone, LiesZone}};
+ghost use Rattle.std.specs.Prelude.{◌≡◌, ◌≤◌, length, get_or, IfOk};
+ghost use Rattle.request.specs.Told.{shown};
+ghost use Rattle.slip.specs.{Hour.{name_of}, Told.{name_in}};
 ghost use Rattle.zones.specs.Simple.{same, LiesParts};
 
 use header::header::Head;
-use numbers::refusal::{Refusal, plain};
-use zones::simple::{Named, Parts, name_of};
-
-#[derive(Clone, Copy)]
-pub enum Zone {
-    Name(Parts),
-    Refused(Refusal),
-}
+use numbers::fault::Fault;
+use numbers::refusal::Refusal;
+use zones::simple::{Parts, name_of};
 
 // 87 where the map is not one of time zones, or has not both names.
-pub(crate) fn zone_of(map: &[u8], head: Head, metadata: u32) -> Zone
-    ensures { (told_zone map.now result ≡ name_of map.now head metadata) × LiesZone (length map.now) result }
+pub(crate) fn zone_of(map: &[u8], head: Head, metadata: u32) -> Result<Parts, Refusal>
+    ensures { (shown result (name_in map.now) ≡ name_of map.now head metadata) × IfOk result (LiesParts (length map.now)) }
 {
     let preamble = head.preamble;
     if preamble.kind != b'T' {
-        return Zone::Refused(plain(87));
+        return Err(Fault::NoNames.alone());
     }
-    let named = name_of(map, head, metadata);
-    match named {
-        Named::Name(parts) => Zone::Name(parts),
-        Named::Missing => Zone::Refused(plain(87)),
-        Named::Refused(why) => Zone::Refused(why),
-    }
+    let named = name_of(map, head, metadata)?;
+    named.ok_or(Fault::NoNames.alone())
 }
 
 // How many bytes it has.
@@ -68,6 +60,7 @@ pub(crate) fn is_same(map: &[u8], name: Parts, other: Parts) -> bool
     if size != size_of(map, other) {
         return false;
     }
+    // Stays a loop: each name stands in two parts under a mask, so there is no slice to compare.
     let mut i = 0;
     while i < size {
         if byte_of(map, name, i) != byte_of(map, other, i) {

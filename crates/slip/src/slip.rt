@@ -1,19 +1,19 @@
 // The slip.
 ghost use Rattle.std.specs.Prelude.{◌≡◌, ◌≤◌, ◌/◌, length, take};
 ghost use Rattle.numbers.specs.Lists.{zeros};
-ghost use Rattle.slip.specs.{Slip.{within, on_globe, slip_at, slipped_at, slipped, replied}, Told.{told, ink_of, slip_with, Wrote, Filled}};
+ghost use Rattle.slip.specs.{Slip.{within, on_globe, slip_at, slipped_at, slipped, replied}, Told.{ink_of, slip_with, Wrote, Filled, zeroed_unless}};
 ghost use Rattle.table.specs.{inner.Agreeing.{Agrees}, Hits.{width, slots}};
 
-use crate::hours::{Hours, hours_of};
+use crate::hours::hours_of;
 use crate::lines::put_line;
 use atlas::lookup::lookup_beside;
 use header::field::zero;
-use header::header::{Head, Headed, head_of};
+use header::header::{Head, head_of};
 use header::zero::zero_both;
-use numbers::refusal::{Refusal, plain, refuse};
-use request::read::{Asked, Fix, read_request};
+use numbers::fault::Fault;
+use numbers::refusal::Refusal;
+use request::read::{Fix, read_request};
 use table::location::Location;
-use zones::lookup::Looked;
 
 // Length of the line, how many matches, seconds east of UT.
 #[derive(Clone, Copy)]
@@ -21,12 +21,6 @@ pub struct Stamped {
     pub length: usize,
     pub matches: usize,
     pub offset: i32,
-}
-
-#[derive(Clone, Copy)]
-pub enum Slipped {
-    Stamped(Stamped),
-    Refused(Refusal),
 }
 
 // Degrees from -limit to limit; NaN is not.
@@ -57,27 +51,24 @@ fn stamp(
     hits: &[u32],
     count: usize,
     out: &mut [u8],
-) -> Slipped
+) -> Result<Stamped, Refusal>
     requires { (count ≤ length hits.now / width) × (out.old ≡ zeros (length out.old)) }
     ensures { Agrees (Wrote (length out.old) out.new)
-        (ink_of fix map.now head zones.now (length out.old) (take count (slots hits.now))) (told result) }
+        (ink_of fix map.now head zones.now (length out.old) (take count (slots hits.now))) result }
 {
     if count == 0 {
-        return Slipped::Refused(plain(86));
+        return Err(Fault::NoZone.alone());
     }
-    let all = match hours_of(map, head, zones, fix, hits, count) {
-        Hours::All(all) => all,
-        Hours::Refused(why) => return Slipped::Refused(why),
-    };
+    let all = hours_of(map, head, zones, fix, hits, count)?;
     if !all.agree {
-        return Slipped::Refused(plain(92));
+        return Err(Fault::HoursDiffer.alone());
     }
     let first = all.first;
     let length = put_line(out, map, head, zones, fix, hits, count, first);
     if out.len() < length {
-        return Slipped::Refused(refuse(18, 0, length as u64));
+        return Err(Fault::TextFull.at(length));
     }
-    Slipped::Stamped(Stamped {
+    Ok(Stamped {
         length,
         matches: count,
         offset: first.offset,
@@ -94,21 +85,18 @@ fn slip_in(
     hits: &mut [u32],
     text: &mut [u8],
     out: &mut [u8],
-) -> Slipped
+) -> Result<Stamped, Refusal>
     requires { out.old ≡ zeros (length out.old) }
     ensures { Agrees (Filled (length hits.old) (length text.old) (length out.old) hits.new text.new out.new)
-        (slip_with fix map.now head atlas.now zones.now (length hits.old) (length text.old) (length out.old)) (told result) }
+        (slip_with fix map.now head atlas.now zones.now (length hits.old) (length text.old) (length out.old)) result }
 {
     let location = Location {
         lat: fix.lat,
         lon: fix.lon,
     };
-    let found = match lookup_beside(map, head, atlas, location, false, hits, text) {
-        Looked::Zones(found) => found,
-        Looked::Refused(why) => return Slipped::Refused(why),
-    };
+    let found = lookup_beside(map, head, atlas, location, false, hits, text)?;
     if found.mark != 1 {
-        return Slipped::Refused(refuse(85, 0, found.mark as u64));
+        return Err(Fault::NotWhole.with(found.mark as u64));
     }
     stamp(fix, map, head, zones, hits, found.matches, out)
 }
@@ -122,19 +110,32 @@ fn fill(
     hits: &mut [u32],
     text: &mut [u8],
     out: &mut [u8],
-) -> Slipped
+) -> Result<Stamped, Refusal>
     requires { out.old ≡ zeros (length out.old) }
     ensures { Agrees (Filled (length hits.old) (length text.old) (length out.old) hits.new text.new out.new)
-        (slip_at fix map.now atlas.now zones.now (length hits.old) (length text.old) (length out.old)) (told result) }
+        (slip_at fix map.now atlas.now zones.now (length hits.old) (length text.old) (length out.old)) result }
 {
     if !is_on_globe(fix) {
-        return Slipped::Refused(plain(84));
+        return Err(Fault::NoPlace.alone());
     }
-    let head = match head_of(map) {
-        Headed::Head(head) => head,
-        Headed::Refused(why) => return Slipped::Refused(why),
-    };
+    let head = head_of(map)?;
     slip_in(fix, map, head, atlas, zones, hits, text, out)
+}
+
+// Nothing stays of what was lent where there is no slip.
+fn or_zeroed(
+    answer: Result<Stamped, Refusal>,
+    hits: &mut [u32],
+    text: &mut [u8],
+    out: &mut [u8],
+) -> Result<Stamped, Refusal>
+    ensures { replied result hits.new text.new out.new ≡ zeroed_unless answer hits.old text.old out.old }
+{
+    if answer.is_err() {
+        zero_both(hits, text);
+        zero(out);
+    }
+    answer
 }
 
 // The slip at a fix, through the map's atlas, or without one where there are no words; any words are taken.
@@ -146,20 +147,13 @@ pub fn slip_at(
     hits: &mut [u32],
     text: &mut [u8],
     out: &mut [u8],
-) -> Slipped
-    ensures { replied (told result) hits.new text.new out.new
+) -> Result<Stamped, Refusal>
+    ensures { replied result hits.new text.new out.new
         ≡ slipped_at fix map.now atlas.now zones.now (length hits.old) (length text.old) (length out.old) }
 {
     zero(out);
-    let stamped = match fill(fix, map, atlas, zones, hits, text, out) {
-        Slipped::Stamped(stamped) => stamped,
-        Slipped::Refused(why) => {
-            zero_both(hits, text);
-            zero(out);
-            return Slipped::Refused(why);
-        }
-    };
-    Slipped::Stamped(stamped)
+    let stamped = fill(fix, map, atlas, zones, hits, text, out);
+    or_zeroed(stamped, hits, text, out)
 }
 
 // The slip that a request asks for.
@@ -171,17 +165,12 @@ pub fn slip(
     hits: &mut [u32],
     text: &mut [u8],
     out: &mut [u8],
-) -> Slipped
-    ensures { replied (told result) hits.new text.new out.new
+) -> Result<Stamped, Refusal>
+    ensures { replied result hits.new text.new out.new
         ≡ slipped request.now map.now atlas.now zones.now (length hits.old) (length text.old) (length out.old) }
 {
-    let fix = match read_request(request) {
-        Asked::Fix(fix) => fix,
-        Asked::Refused(why) => {
-            zero_both(hits, text);
-            zero(out);
-            return Slipped::Refused(why);
-        }
-    };
-    slip_at(fix, map, atlas, zones, hits, text, out)
+    match read_request(request) {
+        Ok(fix) => slip_at(fix, map, atlas, zones, hits, text, out),
+        Err(why) => or_zeroed(Err(why), hits, text, out),
+    }
 }

@@ -7,14 +7,15 @@ use Rattle.batch.{proofs.NumberedMany.{many_numbers, many_beside_numbers, many_r
 use Rattle.index.proofs.{NumberedThrough.{through_numbers, through_refusals, indexed_refusals}, Refusing.{tying_numbers, tied_refusals}}
 use Rattle.index.specs.{Through.{looked_through, looked_indexed}, Tied.{tied_of}}
 use Rattle.localtime.{proofs.Numbered.{footer_numbers, local_time_refusals}, specs.Local.{local_time, scale_at}}
-use Rattle.tzif.specs.declared.local.LocalTime.{LocalTime}
+use Rattle.std.specs.Prelude.{Option}
+use Rattle.tzif.specs.declared.local.Local.{Local}
 use Rattle.header.{proofs.Numbered.{opening_numbers, opening_refusals, strict_opening_refusals}, specs.Opening.{opened_of, opened_strictly}}
 use Rattle.zones.{proofs.NumberedLookup.{lookup_numbers, lookup_refusals, strict_lookup_refusals, simple_lookup_refusals}, specs.Lookup.{looked_up, looked_strictly}}
 use Rattle.zones.specs.Simple.{simply_looked}
 use Rattle.table.specs.declared.location.Location.{Location}
 use Rattle.uskelzar.specs.{Many.{many_said, many_spoken}, Spoken.{opening_values, zones_values, described_values, local_values, local_reply, opening_spoken, found_spoken, local_spoken}}
 use Rattle.batch.specs.Many as B
-use Rattle.tzif.specs.declared.local.LocalTime.TheVariants as L
+use Rattle.tzif.specs.Reply as Z
 use Rattle.tzif.specs.declared.refusal.Refusal as T
 
 -- ---- for each exported function
@@ -99,10 +100,9 @@ lookup_indexed_zero file words location asked n room =
     (λ why is. never_zero through_numbers (λ z. z) why.number (indexed_refusals file words location asked n room why is))
 
 -- `uskelzar_local_time`, answered with a local time or with unknown
-of_local : (time : LocalTime) (why : Refusal) → local_reply time ≡ refused why → ((told : T.Refusal) → time ≡ L.Refused told → Listed footer_numbers told.number) → Listed footer_numbers why.number
-of_local (L.Local local) why e h = let z : ◌≡◌ {A = ℕ} 0 1 = cc in absurd (omega arith)
-of_local L.Unknown why e h = let z : ◌≡◌ {A = ℕ} 0 1 = cc in absurd (omega arith)
-of_local (L.Refused told) why e h = let same : told.number ≡ why.number = cc in subst (Listed footer_numbers) same (h told refl)
+of_local : (time : Z.Reply (Option Local)) (why : Refusal) → local_reply time ≡ refused why → ((told : T.Refusal) → time ≡ Z.refused told → Listed footer_numbers told.number) → Listed footer_numbers why.number
+of_local (Z.given local) why e h = let z : ◌≡◌ {A = ℕ} 0 1 = cc in absurd (omega arith)
+of_local (Z.refused told) why e h = let same : told.number ≡ why.number = cc in subst (Listed footer_numbers) same (h told refl)
 
 pub local_time_zero : (file : List ℕ) (instant : ℤ) (room : ℕ)
     → ((local_spoken (scale_at file instant) (local_time file instant room)).said.number ≡ 0) ↔ Answered (local_reply (local_time file instant room).reply)

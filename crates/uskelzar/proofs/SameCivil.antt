@@ -1,6 +1,7 @@
 -- What the promise of `uskelzar_civil_time` fixes. Assumes nothing.
 use Rattle.numbers.proofs.Prelude.{ℕ, ℤ, List, ◌≡◌, sym, ap, subst, ◌∙◌}
-use Rattle.calendar.{proofs.SameCivil.{same_civil}, specs.{Civil.{CivilOf}, declared.civil.{Civil.{Civil, TheVariants.{Shown, Outside}}, Reading.{Reading}}}}
+use Rattle.calendar.{proofs.SameCivil.{same_civil}, specs.{Civil.{CivilOf}, declared.civil.Reading.{Reading}}}
+use Rattle.std.specs.Prelude.{Option, Some, None}
 use Rattle.uskelzar.specs.Civil.{civil_number, civil_words, CivilSpoken}
 
 -- two calls that it permits return the same number and leave the same words
@@ -10,14 +11,14 @@ same_civil_call instant offset s t = let same = same_civil instant offset s.civi
     (s.number_is ∙ ap civil_number same ∙ sym t.number_is, s.words_are ∙ ap civil_words same ∙ sym t.words_are)
 
 -- the two ways of the call
-module _ (instant offset a b : ℤ) (p : a ≡ instant) (q : b ≡ offset) (civil : Civil) (given : CivilOf a b civil) where
+module _ (instant offset a b : ℤ) (p : a ≡ instant) (q : b ≡ offset) (civil : Option Reading) (given : CivilOf a b civil) where
   is : CivilOf instant offset civil
   is = subst (λ (z : ℤ). CivilOf z offset civil) p (subst (λ (z : ℤ). CivilOf a z civil) q given)
 
-  pub spoken_shown : (reading : Reading) {words : List ℕ} → civil ≡ Shown reading → words ≡ civil_words (Shown reading) → CivilSpoken instant offset 0 words
+  pub spoken_shown : (reading : Reading) {words : List ℕ} → civil ≡ Some reading → words ≡ civil_words (Some reading) → CivilSpoken instant offset 0 words
   unfolding civil_number
   spoken_shown reading e w = record { civil = civil; is = is; number_is = sym (ap civil_number e); words_are = w ∙ sym (ap civil_words e) }
 
-  pub spoken_outside : {words : List ℕ} → civil ≡ Outside → words ≡ civil_words Outside → CivilSpoken instant offset 61 words
+  pub spoken_outside : {words : List ℕ} → civil ≡ None → words ≡ civil_words None → CivilSpoken instant offset 61 words
   unfolding civil_number
   spoken_outside e w = record { civil = civil; is = is; number_is = sym (ap civil_number e); words_are = w ∙ sym (ap civil_words e) }

@@ -7,108 +7,117 @@ pub mod many;
 pub mod slips;
 pub mod tiles;
 
-ghost use Rattle.std.specs.Prelude.{length, ◌≡◌, [], ◌∷◌};
+ghost use Rattle.std.specs.Prelude.{ℕ, List, length, ◌≡◌, [], ◌∷◌};
 ghost use Rattle.atlas.specs.{Beside.{simply_beside}, Looked.{looked_atlas}};
 ghost use Rattle.localtime.specs.Local.{local_time, scale_at};
-ghost use Rattle.zones.specs.{Lookup.{looked_up, looked_strictly, told_looked}, Simple.{simply_looked, told_simple}};
-ghost use Rattle.header.specs.Opening.{opened_of, opened_strictly, told_opened};
-ghost use Rattle.numbers.specs.Reply.{Reply, given, refused};
+ghost use Rattle.zones.specs.{Lookup.{looked_up, looked_strictly}, Simple.{simply_looked}};
+ghost use Rattle.header.specs.Opening.{opened_of, opened_strictly};
+ghost use Rattle.numbers.specs.Lists.{padded};
 ghost use Rattle.numbers.specs.Spoken.{said_of, refused_said, spoken};
 ghost use Rattle.uskelzar.specs.Spoken.{opening_values, zones_values, described_values, local_values, local_reply, opening_spoken, found_spoken, local_spoken};
 
 use atlas::lookup::lookup_atlas;
 use atlas::simple::simple_atlas;
-use header::opening::{Opened, open, open_strict};
+use header::opening::{Opening, open, open_strict};
 use localtime::local::{Timed, local_time};
-use numbers::refusal::refuse;
+use numbers::refusal::{Refusal, refuse};
 use numbers::said::{Said, say_refused, speak};
 use table::location::Location;
-use tzif::local::{LocalTime, offset_bits};
-use zones::lookup::{Looked, lookup, lookup_strict};
-use zones::simple::{Description, Simple, simple_lookup};
+use tzif::local::offset_bits;
+use zones::lookup::{Zones, lookup, lookup_strict};
+use zones::simple::{Described, simple_lookup};
 
-fn say_opened(opened: Opened) -> Said
-    ensures { result ≡ said_of opening_values (told_opened opened) }
+// An answer that goes over to C in five words.
+pub trait Values {
+    ghost values: { Self → List ℕ };
+
+    fn words(self) -> [u64; 5]
+        ensures { result ≡ padded 5 (values self) };
+}
+
+// The answer's values, or the refusal.
+pub fn say<V: Values>(answer: Result<V, Refusal>) -> Said
+    ensures { result ≡ said_of V.values answer }
 {
-    match opened {
-        Opened::Opening(o) => Said {
+    match answer {
+        Ok(found) => Said {
             number: 0,
-            words: [
-                o.kind as u64,
-                o.version as u64,
-                o.precision as u64,
-                o.count as u64,
-                o.used as u64,
-            ],
+            words: found.words(),
         },
-        Opened::Refused(why) => say_refused(why),
+        Err(why) => say_refused(why),
     }
 }
 
-pub fn say_looked(looked: Looked) -> Said
-    ensures { result ≡ said_of zones_values (told_looked looked) }
-{
-    match looked {
-        Looked::Zones(z) => Said {
-            number: 0,
-            words: [
-                z.matches as u64,
-                z.mark as u64,
-                z.safezone as u64,
-                z.used as u64,
-                0,
-            ],
-        },
-        Looked::Refused(why) => say_refused(why),
+impl Values for Opening {
+    ghost values = { opening_values };
+
+    fn words(self) -> [u64; 5] {
+        let o = self;
+        [
+            o.kind as u64,
+            o.version as u64,
+            o.precision as u64,
+            o.count as u64,
+            o.used as u64,
+        ]
     }
 }
 
-fn say_described(simple: Simple) -> Said
-    ensures { result ≡ said_of described_values (told_simple simple) }
-{
-    let found = match simple {
-        Simple::Described(found) => found,
-        Simple::Refused(why) => return say_refused(why),
-    };
-    let matches = found.matches as u64;
-    let mark = found.mark as u64;
-    let description = found.description;
-    let words = match description {
-        Description::Length(length) => [matches, mark, 1, length as u64, 0],
-        Description::Missing => [matches, mark, 0, 0, 0],
-    };
-    Said { number: 0, words }
+impl Values for Zones {
+    ghost values = { zones_values };
+
+    fn words(self) -> [u64; 5] {
+        let z = self;
+        [
+            z.matches as u64,
+            z.mark as u64,
+            z.safezone as u64,
+            z.used as u64,
+            0,
+        ]
+    }
 }
 
+impl Values for Described {
+    ghost values = { described_values };
+
+    fn words(self) -> [u64; 5] {
+        let matches = self.matches as u64;
+        let mark = self.mark as u64;
+        match self.description {
+            Some(length) => [matches, mark, 1, length as u64, 0],
+            None => [matches, mark, 0, 0, 0],
+        }
+    }
+}
+
+// Stays apart from `say`: an unknown answer has no values, and the scale stands beside it.
 fn say_local(timed: Timed) -> Said
     ensures { result ≡ said_of (local_values timed.scale) (local_reply timed.time) }
 {
     let scale = timed.scale;
-    let time = timed.time;
-    match time {
-        LocalTime::Local(local) => Said {
-            number: 0,
-            words: [
-                scale.kind as u64,
-                offset_bits(local),
-                local.daylight as u64,
-                local.length as u64,
-                scale.correction as u64,
-            ],
-        },
-        LocalTime::Unknown => Said {
-            number: 0,
-            words: [0; 5],
-        },
-        LocalTime::Refused(why) => say_refused(refuse(why.number, 0, why.detail as u64)),
-    }
+    let found = match timed.time {
+        Ok(found) => found,
+        Err(why) => return say_refused(refuse(why.number, 0, why.detail as u64)),
+    };
+    let words = match found {
+        Some(local) => [
+            scale.kind as u64,
+            offset_bits(local),
+            local.daylight as u64,
+            local.length as u64,
+            scale.correction as u64,
+        ],
+        None => [0; 5],
+    };
+    Said { number: 0, words }
 }
 
 // Opens a file. Values: type, version, precision, field count, bytes used.
 pub fn uskelzar_open(file: &[u8], text: &mut [u8], reply: &mut [u64; 5]) -> u8
     ensures { spoken result reply.new (text.new ∷ []) ≡ opening_spoken (opened_of file.now (length text.old)) }
 {
-    speak(say_opened(open(file, text)), reply)
+    speak(say(open(file, text)), reply)
 }
 
 // Looks a location up. Values: matches, end mark, safezone bits (0 if not asked), bytes used.
@@ -125,7 +134,7 @@ pub fn uskelzar_lookup(
         ≡ found_spoken zones_values (looked_up file.now (record { lat = lat; lon = lon }) asked (length hits.old) (length text.old)) }
 {
     speak(
-        say_looked(lookup(file, Location { lat, lon }, asked, hits, text)),
+        say(lookup(file, Location { lat, lon }, asked, hits, text)),
         reply,
     )
 }
@@ -143,7 +152,7 @@ pub fn uskelzar_simple_lookup(
         ≡ found_spoken described_values (simply_looked file.now (record { lat = lat; lon = lon }) (length hits.old) (length text.old)) }
 {
     speak(
-        say_described(simple_lookup(file, Location { lat, lon }, hits, text)),
+        say(simple_lookup(file, Location { lat, lon }, hits, text)),
         reply,
     )
 }
@@ -163,7 +172,7 @@ pub fn uskelzar_lookup_atlas(
         ≡ found_spoken zones_values (looked_atlas file.now atlas.now (record { lat = lat; lon = lon }) asked (length hits.old) (length text.old)) }
 {
     speak(
-        say_looked(lookup_atlas(file, atlas, Location { lat, lon }, asked, hits, text)),
+        say(lookup_atlas(file, atlas, Location { lat, lon }, asked, hits, text)),
         reply,
     )
 }
@@ -182,7 +191,7 @@ pub fn uskelzar_simple_atlas(
         ≡ found_spoken described_values (simply_beside file.now atlas.now (record { lat = lat; lon = lon }) (length hits.old) (length text.old)) }
 {
     speak(
-        say_described(simple_atlas(file, atlas, Location { lat, lon }, hits, text)),
+        say(simple_atlas(file, atlas, Location { lat, lon }, hits, text)),
         reply,
     )
 }
@@ -191,7 +200,7 @@ pub fn uskelzar_simple_atlas(
 pub fn uskelzar_open_strict(file: &[u8], text: &mut [u8], reply: &mut [u64; 5]) -> u8
     ensures { spoken result reply.new (text.new ∷ []) ≡ opening_spoken (opened_strictly file.now (length text.old)) }
 {
-    speak(say_opened(open_strict(file, text)), reply)
+    speak(say(open_strict(file, text)), reply)
 }
 
 // Looks a location up as `uskelzar_lookup` does, but refuses a number that the file's end cuts: 31.
@@ -208,7 +217,7 @@ pub fn uskelzar_lookup_strict(
         ≡ found_spoken zones_values (looked_strictly file.now (record { lat = lat; lon = lon }) asked (length hits.old) (length text.old)) }
 {
     speak(
-        say_looked(lookup_strict(file, Location { lat, lon }, asked, hits, text)),
+        say(lookup_strict(file, Location { lat, lon }, asked, hits, text)),
         reply,
     )
 }

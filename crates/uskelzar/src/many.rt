@@ -4,14 +4,15 @@ ghost use Rattle.batch.specs.Many.{told_many, many_beside, looked_up_many};
 ghost use Rattle.numbers.specs.Spoken.{spoken};
 ghost use Rattle.uskelzar.specs.Many.{many_said, many_spoken};
 
-use batch::many::{Many, lookup_many, many_atlas};
+use batch::many::{Stop, Totals, lookup_many, many_atlas};
 use numbers::said::{Said, speak};
 
-fn say_many(many: Many) -> Said
+// Stays apart from `say`: a refusal has the index of its fix.
+fn say_many(many: Result<Totals, Stop>) -> Said
     ensures { result ≡ many_said (told_many many) }
 {
     match many {
-        Many::Totals(totals) => Said {
+        Ok(totals) => Said {
             number: 0,
             words: [
                 totals.fixes as u64,
@@ -21,7 +22,7 @@ fn say_many(many: Many) -> Said
                 0,
             ],
         },
-        Many::Refused(stop) => {
+        Err(stop) => {
             let why = stop.why;
             Said {
                 number: why.number,

@@ -4,7 +4,7 @@ ghost use Rattle.index.specs.{Through.{looked_through, looked_indexed}, Tied.{ti
 ghost use Rattle.numbers.specs.Spoken.{said_of, no_values, spoken};
 ghost use Rattle.uskelzar.specs.Spoken.{zones_values, found_spoken};
 
-use crate::say_looked;
+use crate::say;
 use index::lookup::{lookup_indexed, lookup_through};
 use index::tied::{index_tied, say_tied};
 use numbers::said::speak;
@@ -32,7 +32,7 @@ pub fn uskelzar_lookup_through(
         ≡ found_spoken zones_values (looked_through file.now index.now (record { lat = lat; lon = lon }) asked (length hits.old) (length text.old)) }
 {
     speak(
-        say_looked(lookup_through(file, index, Location { lat, lon }, asked, hits, text)),
+        say(lookup_through(file, index, Location { lat, lon }, asked, hits, text)),
         reply,
     )
 }
@@ -52,7 +52,7 @@ pub fn uskelzar_lookup_indexed(
         ≡ found_spoken zones_values (looked_indexed file.now index.now (record { lat = lat; lon = lon }) asked (length hits.old) (length text.old)) }
 {
     speak(
-        say_looked(lookup_indexed(file, index, Location { lat, lon }, asked, hits, text)),
+        say(lookup_indexed(file, index, Location { lat, lon }, asked, hits, text)),
         reply,
     )
 }

@@ -1,7 +1,7 @@
 -- `bundle::find::seek` meets its contract.
-use Rattle.numbers.proofs.Prelude.{◌++◌, map, refl, sym, ◌∙◌, arith}
+use Rattle.numbers.proofs.Prelude.{refl, sym, ◌∙◌, arith}
 use Rattle.bundle.proofs.{Entries.{seek_here, seek_on, seek_end}}
-use Rattle.bundle.specs.Bundle.{xored}
+use Rattle.bundle.specs.Named.{name_of}
 use Rattle.bundle.proofs.find.seek.Goals as goal
 
 pub loop-left-init : goal.loop-left-init
@@ -10,11 +10,11 @@ loop-left-init c =
 
 pub is_here-requires : goal.is_here-requires
 is_here-requires c =
-    (omega (arith, c.loop-left.invariant.1, c.loop-left-test.true), c.probe_of-probe.ensures, c.byte_of-byte.ensures)
+    omega (arith, c.loop-left.invariant.1, c.loop-left-test.true)
 
 pub returns-then-is_here : goal.returns-then-is_here
 returns-then-is_here c =
-    seek_here c.loop-left.left c.args.bundle.now (map (xored c.args.mask) (c.args.prefix.now ++ c.args.id.now)) c.loop-left.at c.loop-left-test.true (sym
+    seek_here c.loop-left.left c.args.bundle.now (name_of c.args.wanted) c.loop-left.at c.loop-left-test.true (sym
     c.is_here.ensures ∙ c.if-is_here.true) ∙ c.loop-left.invariant.0
 
 pub overflow_add-at : goal.overflow_add-at
@@ -23,11 +23,11 @@ overflow_add-at c =
 
 pub loop-left-preserved : goal.loop-left-preserved
 loop-left-preserved c = (
-  seek_on c.loop-left.left c.args.bundle.now (map (xored c.args.mask) (c.args.prefix.now ++ c.args.id.now)) c.loop-left.at c.loop-left-test.true (sym
+  seek_on c.loop-left.left c.args.bundle.now (name_of c.args.wanted) c.loop-left.at c.loop-left-test.true (sym
       c.is_here.ensures ∙ c.if-is_here.false) ∙ c.loop-left.invariant.0,
   omega (arith, c.loop-left.invariant.1),
 )
 
 pub returns : goal.returns
 returns c =
-    seek_end c.loop-left.left c.args.bundle.now (map (xored c.args.mask) (c.args.prefix.now ++ c.args.id.now)) c.loop-left.at (omega arith) ∙ c.loop-left.invariant.0
+    seek_end c.loop-left.left c.args.bundle.now (name_of c.args.wanted) c.loop-left.at (omega arith) ∙ c.loop-left.invariant.0

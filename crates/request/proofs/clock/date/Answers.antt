@@ -1,13 +1,12 @@
 -- `request::clock::date` meets its contract.
 use Rattle.numbers.{proofs.Prelude.{refl, sym, ap, ◌∙◌, arith}, specs.Reply.{refused}}
 use Rattle.request.proofs.{Numerals.{form_holds}, Times.{date_formless, date_dated, same_date}}
-use Rattle.request.specs.{Clock.{Date, full_year}, Request.{at}, Told.{dated, Below}}
+use Rattle.request.specs.{Clock.{Date, full_year}, Request.{at}, Told.{dated}}
 use Rattle.request.proofs.clock.date.Goals as goal
 
 pub returns-then-not-has_form : goal.returns-then-not-has_form
-unfolding Below
 returns-then-not-has_form c =
-    (ap refused c.refuse.ensures ∙ date_formless c.args.text.now c.args.place (sym c.has_form.ensures ∙ c.if-not-has_form.true), tt)
+    (ap refused c.at.ensures ∙ date_formless c.args.text.now c.args.place (sym c.has_form.ensures ∙ c.if-not-has_form.true), tt)
 
 pub part-day-requires : goal.part-day-requires
 part-day-requires c =

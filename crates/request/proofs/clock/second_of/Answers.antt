@@ -1,13 +1,11 @@
 -- `request::clock::second_of` meets its contract.
 use Rattle.numbers.{proofs.Prelude.{sym, ap, ◌∙◌, arith}, specs.Reply.{refused}}
 use Rattle.request.proofs.{Times.{in_time, second_short, no_time, time_given}}
-use Rattle.request.specs.Told.{Below}
 use Rattle.request.proofs.clock.second_of.Goals as goal
 
 pub returns-then-not-is_time : goal.returns-then-not-is_time
-unfolding Below
 returns-then-not-is_time c =
-    (ap refused c.refuse.ensures ∙ no_time _ c.args.place (sym c.is_time.ensures ∙ c.if-not-is_time.true), tt)
+    (ap refused c.at.ensures ∙ no_time _ c.args.place (sym c.is_time.ensures ∙ c.if-not-is_time.true), tt)
 
 pub overflow_mul-result : goal.overflow_mul-result
 overflow_mul-result c =
@@ -26,6 +24,5 @@ overflow_add-result-2 c =
     omega (arith, in_time _ (sym c.is_time.ensures ∙ c.if-not-is_time.false))
 
 pub returns : goal.returns
-unfolding Below
 returns c =
     (time_given _ c.args.place (sym c.is_time.ensures ∙ c.if-not-is_time.false), second_short _ (sym c.is_time.ensures ∙ c.if-not-is_time.false))

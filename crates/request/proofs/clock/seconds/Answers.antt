@@ -7,18 +7,18 @@ use Rattle.request.proofs.clock.seconds.Goals as goal
 pub returns-then-length-lt1 : goal.returns-then-length-lt1
 returns-then-length-lt1 c =
     let rest = rest_is c.args.text.now c.sign_size-sign.result ∙ c.sign_size-sign.ensures.0 in
-    ap refused c.refuse.ensures ∙ seconds_none c.args.text.now c.args.place (subst (λ (l : List ℕ). length l < 1) rest c.if-length-lt1.true)
+    ap refused c.at.ensures ∙ seconds_none c.args.text.now c.args.place (subst (λ (l : List ℕ). length l < 1) rest c.if-length-lt1.true)
 
 pub returns-then-length-gt19 : goal.returns-then-length-gt19
 returns-then-length-gt19 c =
     let rest = rest_is c.args.text.now c.sign_size-sign.result ∙ c.sign_size-sign.ensures.0 in
-    ap refused c.refuse-then-length-gt19.ensures ∙ seconds_long c.args.text.now c.args.place (subst (λ (l : List ℕ). 1 ≤ length l) rest c.if-length-lt1.false)
+    ap refused c.at-then-length-gt19.ensures ∙ seconds_long c.args.text.now c.args.place (subst (λ (l : List ℕ). 1 ≤ length l) rest c.if-length-lt1.false)
     (subst (λ (l : List ℕ). 19 < length l) rest c.if-length-gt19.true)
 
 pub returns-then-not-every : goal.returns-then-not-every
 returns-then-not-every c =
     let rest = rest_is c.args.text.now c.sign_size-sign.result ∙ c.sign_size-sign.ensures.0 in
-    ap refused c.refuse-then-not-every.ensures ∙ seconds_formless c.args.text.now c.args.place (subst (λ (l : List ℕ). 1 ≤ length l) rest c.if-length-lt1.false)
+    ap refused c.at-then-not-every.ensures ∙ seconds_formless c.args.text.now c.args.place (subst (λ (l : List ℕ). 1 ≤ length l) rest c.if-length-lt1.false)
     (subst (λ (l : List ℕ). length l ≤ 19) rest c.if-length-gt19.false) (ap digits (sym rest) ∙ sym c.every.ensures ∙ c.if-not-every.true)
 
 pub value-size-requires : goal.value-size-requires

@@ -10,7 +10,7 @@ returns-then-size-eq0 c =
 
 pub returns-then-size-gt9223372036854775808 : goal.returns-then-size-gt9223372036854775808
 returns-then-size-gt9223372036854775808 c =
-    ap refused c.refuse.ensures ∙ minus_over c.args.minus c.args.size c.args.place c.if-minus.true c.if-size-gt9223372036854775808.true
+    ap refused c.at.ensures ∙ minus_over c.args.minus c.args.size c.args.place c.if-minus.true c.if-size-gt9223372036854775808.true
 
 pub overflow_sub-result-then-minus : goal.overflow_sub-result-then-minus
 overflow_sub-result-then-minus c =
@@ -24,7 +24,7 @@ returns-then-minus c =
 
 pub returns-then-size-gt9223372036854775807 : goal.returns-then-size-gt9223372036854775807
 returns-then-size-gt9223372036854775807 c =
-    ap refused c.refuse-then-size-gt9223372036854775807.ensures ∙ plus_over c.args.minus c.args.size c.args.place c.if-minus.false c.if-size-gt9223372036854775807.true
+    ap refused c.at-then-size-gt9223372036854775807.ensures ∙ plus_over c.args.minus c.args.size c.args.place c.if-minus.false c.if-size-gt9223372036854775807.true
 
 pub returns : goal.returns
 returns c =

@@ -1,13 +1,12 @@
 -- `request::clock::time` meets its contract.
 use Rattle.numbers.{proofs.Prelude.{sym, ap, ◌∙◌, arith}, specs.Reply.{refused}}
 use Rattle.request.proofs.{Numerals.{form_holds}, Times.{time_formless, time_timely, same_time}}
-use Rattle.request.specs.{Clock.{Time}, Request.{at}, Told.{timely, Below}}
+use Rattle.request.specs.{Clock.{Time}, Request.{at}, Told.{timely}}
 use Rattle.request.proofs.clock.time.Goals as goal
 
 pub returns-then-not-has_form : goal.returns-then-not-has_form
-unfolding Below
 returns-then-not-has_form c =
-    (ap refused c.refuse.ensures ∙ time_formless c.args.text.now c.args.place (sym c.has_form.ensures ∙ c.if-not-has_form.true), tt)
+    (ap refused c.at.ensures ∙ time_formless c.args.text.now c.args.place (sym c.has_form.ensures ∙ c.if-not-has_form.true), tt)
 
 pub part-hour-requires : goal.part-hour-requires
 part-hour-requires c =

@@ -7,7 +7,7 @@ use Rattle.request.proofs.degrees.angle.Goals as goal
 pub returns-then-not-has_form : goal.returns-then-not-has_form
 unfolding IsSize
 returns-then-not-has_form c =
-    (ap refused c.refuse.ensures ∙ ap (at c.args.place) (angle_formless c.args.width c.args.limit c.args.text.now (sym c.has_form.ensures ∙ c.if-not-has_form.true)), tt)
+    (ap refused c.at.ensures ∙ ap (at c.args.place) (angle_formless c.args.width c.args.limit c.args.text.now (sym c.has_form.ensures ∙ c.if-not-has_form.true)), tt)
 
 pub part-minutes-requires : goal.part-minutes-requires
 part-minutes-requires c =
@@ -17,7 +17,7 @@ part-minutes-requires c =
 pub returns-then-minutes-gt59 : goal.returns-then-minutes-gt59
 unfolding IsSize
 returns-then-minutes-gt59 c = (
-  ap refused c.refuse-then-minutes-gt59.ensures ∙ angle_over c.args.width c.args.limit c.args.text.now (sym c.has_form.ensures
+  ap refused c.at-then-minutes-gt59.ensures ∙ angle_over c.args.width c.args.limit c.args.text.now (sym c.has_form.ensures
       ∙ c.if-not-has_form.false) (omega (arith, c.part-minutes.ensures.0, c.if-minutes-gt59.true)) c.args.place,
   tt,
 )

@@ -7,12 +7,12 @@ use Rattle.request.proofs.degrees.decimal.Goals as goal
 pub returns-then-whole-lt1 : goal.returns-then-whole-lt1
 unfolding IsSize
 returns-then-whole-lt1 c =
-    (ap refused c.refuse.ensures ∙ ap (at c.args.place) (decimal_none c.args.limit c.args.text.now (whole_is _ _ c.find-whole.ensures.0) c.if-whole-lt1.true), tt)
+    (ap refused c.at.ensures ∙ ap (at c.args.place) (decimal_none c.args.limit c.args.text.now (whole_is _ _ c.find-whole.ensures.0) c.if-whole-lt1.true), tt)
 
 pub returns-then-whole-gt3 : goal.returns-then-whole-gt3
 unfolding IsSize
 returns-then-whole-gt3 c = (
-  ap refused c.refuse-then-whole-gt3.ensures ∙ ap (at c.args.place) (decimal_long c.args.limit c.args.text.now (whole_is _ _ c.find-whole.ensures.0)
+  ap refused c.at-then-whole-gt3.ensures ∙ ap (at c.args.place) (decimal_long c.args.limit c.args.text.now (whole_is _ _ c.find-whole.ensures.0)
       c.if-whole-lt1.false c.if-whole-gt3.true),
   tt,
 )
@@ -20,7 +20,7 @@ returns-then-whole-gt3 c = (
 pub returns-then-not-has_form : goal.returns-then-not-has_form
 unfolding IsSize
 returns-then-not-has_form c = (
-  ap refused c.refuse-then-not-has_form.ensures ∙ ap (at c.args.place) (decimal_formless c.args.limit c.args.text.now (whole_is _ _ c.find-whole.ensures.0)
+  ap refused c.at-then-not-has_form.ensures ∙ ap (at c.args.place) (decimal_formless c.args.limit c.args.text.now (whole_is _ _ c.find-whole.ensures.0)
       c.if-whole-lt1.false c.if-whole-gt3.false (sym c.has_form.ensures ∙ c.if-not-has_form.true)),
   tt,
 )

@@ -11,7 +11,7 @@ overflow_mul-limit c =
 pub returns-then-limit-den : goal.returns-then-limit-den
 unfolding IsSize
 returns-then-limit-den c =
-    (ap refused c.refuse.ensures ∙ limit_over c.args.limit c.args.num c.args.den c.args.place c.if-limit-den.true, tt)
+    (ap refused c.at.ensures ∙ limit_over c.args.limit c.args.num c.args.den c.args.place c.if-limit-den.true, tt)
 
 pub returns : goal.returns
 unfolding IsSize

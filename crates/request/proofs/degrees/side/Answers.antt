@@ -13,5 +13,5 @@ returns-then-formed-2 c =
 
 pub returns : goal.returns
 returns c =
-    ap refused c.refuse.ensures ∙ side_none c.args.plus c.args.minus c.args.text.now c.args.place (sym c.formed.ensures ∙ c.if-formed.false) (sym c.formed-2.ensures
+    ap refused c.at.ensures ∙ side_none c.args.plus c.args.minus c.args.text.now c.args.place (sym c.formed.ensures ∙ c.if-formed.false) (sym c.formed-2.ensures
     ∙ c.if-formed-2.false)

@@ -1,15 +1,9 @@
 -- `request::sentence::date_in` meets its contract.
-use Rattle.numbers.{proofs.Prelude.{ap, ◌∙◌, arith}, specs.Reply.{Reply}}
-use Rattle.request.proofs.{Replied.{shown_in_field}}
+use Rattle.numbers.{proofs.Prelude.{ap, ◌∙◌}, specs.Reply.{Reply}}
+use Rattle.request.proofs.{Replied.{in_its_field}}
 use Rattle.request.specs.{Clock.{Date, date_of, day_of}, Told.{shown}}
 use Rattle.request.proofs.sentence.date_in.Goals as goal
 
-pub overflow_add-from : goal.overflow_add-from
-overflow_add-from c =
-    omega (arith, c.field_start-from.ensures.1, c.requires)
-
 pub returns : goal.returns
 returns c =
-    let field = shown_in_field 9 c.args.body.now c.field_start-from.result c.find-to.result c.field_start-from.ensures.0 c.find-to.ensures.0
-    c.field_start-from.ensures.1 date_of in
-    (c.date.ensures.0 ∙ ap (λ (r : Reply Date). shown r day_of) field, c.date.ensures.1)
+    (c.date.ensures.0 ∙ ap (λ (r : Reply Date). shown r day_of) (in_its_field 9 c.args.body.now c.field-said.ensures.0 c.field-said.ensures.1 date_of), c.date.ensures.1)

@@ -1,10 +1,7 @@
 -- `request::sentence::field_start` meets its contract.
-use Rattle.numbers.proofs.Prelude.{◌≤◌, length, drop, ◌≡◌}
+use Rattle.numbers.proofs.Prelude.{◌-◌, ◌≤◌, length, drop, ◌≡◌}
 use Rattle.request.specs.Text.{behind}
 use Rattle.request.proofs.sentence.field_start.Given as goal
 
-abbrev pub invariant-loop-left : goal.invariant-loop-left
-invariant-loop-left l = (behind l.left (drop l.at l.body) ≡ behind l.n l.body) × (l.at ≤ length l.body)
-
-abbrev pub decreases-loop-left : goal.decreases-loop-left
-decreases-loop-left l = l.left
+abbrev pub invariant-loop : goal.invariant-loop
+invariant-loop l = (behind (l.n - l.counter) (drop l.at l.body) ≡ behind l.n l.body) × (l.at ≤ length l.body)

@@ -10,7 +10,7 @@ sealed-requires c =
 
 pub returns-then-not-sealed : goal.returns-then-not-sealed
 returns-then-not-sealed c =
-    ap refused c.refuse.ensures ∙ ap (λ (n : ℕ). refused (refusal 82 0 n)) c.star_of-star.ensures ∙ not_sealed c.args.line.now (sym c.sealed.ensures
+    ap refused c.at.ensures ∙ ap (λ (n : ℕ). refused (refusal 82 0 n)) c.star_of-star.ensures ∙ not_sealed c.args.line.now (sym c.sealed.ensures
     ∙ c.if-not-sealed.true)
 
 pub slice_bounds-fields-count : goal.slice_bounds-fields-count

@@ -1,22 +1,19 @@
 -- `request::text::find` meets its contract.
-use Rattle.numbers.proofs.Prelude.{refl, sym, ◌∙◌, arith}
-use Rattle.request.proofs.{Texts.{until_end, until_stop, until_on}}
+use Rattle.numbers.proofs.Prelude.{eqb, drop, ◌||◌, sym, ap, ◌∙◌, arith, length-drop}
+use Rattle.std.specs.Prelude.{position}
+use Rattle.request.proofs.Texts.{rest_is, first_place, none_passes, until_place}
 use Rattle.request.proofs.text.find.Goals as goal
 
-pub loop-at-init : goal.loop-at-init
-loop-at-init c =
-    (refl, c.requires)
+pub returns-in-Some : goal.returns-in-Some
+returns-in-Some c =
+    let text = c.args.text.now in
+    let from = c.args.from in
+    let place = first_place (λ byte. eqb byte c.args.a || eqb byte c.args.b) (drop from text) (ap (position _) (sym (rest_is text from)) ∙ sym c.first_of.ensures ∙ c.in-Some.is) in
+    (omega (arith, place, until_place c.args.a c.args.b (drop from text)), omega (arith, place, length-drop from text, c.requires))
 
-pub returns-then-is_either : goal.returns-then-is_either
-returns-then-is_either c =
-    let stop = until_stop c.args.a c.args.b c.args.text.now c.loop-at.at c.loop-at-test.true (sym c.is_either.ensures ∙ c.if-is_either.true) in
-    (omega (arith, stop, c.loop-at.invariant), omega arith)
-
-pub loop-at-preserved : goal.loop-at-preserved
-loop-at-preserved c =
-    let on = until_on c.args.a c.args.b c.args.text.now c.loop-at.at c.loop-at-test.true (sym c.is_either.ensures ∙ c.if-is_either.false) in
-    (omega (arith, on, c.loop-at.invariant), omega arith)
-
-pub returns : goal.returns
-returns c =
-    (omega (arith, until_end c.args.a c.args.b c.args.text.now c.loop-at.at c.loop-at-test.false, c.loop-at.invariant), c.loop-at.invariant.1)
+pub returns-in-None : goal.returns-in-None
+returns-in-None c =
+    let text = c.args.text.now in
+    let from = c.args.from in
+    let none = none_passes (λ byte. eqb byte c.args.a || eqb byte c.args.b) (drop from text) (ap (position _) (sym (rest_is text from)) ∙ sym c.first_of.ensures ∙ c.in-None.is) in
+    (omega (arith, none, until_place c.args.a c.args.b (drop from text), length-drop from text, c.requires), omega arith)

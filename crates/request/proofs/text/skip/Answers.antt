@@ -1,20 +1,24 @@
 -- `request::text::skip` meets its contract.
-use Rattle.numbers.proofs.Prelude.{refl, sym, ◌∙◌, arith}
-use Rattle.request.proofs.{Texts.{blank_end, blank_stop, blank_on}}
+use Rattle.numbers.proofs.Prelude.{ℕ, ◌+◌, drop, length, ◌≡◌, sym, ap, ◌∙◌, arith, length-drop, drop-drop}
+use Rattle.std.specs.{Prelude.{position}, List.{position_or_len}}
+use Rattle.request.proofs.Texts.{rest_is, first_place, none_passes, no_blank, blanks_end}
 use Rattle.request.proofs.text.skip.Goals as goal
 
-pub loop-at-init : goal.loop-at-init
-loop-at-init c =
-    (refl, c.requires)
+pub returns-in-Some : goal.returns-in-Some
+returns-in-Some c =
+    let text = c.args.text.now in
+    let from = c.args.from in
+    let place = first_place no_blank (drop from text) (ap (position _) (sym (rest_is text from)) ∙ sym c.first_mark.ensures ∙ c.in-Some.is) in (
+      ap (λ (k : ℕ). drop (from + k) text) place.0 ∙ sym (drop-drop (position_or_len no_blank (drop from text)) from text) ∙ blanks_end (drop from text),
+      omega (arith, place, length-drop from text, c.requires),
+    )
 
-pub returns-then-not-is_either : goal.returns-then-not-is_either
-returns-then-not-is_either c =
-    (blank_stop c.args.text.now c.loop-at.at c.loop-at-test.true (sym c.is_either.ensures ∙ c.if-not-is_either.true) ∙ c.loop-at.invariant.0, omega arith)
-
-pub loop-at-preserved : goal.loop-at-preserved
-loop-at-preserved c =
-    (blank_on c.args.text.now c.loop-at.at c.loop-at-test.true (sym c.is_either.ensures ∙ c.if-not-is_either.false) ∙ c.loop-at.invariant.0, omega arith)
-
-pub returns : goal.returns
-returns c =
-    (blank_end c.args.text.now c.loop-at.at c.loop-at-test.false ∙ c.loop-at.invariant.0, c.loop-at.invariant.1)
+pub returns-in-None : goal.returns-in-None
+returns-in-None c =
+    let text = c.args.text.now in
+    let from = c.args.from in
+    let none = none_passes no_blank (drop from text) (ap (position _) (sym (rest_is text from)) ∙ sym c.first_mark.ensures ∙ c.in-None.is) in
+    let all : length text ≡ from + position_or_len no_blank (drop from text) = omega (arith, none, length-drop from text, c.requires) in (
+      ap (λ (k : ℕ). drop k text) all ∙ sym (drop-drop (position_or_len no_blank (drop from text)) from text) ∙ blanks_end (drop from text),
+      omega arith,
+    )

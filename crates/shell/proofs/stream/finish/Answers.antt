@@ -15,12 +15,12 @@ returns-then-request-eq0-clause-lines g c = subst (Appends _ _) (sym (end_none c
     c.if-request-eq0.true).1) (Appends-nil _)
 
 pub returns-clause-finished : goal.returns-clause-finished
-returns-clause-finished g c = finished_one _ _ _ c.answer-answered.result _ _ c.if-request-eq0.false c.answer-answered.ensures c.worse.ensures
+returns-clause-finished g c = finished_one _ _ _ c.answer-answered.result _ _ c.if-request-eq0.false c.answer-answered.ensures c.max.ensures
 
 pub returns-clause-faults : goal.returns-clause-faults
-returns-clause-faults g c = (end_one c.args.request.now _ _ c.answer-answered.result _ _ c.if-request-eq0.false c.answer-answered.ensures c.worse.ensures).0
+returns-clause-faults g c = (end_one c.args.request.now _ _ c.answer-answered.result _ _ c.if-request-eq0.false c.answer-answered.ensures c.max.ensures).0
 
 pub returns-clause-lines : goal.returns-clause-lines
 returns-clause-lines g c =
-    subst (Appends _ _) (end_one c.args.request.now _ _ c.answer-answered.result c.args.status c.worse.result c.if-request-eq0.false c.answer-answered.ensures
-    c.worse.ensures).1 c.in_ok-put_lines.ensures
+    subst (Appends _ _) (end_one c.args.request.now _ _ c.answer-answered.result c.args.status c.max.result c.if-request-eq0.false c.answer-answered.ensures
+    c.max.ensures).1 c.in_ok-put_lines.ensures

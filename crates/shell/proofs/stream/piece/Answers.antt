@@ -17,7 +17,7 @@ loop-at-preserved g c =
     let map = c.args.map.now in
     let zones = c.args.zones.now in
     let joined = ap (λ l. lines_of map zones s.done ++ l) t.lines ∙ sym (lines_both map zones s.done t.done) in (
-      sofar_turn c.take_turn-turned.result _ s t c.worse-worst.ensures,
+      sofar_turn c.take_turn-turned.result _ s t c.max-worst.ensures,
       subst (Appends _ _) joined (Appends-trans _ _ _ _ _ c.loop-at.invariant.1
           c.in_ok-put_lines.ensures),
     )

@@ -4,6 +4,5 @@ use Rattle.slip.specs.Hour.{blamed}
 use Rattle.slip.proofs.hour.blame.Goals as goal
 
 pub returns : goal.returns
-unfolding blamed
 returns c =
     c.refuse.ensures ∙ (λ i. refusal c.args.why.number (c.cause_of.ensures i) c.args.why.detail)

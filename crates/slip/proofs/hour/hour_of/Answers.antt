@@ -1,26 +1,19 @@
 -- `slip::hour::hour_of` meets its contract.
-use Rattle.numbers.{proofs.Prelude.{length, ◌≡◌, sym, ap, subst, ◌∙◌}, specs.Reply.{given}}
-use Rattle.slip.proofs.{Locals.{no_name, of_hour, of_fault}}
-use Rattle.slip.specs.{Hour.{name_of}, Told.{name_in, told_zone, LiesZone}, declared.name.Zone.{Zone}}
+use Rattle.numbers.{proofs.{Prelude.{length, sym, ap, ◌∙◌}, Replies.{held}}}
+use Rattle.request.specs.Told.{shown}
+use Rattle.slip.proofs.{Locals.{as_passed, no_name, of_reply, Of}}
+use Rattle.slip.specs.Told.{name_in}
+use Rattle.zones.specs.Simple.{LiesParts}
 use Rattle.slip.proofs.hour.hour_of.Goals as goal
 
-pub returns-in-Refused : goal.returns-in-Refused
-returns-in-Refused c =
-    no_name _ _ _ _ _ _ (sym (ap (told_zone c.args.map.now) c.in-Refused.is) ∙ c.zone_of.ensures.0)
+pub returns-in_err-name : goal.returns-in_err-name
+returns-in_err-name c =
+    as_passed (Of _ _ _ _ _ _) _ c.from_residual.ensures.1 (no_name _ _ _ _ _ _ (ap (λ reply. shown reply (name_in c.args.map.now)) (sym c.in_err-name.was) ∙ c.zone_of.ensures.0))
 
-pub hour_in-hour-requires : goal.hour_in-hour-requires
-unfolding LiesZone
-hour_in-hour-requires c =
-    subst (λ (zone : Zone). LiesZone (length c.args.map.now) zone) c.in-Name.is c.zone_of.ensures.1
+pub hour_in-requires : goal.hour_in-requires
+hour_in-requires c =
+    held (LiesParts (length c.args.map.now)) c.in_ok-name.was c.zone_of.ensures.1
 
-pub returns-in-Hour : goal.returns-in-Hour
-returns-in-Hour c =
-    let named : given (name_in c.args.map.now c.in-Name.name) ≡ name_of c.args.map.now c.args.head c.args.hit.metadata = sym (ap (told_zone c.args.map.now)
-    c.in-Name.is) ∙ c.zone_of.ensures.0 in
-    of_hour _ _ _ _ _ _ named _ c.hour_in-hour.ensures.0 c.hour_in-hour.ensures.1 c.in-Hour.is
-
-pub returns-in-Refused-hour : goal.returns-in-Refused-hour
-returns-in-Refused-hour c =
-    let named : given (name_in c.args.map.now c.in-Name.name) ≡ name_of c.args.map.now c.args.head c.args.hit.metadata = sym (ap (told_zone c.args.map.now)
-    c.in-Name.is) ∙ c.zone_of.ensures.0 in
-    of_fault _ _ _ _ _ _ named _ c.hour_in-hour.ensures.0 c.hour_in-hour.ensures.1 c.in-Refused-hour.is c.blame.ensures
+pub returns : goal.returns
+returns c =
+    of_reply _ _ _ _ _ _ (ap (λ reply. shown reply (name_in c.args.map.now)) (sym c.in_ok-name.was) ∙ c.zone_of.ensures.0) _ c.hour_in.ensures.0 c.hour_in.ensures.1 c.of_match.ensures

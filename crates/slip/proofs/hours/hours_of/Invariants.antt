@@ -5,7 +5,4 @@ use Rattle.table.{specs.Hits.{slots}}
 use Rattle.slip.proofs.hours.hours_of.Given as goal
 
 abbrev pub invariant-loop-i : goal.invariant-loop-i
-invariant-loop-i l = Agreeing l.map l.head l.zones l.fix.instant (take l.count (slots l.hits)) l.first l.agree l.i × (l.i ≤ l.count)
-
-abbrev pub decreases-loop-i : goal.decreases-loop-i
-decreases-loop-i l = l.count - l.i
+invariant-loop-i l = Agreeing l.map l.head l.zones l.fix.instant (take l.count (slots l.hits)) l.first l.agree l.i

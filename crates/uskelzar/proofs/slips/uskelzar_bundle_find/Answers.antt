@@ -6,4 +6,4 @@ use Rattle.uskelzar.proofs.slips.uskelzar_bundle_find.Goals as goal
 
 pub returns : goal.returns
 returns c =
-    beside _ c.speak.ensures c.say_found.ensures ∙ ap (reply_spoken file_values) (c.find.ensures ∙ ap (find_of c.args.bundle.now) (xored_zero c.args.name.now))
+    beside _ c.speak.ensures c.say.ensures ∙ ap (reply_spoken file_values) (c.find.ensures ∙ ap (find_of c.args.bundle.now) (xored_zero c.args.name.now))
