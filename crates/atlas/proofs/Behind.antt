@@ -8,7 +8,7 @@ use lib.Seq.{drop-append-add}
 use Rattle.border.specs.declared.reader.{Encoding.{Encoding}, Reader.{Reader}}
 use Rattle.header.specs.{Header.{head_of}, declared.header.Head.{Head}}
 use Rattle.index.{proofs.{Sides.{and_first}, Standing.{so_both, and_not}, Stores.{set_before, sets_before, read_below, same_word}}, specs.Index.{joined, records_at, index_of, has_room}}
-use Rattle.index.specs.{Index.{built_with, built_in, index_with, index_in, Indexed, indexed, indexed_by, indexed_of, told_built}, Table.{table_of}, Tied.{word_at}, declared.build.Built.{Built}}
+use Rattle.index.specs.{Index.{built_with, built_in, index_with, index_in, Indexed, indexed, indexed_by, indexed_of}, Table.{table_of}, Tied.{word_at}}
 use Rattle.marks.{proofs.Marked.{marks_length}, specs.Marks.{low, marks_from, stretch_edges, group_edges, groups_of, levels_from, counted}}
 use Rattle.table.specs.{Find.{is_precision}, declared.rows.Row.{Row}}
 use Rattle.atlas.proofs.Beside.{entries_length, index_long, rows_there, marks_by_words}
@@ -16,7 +16,6 @@ use Rattle.atlas.specs.{Atlas.{marks_for, marks_in, entry_of, entries_from, besi
 use Rattle.atlas.specs.inner.{Building.{marks_at_record, marks_by, behind_by, behind_of, size_of, entry_for, PutOne}, Marking.{marks_of}}
 use Rattle.writer.specs.inner.Stored.{Stored}
 use Rattle.index.proofs.Whole as W
-use Rattle.index.specs.declared.build.Built.TheVariants as T
 
 -- ---- the word of an entry
 pub entry_is : (at next first : ℕ) (list : List ℕ) → next ≡ at + length list → first ≤ at → entry_for (at - first) (next - first) ≡ entry_of (at - first) list
@@ -248,8 +247,8 @@ module _ (file : List ℕ) (n : ℕ) where
         impossible e = let z : ◌≡◌ {A = ℕ} 0 1 = cc in absurd (omega arith)
       go (refused w) same e = not_made (no_index (ap (λ (r : Refusal). refused r) (ap (λ (i : Indexed). why_of w i.reply) e) ∙ same)) (ap (λ (i : Indexed). i.words) e)
 
-    pub refused_told : {why : Refusal} {ws : List ℕ} {r : Built} → indexed (told_built r) ws ≡ indexed_of file n → r ≡ T.Refused why → indexed (refused why) ws ≡ atlas_made file n
-    refused_told {why} {ws} e u = refused_made (ap (λ (b : Built). indexed (told_built b) ws) (sym u) ∙ e)
+    pub refused_told : {why : Refusal} {ws : List ℕ} {r : Reply ℕ} → indexed r ws ≡ indexed_of file n → r ≡ refused why → indexed (refused why) ws ≡ atlas_made file n
+    refused_told {why} {ws} e u = refused_made (ap (λ (b : Reply ℕ). indexed b ws) (sym u) ∙ e)
 
     module _ (precise : is_precision head.preamble.precision ≡ true) {rows : List Row} (listed : given rows ≡ table_of file head) where
       pub with_room : has_room n (length (atlas_of file head rows)) ≡ true → given (atlas_of file head rows) ≡ atlas_in file n
@@ -291,9 +290,9 @@ index_made file n {used} {ws} {head} opened e = go (index_in file n) refl e wher
     impossible : {A : Type 0} → given used ≡ refused why → A
     impossible e = let z : ◌≡◌ {A = ℕ} 0 1 = cc in absurd (omega arith)
 
-pub index_told : (file : List ℕ) (n : ℕ) {used : ℕ} {ws : List ℕ} {head : Head} {r : Built} → given head ≡ head_of file → indexed (told_built r) ws ≡ indexed_of file n
-    → r ≡ T.Used used → IndexMade file n used ws head
-index_told file n {used} {ws} opened e u = index_made file n opened (ap (λ (b : Built). indexed (told_built b) ws) (sym u) ∙ e)
+pub index_told : (file : List ℕ) (n : ℕ) {used : ℕ} {ws : List ℕ} {head : Head} {r : Reply ℕ} → given head ≡ head_of file → indexed r ws ≡ indexed_of file n
+    → r ≡ given used → IndexMade file n used ws head
+index_told file n {used} {ws} opened e u = index_made file n opened (ap (λ (b : Reply ℕ). indexed b ws) (sym u) ∙ e)
 
 -- words over the zeros behind others
 pub over_zeros : (n : ℕ) (xs ys : List ℕ) → length xs + length ys ≤ n → sets (padded n xs) (length xs) ys ≡ padded n (xs ++ ys)

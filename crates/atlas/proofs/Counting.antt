@@ -1,20 +1,20 @@
 -- The loop over a border's edges, turn by turn. Assumes nothing.
-use Rattle.numbers.{proofs.Prelude.{ℕ, zero, suc, ◌+◌, ◌-◌, ◌^◌, ◌≤◌, ◌<◌, tag_of, true, false, List, [], ◌∷◌, ◌≡◌, refl, sym, ap, ◌∙◌, arith, OneOf, miss}, specs.Answer.{Answer, if◌then◌else◌}}
-use Rattle.border.specs.{Trace.{reaches, next_point}, declared.{place.Point.{Point}, reader.{Encoding.{Encoding}, Next.{Next}, Reader.{Reader}}}}
+use Rattle.std.specs.Prelude.{Err}
+use Rattle.numbers.{proofs.Prelude.{ℕ, zero, suc, ◌+◌, ◌-◌, ◌^◌, ◌≤◌, ◌<◌, true, false, List, ◌≡◌, refl, sym, ap, ◌∙◌, arith}, specs.{Answer.{Answer, if◌then◌else◌}, Varint.{told}}}
+use Rattle.numbers.specs.declared.varint.Stop.{Stop, TheVariants.{Failed, TooLong, Incomplete, OutOfRange, PastEnd}}
+use Rattle.verdict.specs.Edge.{same_point}
+use Rattle.border.specs.{Trace.{Given, reaches, ended, next_point}, declared.{place.Point.{Point}, reader.{Encoding.{Encoding}, Reader.{Reader}}}}
 use Rattle.marks.specs.Marks.{is_markable, edges_then, edges_from, most_points}
-use Rattle.border.specs.inner.Told as R
 use Rattle.numbers.specs.Answer as A
-use Rattle.border.specs.declared.reader.Next.TheVariants as N
-use Rattle.border.specs.contracts.reader.Next as Next'
 
--- where there is no further point it does not matter how the count goes on
-no_more : (first : Point) (s : Reader) (n : ℕ) (go go' : Reader → Answer ℕ) (next : Next) → OneOf (1 ∷ 2 ∷ 3 ∷ []) (tag_of Next'.the_type next)
-    → edges_then first s n go (R.told next) ≡ edges_then first s n go' (R.told next)
+-- a border that can't be read on has no edges
+stopped : (first : Point) (s : Reader) (n : ℕ) (go : Reader → Answer ℕ) (stop : Stop) → A.failed ≡ edges_then first s n go (told (Err stop))
 unfolding edges_then
-no_more first s n go go' (N.Point t) o = absurd (miss (1 ∷ 2 ∷ 3 ∷ []) 0 tt o)
-no_more first s n go go' N.Ended o = refl
-no_more first s n go go' N.Failed o = refl
-no_more first s n go go' (N.Refused k) o = refl
+stopped first s n go Failed = refl
+stopped first s n go TooLong = refl
+stopped first s n go Incomplete = refl
+stopped first s n go OutOfRange = refl
+stopped first s n go PastEnd = refl
 
 many : 0 + most_points ≡ 2 ^ 24
 unfolding most_points
@@ -58,9 +58,12 @@ module _ (file : List ℕ) (encoding : Encoding) (start : Reader) where
       whole : edges_then start.point reader n onward (next_point file encoding reader) ≡ all
       whole = sym (unrolled c.left (omega (arith, more, c.sum))) ∙ c.same
 
-      pub counting_ends : (next : Next) → R.told next ≡ next_point file encoding reader → OneOf (1 ∷ 2 ∷ 3 ∷ []) (tag_of Next'.the_type next)
-          → edges_then start.point reader n (λ t. A.failed) (R.told next) ≡ all
-      counting_ends next e o = no_more start.point reader n (λ t. A.failed) onward next o ∙ ap (edges_then start.point reader n onward) e ∙ whole
+      pub counting_stops : (stop : Stop) → told (Err stop) ≡ next_point file encoding reader → A.failed ≡ all
+      counting_stops stop e = stopped start.point reader n onward stop ∙ ap (edges_then start.point reader n onward) e ∙ whole
+
+      pub counting_ends : A.found ended ≡ next_point file encoding reader → (if same_point reader.point start.point then A.found n else A.failed) ≡ all
+      unfolding edges_then
+      counting_ends e = ap (edges_then start.point reader n onward) e ∙ whole
 
       module _ (later : Reader) (is : A.found (reaches later) ≡ next_point file encoding reader) where
         here : (if is_markable start.point reader then onward later else A.failed) ≡ all

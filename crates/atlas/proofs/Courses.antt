@@ -1,13 +1,12 @@
 -- The marks of a border by its first state. Assumes nothing.
-use Rattle.numbers.proofs.Prelude.{ℕ, zero, suc, ◌+◌, ◌/◌, ◌^◌, ◌≤◌, tag_of, ltb, Bool, true, false, List, [], ◌∷◌, ◌≡◌, refl, sym, ◌∙◌, arith, OneOf}
-use Rattle.numbers.{proofs.Answers.{found_one}, specs.Answer.{Answer, if◌then◌else◌}}
-use Rattle.border.specs.{Trace.{Given, reaches, ended, next_point, border_at}, declared.{place.Point.{Point}, reader.{Encoding.{Encoding}, Next.{Next}, Reader.{Reader}}}}
+use Rattle.std.specs.{Prelude.{Result}, Result.{result_unwrap_or}}
+use Rattle.numbers.proofs.Prelude.{ℕ, zero, suc, ◌+◌, ◌/◌, ◌^◌, ◌≤◌, ltb, Bool, true, false, List, [], ◌∷◌, ◌≡◌, refl, sym, ◌∙◌, arith}
+use Rattle.numbers.{proofs.Answers.{found_one}, specs.{Answer.{Answer, if◌then◌else◌}, Varint.{told}, declared.varint.Stop.{Stop}}}
+use Rattle.border.specs.{Trace.{Given, reaches, ended, next_point, border_at}, declared.{place.Point.{Point}, reader.{Encoding.{Encoding}, Reader.{Reader}}}}
 use Rattle.marks.specs.Marks.{next_or, is_markable, edges_then, edges_from, most_points, few_edges, stretches_of, stretches_from, stretches_in, levels_from, counted, marks_at}
 use Rattle.atlas.proofs.Nexts.{none_next}
 use Rattle.verdict.specs.Edge.{same_point}
-use Rattle.border.specs.inner.Told as R
 use Rattle.numbers.specs.Answer as A
-use Rattle.border.specs.contracts.reader.Next as Next'
 
 -- ---- there are few
 module _ (first : Point) (s : Reader) (n more : ℕ) (go : Reader → Answer ℕ) (few : (t : Reader) (m : ℕ) → go t ≡ A.found m → m ≤ n + 1 + more) where
@@ -45,7 +44,7 @@ module _ (file : List ℕ) (encoding : Encoding) (place : ℕ) {start : Reader} 
   abbrev from : Reader → List ℕ
   from s = counted (stretches_in file encoding s) (levels_from (stretches_in file encoding s) file encoding s)
 
-  pub no_course : (next : Next) → R.told next ≡ next_point file encoding start → OneOf (1 ∷ 2 ∷ 3 ∷ []) (tag_of Next'.the_type next) → (xs : List ℕ) → counted 0 xs ≡ marks_at file encoding place
+  pub no_course : (next : Result Given Stop) → told next ≡ next_point file encoding start → result_unwrap_or next ended ≡ ended → (xs : List ℕ) → counted 0 xs ≡ marks_at file encoding place
   unfolding marks_at counted
   no_course next e o xs = sym (none_next next [] from o) ∙ (λ i. next_or (e i) [] from) ∙ (λ i. next_or (next_point file encoding (opens i)) [] from)
 

@@ -1,5 +1,4 @@
 -- Laws on plain values that the functions' proofs cite.
-pub mod Bits
 pub mod Counting
 pub mod Nexts
 pub mod Spanning

@@ -1,4 +1,5 @@
 -- What holding words against an atlas comes to: entry by entry, and as a whole. Assumes nothing.
+use Rattle.std.specs.Prelude.{is_err}
 use Rattle.numbers.proofs.Prelude.{ℕ, ◌+◌, ◌-◌, ◌*◌, ◌^◌, ◌≤◌, ◌<◌, lt-ltb, le-leb, le-ltb, leb-true, ltb-true, lt-leb, ltb, leb, length, take, drop, get_or, length-append, length-replicate}
 use Rattle.numbers.proofs.Prelude.{take-append-drop, length-take-le, get_or-take, take-append_seam, Bool, true, false, ◌&&◌, List, ◌++◌, append_assoc, append-nil, ◌≡◌, refl, sym, ap, subst, ◌∙◌}
 use Rattle.numbers.proofs.Prelude.{arith}
@@ -20,6 +21,11 @@ use Rattle.atlas.specs.inner.Building.{marks_at_record, marks_by, behind_by, beh
 pub stood : (test : Bool) (at next : ℕ) → given next ≡ (demand test (plain 36) >> given at) → (test ≡ true) × (next ≡ at)
 stood true at next e = (refl, given_one e)
 stood false at next e = let z : ◌≡◌ {A = ℕ} 0 1 = cc in absurd (omega arith)
+
+pub one_why : (word list : Bool) (next : ℕ) {why : Refusal} → refused why ≡ (demand word (plain 36) >> (demand list (plain 36) >> given next)) → why ≡ plain 36
+one_why false list next e = cc
+one_why true false next e = cc
+one_why true true next e = let z : ◌≡◌ {A = ℕ} 0 1 = cc in absurd (omega arith)
 
 pub not_stood : (test : Bool) (at : ℕ) {why : Refusal} → refused why ≡ (demand test (plain 36) >> given at) → test ≡ false
 not_stood true at e = let z : ◌≡◌ {A = ℕ} 0 1 = cc in absurd (omega arith)
@@ -375,6 +381,11 @@ module _ (file words : List ℕ) {head : Head} (opened : given head ≡ head_of 
         let given_so = with_room file (length words) opened made_so.precise made_so.listed room in
         sym ((is_atlas_exactly file words).1 (length (atlas_of file head made_so.rows), sym (made file (length words) given_so refl whole_so)))
 
+-- an index was said yes of
+pub is_tied : {x : Reply (Unit {0})} (r : Reply (Unit {0})) → is_err r ≡ false → r ≡ x → x ≡ given tt
+is_tied (given tt) fine e = sym e
+is_tied (refused why) fine e = differ (sym fine)
+
 -- ---- and no others
 module _ (file words : List ℕ) where
   not_test : (b : Bool) → (b ≡ true → ⊥) → refused (plain 36) ≡ demand b (plain 36)
@@ -389,9 +400,10 @@ module _ (file words : List ℕ) where
   never : {A : Type 0} {why : Refusal} → ◌≡◌ {A = Reply (Unit {0})} (refused why) (given tt) → A
   never e = let z : ◌≡◌ {A = ℕ} 0 1 = cc in absurd (omega arith)
 
-  pub not_index : {why : Refusal} → refused why ≡ is_index_of file (take (end_of words) words) → refused (plain 36) ≡ is_atlas_of file words
+  pub not_index : (r : Reply (Unit {0})) → is_err r ≡ true → r ≡ is_index_of file (take (end_of words) words) → refused (plain 36) ≡ is_atlas_of file words
   unfolding is_atlas_of
-  not_index e = not_test _ (λ b. never (e ∙ is_index_in file words (was_made b)))
+  not_index (given u) no_index e = differ no_index
+  not_index (refused why) no_index e = not_test _ (λ b. never (e ∙ is_index_in file words (was_made b)))
 
   pub not_opened : {why : Refusal} → refused why ≡ head_of file → refused (plain 36) ≡ is_atlas_of file words
   unfolding is_atlas_of

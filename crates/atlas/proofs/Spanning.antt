@@ -1,11 +1,10 @@
 -- The loop over the points of a stretch, turn by turn. Assumes nothing.
-use Rattle.numbers.proofs.Prelude.{ℕ, zero, suc, ◌+◌, ◌-◌, ◌≤◌, ◌<◌, tag_of, List, [], ◌∷◌, ◌≡◌, refl, sym, ap, ◌∙◌, arith, OneOf}
-use Rattle.border.specs.{Box.{Box, grown}, Trace.{reaches, next_point}, declared.reader.{Encoding.{Encoding}, Next.{Next}, Reader.{Reader}}}
+use Rattle.std.specs.{Prelude.{Result}, Result.{result_unwrap_or}}
+use Rattle.numbers.{proofs.Prelude.{ℕ, zero, suc, ◌+◌, ◌-◌, ◌≤◌, ◌<◌, List, ◌≡◌, refl, sym, ap, ◌∙◌, arith}, specs.{Varint.{told}, declared.varint.Stop.{Stop}}}
+use Rattle.border.specs.{Box.{Box, grown}, Trace.{Given, reaches, ended, next_point}, declared.reader.{Encoding.{Encoding}, Reader.{Reader}}}
 use Rattle.marks.specs.Marks.{next_or, Span, spanned, span_over, span_from}
 use Rattle.atlas.proofs.Nexts.{none_next}
-use Rattle.border.specs.inner.Told as R
 use Rattle.numbers.specs.Answer as A
-use Rattle.border.specs.contracts.reader.Next as Next'
 
 module _ (edges : ℕ) (file : List ℕ) (encoding : Encoding) (start : Reader) where
   abbrev all : Span
@@ -45,7 +44,7 @@ module _ (edges : ℕ) (file : List ℕ) (encoding : Encoding) (start : Reader) 
       whole : next_or (next_point file encoding reader) (spanned box reader) onward ≡ all
       whole = sym (unrolled s.left (omega (arith, more, s.sum))) ∙ s.same
 
-      pub spanning_ends : (next : Next) → R.told next ≡ next_point file encoding reader → OneOf (1 ∷ 2 ∷ 3 ∷ []) (tag_of Next'.the_type next) → spanned box reader ≡ all
+      pub spanning_ends : (next : Result Given Stop) → told next ≡ next_point file encoding reader → result_unwrap_or next ended ≡ ended → spanned box reader ≡ all
       spanning_ends next e o = sym (none_next next (spanned box reader) onward o) ∙ (λ i. next_or (e i) (spanned box reader) onward) ∙ whole
 
       pub spanning_on : (later : Reader) → A.found (reaches later) ≡ next_point file encoding reader → {box' : Box} → box' ≡ grown box later.point → Spanning box' later (n + 1)

@@ -3,11 +3,10 @@ use Rattle.numbers.proofs.Prelude.{ℕ, ◌-◌, leb-true, ltb, leb, length, len
 use Rattle.numbers.{proofs.{Refusals.{Listed, still_listed}, Replies.{then_reply, number_of_lem}, Tests.{both, differ}}, specs.Lists.{zeros}}
 use Rattle.numbers.specs.{Reply.{Reply, given, refused, plain, demand, ◌>>=◌}, declared.refusal.Refusal.{Refusal}}
 use Rattle.header.{proofs.Numbered.{header_numbers, head_numbered}, specs.Header.{head_of}}
-use Rattle.index.{proofs.{Refusing.{building_numbers, words_numbered, replied_numbered, no_words}, Same.{same_built, same_tie}}, specs.Index.{indexed, told_built, built_in}}
-use Rattle.index.specs.{Tied.{told_tied}, declared.{build.Built.{Built}, tied.Tied.{Tied}}}
+use Rattle.index.{proofs.{Refusing.{building_numbers, words_numbered, replied_numbered, no_words}, Same.{same_built, same_tie}}, specs.Index.{indexed, built_in}}
 use Rattle.table.specs.declared.location.Location.{Location}
-use Rattle.zones.{proofs.{NumberedLookup.{lookup_numbers, lookup_refusals}, RefusalZeroes.{both_zero}, SameLookup.{same_looked}}, specs.{Lent.{Replied, replied}, Lookup.{told_looked}}}
-use Rattle.zones.specs.declared.lookup.{Looked.{Looked}, Zones.{Zones}}
+use Rattle.zones.{proofs.{NumberedLookup.{lookup_numbers, lookup_refusals}, RefusalZeroes.{both_zero}, SameLookup.{same_looked}}, specs.Lent.{Replied, replied}}
+use Rattle.zones.specs.declared.lookup.Zones.{Zones}
 use Rattle.atlas.proofs.AtlasIsPlain.{made_from, is_atlas_exactly, atlas_is_plain}
 use Rattle.atlas.specs.{Atlas.{atlas_of, atlas_in, atlas_made, is_made, is_atlas_of}, Looked.{zones_atlas, looked_atlas}}
 
@@ -62,22 +61,22 @@ module _ (file words : List ℕ) (location : Location) (asked : Bool) (n room : 
   own_atlas_refusals e why r = lookup_refusals file location asked n room why (ap (λ (x : Replied Zones). x.reply) (sym (atlas_is_plain file words e location asked n room)) ∙ r)
 
   -- With any words at all the reply and all lent output are fixed; `lookup_atlas` has no `requires`, so that it ends and stays inside what it was lent.
-  pub atlas_safe : (r r' : Looked) (hs hs' ts ts' : List ℕ) → replied (told_looked r) hs ts ≡ looked_atlas file words location asked n room
-      → replied (told_looked r') hs' ts' ≡ looked_atlas file words location asked n room → (r ≡ r') × (hs ≡ hs') × (ts ≡ ts')
+  pub atlas_safe : (r r' : Reply Zones) (hs hs' ts ts' : List ℕ) → replied r hs ts ≡ looked_atlas file words location asked n room
+      → replied r' hs' ts' ≡ looked_atlas file words location asked n room → (r ≡ r') × (hs ≡ hs') × (ts ≡ ts')
   atlas_safe = same_looked {promised = looked_atlas file words location asked n room}
 
 -- ---- what the promises fix
 -- Two replies that a promise permits are equal, with all lent output: of `lookup_atlas`,
-pub atlas_one_reply : (file words : List ℕ) (location : Location) (asked : Bool) (n room : ℕ) (r r' : Looked) (hs hs' ts ts' : List ℕ)
-    → replied (told_looked r) hs ts ≡ looked_atlas file words location asked n room → replied (told_looked r') hs' ts' ≡ looked_atlas file words location asked n room
+pub atlas_one_reply : (file words : List ℕ) (location : Location) (asked : Bool) (n room : ℕ) (r r' : Reply Zones) (hs hs' ts ts' : List ℕ)
+    → replied r hs ts ≡ looked_atlas file words location asked n room → replied r' hs' ts' ≡ looked_atlas file words location asked n room
     → (r ≡ r') × (hs ≡ hs') × (ts ≡ ts')
 atlas_one_reply = atlas_safe
 
 -- of `build_atlas`,
-pub same_atlas_built : (file : List ℕ) (n : ℕ) (r r' : Built) (ws ws' : List ℕ) → indexed (told_built r) ws ≡ atlas_made file n → indexed (told_built r') ws' ≡ atlas_made file n
+pub same_atlas_built : (file : List ℕ) (n : ℕ) (r r' : Reply ℕ) (ws ws' : List ℕ) → indexed r ws ≡ atlas_made file n → indexed r' ws' ≡ atlas_made file n
     → (r ≡ r') × (ws ≡ ws')
 same_atlas_built file n = same_built {promised = atlas_made file n}
 
 -- and of `is_atlas`.
-pub same_atlas_held : (file words : List ℕ) (r r' : Tied) → told_tied r ≡ is_atlas_of file words → told_tied r' ≡ is_atlas_of file words → r ≡ r'
+pub same_atlas_held : (file words : List ℕ) (r r' : Reply (Unit {0})) → r ≡ is_atlas_of file words → r' ≡ is_atlas_of file words → r ≡ r'
 same_atlas_held file words = same_tie {promised = is_atlas_of file words}

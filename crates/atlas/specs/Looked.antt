@@ -5,8 +5,7 @@ use Rattle.header.specs.{Header.{head_of}, declared.header.Head.{Head}}
 use Rattle.index.specs.{Index.{tiles, records_at}, Through.{start_of, place_of}, Tied.{word_at}}
 use Rattle.table.specs.{Find.{Matched}, Hits.{width}, MarkedRows.{matched_marked}, declared.location.Location.{Location}}
 use Rattle.zones.specs.{Lent.{Outcome, Replied, replied_of}, Lookup.{zones_from}, declared.lookup.Zones.{Zones}}
-use Rattle.atlas.specs.declared.parts.{Parting.{Parting}, Parts.{Parts}}
-use Rattle.atlas.specs.declared.parts.Parting.TheVariants as P
+use Rattle.atlas.specs.declared.parts.Parts.{Parts}
 
 -- the length of all words stands behind the lists, and they are as many: a list that was cut is seen
 abbrev pub is_whole : List ℕ → Bool
@@ -36,8 +35,3 @@ zones_atlas file head words location asked n room = zones_from file head asked r
 -- the reply and both lent buffers
 unfoldable pub looked_atlas : List ℕ → List ℕ → Location → Bool → ℕ → ℕ → Replied Zones
 looked_atlas file words location asked n room = replied_of n room (head_of file >>= λ head. zones_atlas file head words location asked n room)
-
--- ---- the code's answer
-abbrev pub told_parts : Parting → Reply Parts
-told_parts (P.At parts) = given parts
-told_parts (P.Refused why) = refused why

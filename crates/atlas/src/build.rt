@@ -1,16 +1,18 @@
 // Building an atlas: the index, and behind it the length of all words, the entries and the marks.
 ghost use Rattle.std.specs.Prelude.{◌≡◌, ◌+◌, ◌*◌, ◌^◌, ◌<◌, ◌≤◌, length};
 ghost use Rattle.atlas.specs.{Atlas.{beside_of, atlas_made}, inner.Building.{marks_by, behind_of}};
-ghost use Rattle.index.specs.{Index.{records_at, indexed, told_built}, Tied.{word_at}};
+ghost use Rattle.index.specs.{Index.{records_at, indexed}, Tied.{word_at}};
 ghost use Rattle.writer.specs.inner.Stored.{Stored};
 
 use crate::entry::put_one;
-use crate::words::{low_of, put};
-use header::header::{Head, Headed, head_of};
+use crate::words::low_of;
+use header::header::{Head, head_of};
 use header::zero::zero_words;
-use index::build::{Built, NO_INDEX_ROOM, build_index};
+use index::build::build_index;
 use index::tied::wide;
-use numbers::refusal::plain;
+use index::words::put;
+use numbers::fault::Fault;
+use numbers::refusal::Refusal;
 
 // Entries and marks, by the records in the words: the words before `first` stay.
 fn put_beside(file: &[u8], head: Head, words: &mut [u32], n: usize, first: usize) -> usize
@@ -18,11 +20,8 @@ fn put_beside(file: &[u8], head: Head, words: &mut [u32], n: usize, first: usize
     ensures { Stored words.old first (beside_of (marks_by file.now head words.old n 0)) words.new result }
 {
     let mut at = first + n;
-    let mut k = 0;
-    while k < n {
-        let next = put_one(file, head, words, first, k, at);
-        at = next;
-        k += 1;
+    for k in 0..n {
+        at = put_one(file, head, words, first, k, at);
     }
     at
 }
@@ -38,29 +37,26 @@ fn put_behind(file: &[u8], head: Head, words: &mut [u32], used: usize) -> usize
     all
 }
 
-// The atlas of a file goes into the lent words. Refused: opening's numbers, 16, 34, and 35 last; then every word is zero.
-pub fn build_atlas(file: &[u8], words: &mut [u32]) -> Built
-    ensures { indexed (told_built result) words.new ≡ atlas_made file.now (length words.old) }
+// The atlas of a file goes into the lent words. The answer: how many are used. Refused: opening's numbers, 16, 34, and 35 last; then every word is zero.
+pub fn build_atlas(file: &[u8], words: &mut [u32]) -> Result<usize, Refusal>
+    ensures { indexed result words.new ≡ atlas_made file.now (length words.old) }
 {
     let head = match head_of(file) {
-        Headed::Head(head) => head,
-        Headed::Refused(why) => {
+        Ok(head) => head,
+        Err(why) => {
             zero_words(words);
-            return Built::Refused(why);
+            return Err(why);
         }
     };
-    let used = match build_index(file, words) {
-        Built::Used(used) => used,
-        Built::Refused(why) => return Built::Refused(why),
-    };
+    let used = build_index(file, words)?;
     let all = put_behind(file, head, words, used);
     if words.len() < all {
         zero_words(words);
-        return Built::Refused(plain(NO_INDEX_ROOM));
+        return Err(Fault::IndexFull.alone());
     }
     if 0xffff_ffff < all {
         zero_words(words);
-        return Built::Refused(plain(NO_INDEX_ROOM));
+        return Err(Fault::IndexFull.alone());
     }
-    Built::Used(all)
+    Ok(all)
 }

@@ -1,17 +1,19 @@
 // One entry of an atlas: its word, and the marks of its border.
 ghost use Rattle.std.specs.Prelude.{◌≡◌, ◌+◌, ◌-◌, ◌*◌, ◌^◌, ◌<◌, ◌≤◌, length};
 ghost use Rattle.atlas.specs.{Atlas.{entry_of}, inner.{Building.{marks_at_record, size_of, entry_for, PutOne, stands_one}, Marking.{marks_of}}};
-ghost use Rattle.index.specs.{Index.{records_at}, inner.Own.{told_next}};
+ghost use Rattle.index.specs.Index.{records_at};
 ghost use Rattle.table.specs.MarkedRows.{encoding_in};
 
 use crate::course::{Course, course_at};
 use crate::put::put_marks;
 use crate::same::same_marks;
-use crate::words::{is_word, low_of, put};
+use crate::words::low_of;
 use header::header::Head;
 use index::build::RECORDS_AT;
-use index::own::Next;
+use index::words::{is_word, put};
 use marks::words::{MARK, groups_of};
+use numbers::fault::Fault;
+use numbers::refusal::Refusal;
 use std::num::wrapping_add_u32;
 use table::marked::encoding_of;
 
@@ -70,7 +72,7 @@ pub(crate) fn put_one(
     next
 }
 
-// Whether they stand there.
+// Whether they stand there. The answer: the place behind the marks.
 pub(crate) fn same_one(
     file: &[u8],
     head: Head,
@@ -78,9 +80,9 @@ pub(crate) fn same_one(
     first: usize,
     k: usize,
     at: usize,
-) -> Next
+) -> Result<usize, Refusal>
     requires { (records_at + 7 * k + 7 ≤ length words.now) × (first + k < at) × (at < 2 ^ 56) }
-    ensures { (told_next result ≡ stands_one words.now (first + k) at (entry_of (at - first) (marks_at_record file.now head words.now k))
+    ensures { (result ≡ stands_one words.now (first + k) at (entry_of (at - first) (marks_at_record file.now head words.now k))
         (marks_at_record file.now head words.now k)) × (length (marks_at_record file.now head words.now k) ≤ 2 ^ 22) }
 {
     let encoding = encoding_of(head);
@@ -88,10 +90,10 @@ pub(crate) fn same_one(
     let next = at + size_of(course.count);
     let word = entry_for(at - first, next - first);
     if !is_word(words, first + k, word) {
-        return Next::Other;
+        return Err(Fault::OtherIndex.alone());
     }
-    if same_marks(file, encoding, course, words, at) {
-        return Next::At(next);
+    if !same_marks(file, encoding, course, words, at) {
+        return Err(Fault::OtherIndex.alone());
     }
-    Next::Other
+    Ok(next)
 }

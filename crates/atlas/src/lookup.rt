@@ -1,14 +1,15 @@
 // Lookup through an atlas: among the rows in the list of the fix's tile, by the marks along their borders; and through an atlas or none.
 ghost use Rattle.std.specs.Prelude.{◌≡◌, length};
 ghost use Rattle.atlas.specs.{Beside.{zones_beside}, Looked.{zones_atlas, looked_atlas}};
-ghost use Rattle.zones.specs.{Lent.{replied, replied_of}, Lookup.{told_looked}};
+ghost use Rattle.zones.specs.Lent.{replied, replied_of};
 
-use crate::parts::{Parting, parts_of};
-use header::header::{Head, Headed, head_of};
+use crate::parts::parts_of;
+use header::header::{Head, head_of};
 use header::zero::zero_both;
 use index::build::RECORDS_AT;
+use numbers::refusal::Refusal;
 use table::location::Location;
-use zones::lookup::{Looked, lookup_in};
+use zones::lookup::{Zones, lookup_in};
 use zones::marked::lookup_marked;
 
 // In a file whose header was read; any header is taken.
@@ -20,30 +21,26 @@ fn atlas_in(
     asked: bool,
     hits: &mut [u32],
     text: &mut [u8],
-) -> Looked
-    ensures { replied (told_looked result) hits.new text.new
+) -> Result<Zones, Refusal>
+    ensures { replied result hits.new text.new
         ≡ replied_of (length hits.old) (length text.old)
         (zones_atlas file.now head words.now location asked (length hits.old) (length text.old)) }
 {
     let parts = match parts_of(file.len(), head, words, location) {
-        Parting::At(parts) => parts,
-        Parting::Refused(why) => {
+        Ok(parts) => parts,
+        Err(why) => {
             zero_both(hits, text);
-            return Looked::Refused(why);
+            return Err(why);
         }
     };
-    let behind = parts.behind;
-    let from = parts.from;
-    let end = parts.end;
-    let beside = parts.beside;
     lookup_marked(
         file,
         head,
         location,
         asked,
-        &words[RECORDS_AT..behind],
-        &words[from..end],
-        &words[beside..],
+        &words[RECORDS_AT..parts.behind],
+        &words[parts.from..parts.end],
+        &words[parts.beside..],
         hits,
         text,
     )
@@ -58,8 +55,8 @@ pub fn lookup_beside(
     asked: bool,
     hits: &mut [u32],
     text: &mut [u8],
-) -> Looked
-    ensures { replied (told_looked result) hits.new text.new
+) -> Result<Zones, Refusal>
+    ensures { replied result hits.new text.new
         ≡ replied_of (length hits.old) (length text.old)
         (zones_beside file.now head words.now location asked (length hits.old) (length text.old)) }
 {
@@ -78,15 +75,15 @@ pub fn lookup_atlas(
     asked: bool,
     hits: &mut [u32],
     text: &mut [u8],
-) -> Looked
-    ensures { replied (told_looked result) hits.new text.new
+) -> Result<Zones, Refusal>
+    ensures { replied result hits.new text.new
         ≡ looked_atlas file.now words.now location asked (length hits.old) (length text.old) }
 {
     let head = match head_of(file) {
-        Headed::Head(head) => head,
-        Headed::Refused(why) => {
+        Ok(head) => head,
+        Err(why) => {
             zero_both(hits, text);
-            return Looked::Refused(why);
+            return Err(why);
         }
     };
     atlas_in(file, head, words, location, asked, hits, text)

@@ -1,32 +1,34 @@
 // Whether words are the atlas that building gives for a file, whoever wrote them: each word is worked out again and compared, without room for them.
 ghost use Rattle.std.specs.Prelude.{◌≡◌, ◌+◌, ◌*◌, ◌^◌, ◌<◌, ◌≤◌, length};
 ghost use Rattle.atlas.specs.{Atlas.{beside_of, is_atlas_of}, inner.Building.{marks_by, behind_of, is_behind, end_of}};
-ghost use Rattle.index.specs.{Index.{records_at}, Tied.{word_at, told_tied}, inner.Own.{stands_from, told_next}};
+ghost use Rattle.index.specs.{Index.{records_at}, Tied.{word_at}, inner.Own.{stands_from}};
 
 use crate::entry::same_one;
-use crate::words::{is_word, low_of};
-use header::header::{Head, Headed, head_of};
+use crate::words::low_of;
+use header::header::{Head, head_of};
 use index::build::RECORDS_AT;
-use index::own::{Next, is_empty_from, is_index};
-use index::tied::{OTHER_INDEX, Tied, wide};
-use numbers::refusal::plain;
+use index::own::{is_empty_from, is_index};
+use index::tied::wide;
+use index::words::is_word;
+use numbers::fault::Fault;
+use numbers::refusal::Refusal;
 
-// Entries and marks, by the records in the words.
-fn same_beside(file: &[u8], head: Head, words: &[u32], n: usize, first: usize) -> Next
+// Entries and marks, by the records in the words. The answer: the place behind them.
+fn same_beside(
+    file: &[u8],
+    head: Head,
+    words: &[u32],
+    n: usize,
+    first: usize,
+) -> Result<usize, Refusal>
     requires { (n < 2 ^ 32) × (records_at + 7 * n ≤ length words.now) × (first < 2 ^ 40) }
-    ensures { told_next result ≡ stands_from words.now first (beside_of (marks_by file.now head words.now n 0)) }
+    ensures { result ≡ stands_from words.now first (beside_of (marks_by file.now head words.now n 0)) }
 {
     let mut at = first + n;
-    let mut k = 0;
-    while k < n {
-        let next = match same_one(file, head, words, first, k, at) {
-            Next::At(next) => next,
-            Next::Other => return Next::Other,
-        };
-        at = next;
-        k += 1;
+    for k in 0..n {
+        at = same_one(file, head, words, first, k, at)?;
     }
-    Next::At(at)
+    Ok(at)
 }
 
 // All that stands behind the index, which ends at a place.
@@ -35,9 +37,8 @@ fn same_behind(file: &[u8], head: Head, words: &[u32], used: usize) -> bool
     ensures { result ≡ is_behind words.now (behind_of file.now head words.now used) used }
 {
     let n = wide(words[2]);
-    let all = match same_beside(file, head, words, n, used + 1) {
-        Next::At(all) => all,
-        Next::Other => return false,
+    let Ok(all) = same_beside(file, head, words, n, used + 1) else {
+        return false;
     };
     if !is_word(words, used, low_of(all)) {
         return false;
@@ -63,20 +64,18 @@ fn end_of(words: &[u32]) -> usize
 }
 
 // Whether the words are those that `build_atlas`, lent as many, leaves for this file: 0 exactly there, else 36.
-pub fn is_atlas(file: &[u8], words: &[u32]) -> Tied
-    ensures { told_tied result ≡ is_atlas_of file.now words.now }
+pub fn is_atlas(file: &[u8], words: &[u32]) -> Result<(), Refusal>
+    ensures { result ≡ is_atlas_of file.now words.now }
 {
     let end = end_of(words);
-    let tied = is_index(file, &words[0..end]);
-    if let Tied::Refused(_) = tied {
-        return Tied::Refused(plain(OTHER_INDEX));
+    if is_index(file, &words[0..end]).is_err() {
+        return Err(Fault::OtherIndex.alone());
     }
-    let head = match head_of(file) {
-        Headed::Head(head) => head,
-        Headed::Refused(_) => return Tied::Refused(plain(OTHER_INDEX)),
+    let Ok(head) = head_of(file) else {
+        return Err(Fault::OtherIndex.alone());
     };
-    if same_behind(file, head, words, end) {
-        return Tied::Yes;
+    if !same_behind(file, head, words, end) {
+        return Err(Fault::OtherIndex.alone());
     }
-    Tied::Refused(plain(OTHER_INDEX))
+    Ok(())
 }

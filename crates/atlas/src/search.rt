@@ -1,12 +1,13 @@
 // The matches through an atlas, and through an atlas or none.
 ghost use Rattle.std.specs.Prelude.{◌/◌, length};
 ghost use Rattle.atlas.specs.{Beside.{matched_beside}, Looked.{matched_atlas}};
-ghost use Rattle.table.specs.{Find.{Matching, told_found}, Hits.{width}, inner.Agreeing.{Agrees}};
+ghost use Rattle.table.specs.{Find.{Matching}, Hits.{width}, inner.Agreeing.{Agrees}};
 
-use crate::parts::{Parting, parts_of};
+use crate::parts::parts_of;
 use header::header::Head;
 use index::build::RECORDS_AT;
-use table::find::{Found, find_in};
+use numbers::refusal::Refusal;
+use table::find::{Matches, find_in};
 use table::location::Location;
 use table::marked::find_marked;
 
@@ -18,26 +19,19 @@ fn find_atlas(
     location: Location,
     asked: bool,
     hits: &mut [u32],
-) -> Found
+) -> Result<Matches, Refusal>
     ensures { Agrees (Matching (length hits.old) hits.new)
-        (matched_atlas file.now head words.now location asked (length hits.old / width)) (told_found result) }
+        (matched_atlas file.now head words.now location asked (length hits.old / width)) result }
 {
-    let parts = match parts_of(file.len(), head, words, location) {
-        Parting::At(parts) => parts,
-        Parting::Refused(why) => return Found::Refused(why),
-    };
-    let behind = parts.behind;
-    let from = parts.from;
-    let end = parts.end;
-    let beside = parts.beside;
+    let parts = parts_of(file.len(), head, words, location)?;
     find_marked(
         file,
         head,
         location,
         asked,
-        &words[RECORDS_AT..behind],
-        &words[from..end],
-        &words[beside..],
+        &words[RECORDS_AT..parts.behind],
+        &words[parts.from..parts.end],
+        &words[parts.beside..],
         hits,
     )
 }
@@ -50,9 +44,9 @@ pub(crate) fn find_beside(
     location: Location,
     asked: bool,
     hits: &mut [u32],
-) -> Found
+) -> Result<Matches, Refusal>
     ensures { Agrees (Matching (length hits.old) hits.new)
-        (matched_beside file.now head words.now location asked (length hits.old / width)) (told_found result) }
+        (matched_beside file.now head words.now location asked (length hits.old / width)) result }
 {
     if words.len() == 0 {
         return find_in(file, head, location, asked, hits);

@@ -1,11 +1,11 @@
 // A stretch: the box of its points, and the state at the last.
-ghost use Rattle.std.specs.Prelude.{◌≡◌, int_le};
-ghost use Rattle.border.specs.Box.{min_z, max_z, grown};
+ghost use Rattle.std.specs.Prelude.{◌≡◌};
+ghost use Rattle.border.specs.Box.{grown};
 ghost use Rattle.marks.specs.Marks.{span_from};
 ghost use Rattle.atlas.specs.inner.Marking.{boxed, told_reach};
 
-use border::place::{FixedLat, FixedLon, Point};
-use border::reader::{Encoding, Next, Reader, next_point};
+use border::place::Point;
+use border::reader::{Encoding, Reader, next_point};
 
 // A box, by its lower and its upper corner.
 #[derive(Clone, Copy)]
@@ -20,72 +20,20 @@ pub struct Reach {
     pub last: Reader,
 }
 
-fn lat_upto(a: FixedLat, b: FixedLat) -> bool
-    ensures { result ≡ int_le a.0 b.0 }
-{
-    a.0 <= b.0
-}
-
-fn lon_upto(a: FixedLon, b: FixedLon) -> bool
-    ensures { result ≡ int_le a.0 b.0 }
-{
-    a.0 <= b.0
-}
-
-fn lower_lat(a: FixedLat, b: FixedLat) -> FixedLat
-    ensures { result.0 ≡ min_z a.0 b.0 }
-{
-    if lat_upto(a, b) {
-        return a;
-    }
-    b
-}
-
-fn lower_lon(a: FixedLon, b: FixedLon) -> FixedLon
-    ensures { result.0 ≡ min_z a.0 b.0 }
-{
-    if lon_upto(a, b) {
-        return a;
-    }
-    b
-}
-
-fn upper_lat(a: FixedLat, b: FixedLat) -> FixedLat
-    ensures { result.0 ≡ max_z a.0 b.0 }
-{
-    if lat_upto(a, b) {
-        return b;
-    }
-    a
-}
-
-fn upper_lon(a: FixedLon, b: FixedLon) -> FixedLon
-    ensures { result.0 ≡ max_z a.0 b.0 }
-{
-    if lon_upto(a, b) {
-        return b;
-    }
-    a
-}
-
 // A box that a point is taken into.
 fn grow(frame: Frame, point: Point) -> Frame
     ensures { boxed result ≡ grown (boxed frame) point }
 {
     let low = frame.low;
     let high = frame.high;
-    let south = lower_lat(low.lat, point.lat);
-    let west = lower_lon(low.lon, point.lon);
-    let north = upper_lat(high.lat, point.lat);
-    let east = upper_lon(high.lon, point.lon);
     Frame {
         low: Point {
-            lat: south,
-            lon: west,
+            lat: low.lat.min(point.lat),
+            lon: low.lon.min(point.lon),
         },
         high: Point {
-            lat: north,
-            lon: east,
+            lat: high.lat.max(point.lat),
+            lon: high.lon.max(point.lon),
         },
     }
 }
@@ -100,13 +48,10 @@ pub(crate) fn span_from(file: &[u8], encoding: Encoding, start: Reader, edges: u
         low: corner,
         high: corner,
     };
-    let mut n: usize = 0;
-    while n < edges {
-        let next = next_point(file, encoding, last);
-        let Next::Point(later) = next else {
+    for _ in 0..edges {
+        let Some(later) = next_point(file, encoding, last).unwrap_or(None) else {
             return Reach { frame, last };
         };
-        n += 1;
         frame = grow(frame, later.point);
         last = later;
     }

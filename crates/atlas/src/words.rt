@@ -1,45 +1,10 @@
 // Numbers as words.
-ghost use Rattle.std.specs.Prelude.{◌^◌, ◌<◌, ◌≡◌, [], ◌∷◌};
-ghost use Rattle.writer.specs.inner.Stored.{Stored};
-ghost use Rattle.marks.specs.Marks.{word_of, low, kind_of, next_of, end_of};
-ghost use Rattle.index.specs.inner.Own.{is_word};
+ghost use Rattle.std.specs.Prelude.{◌≡◌};
+ghost use Rattle.marks.specs.Marks.{low, kind_of, next_of, end_of, mark_of};
+ghost use Rattle.atlas.specs.inner.Marking.{boxed};
 
-use border::reader::Run;
-
-// A word that does not fit is counted and left out: the place is held against the room once, at the end.
-pub(crate) fn put(words: &mut [u32], at: usize, word: u32) -> usize
-    requires { at < 2 ^ 60 }
-    ensures { Stored words.old at (word ∷ []) words.new result }
-{
-    if at < words.len() {
-        words[at] = word;
-        return at + 1;
-    }
-    at + 1
-}
-
-// Whether a word stands at a place.
-pub(crate) fn is_word(words: &[u32], at: usize, word: u32) -> bool
-    ensures { result ≡ is_word words.now at word }
-{
-    if at < words.len() {
-        if words[at] == word {
-            return true;
-        }
-        return false;
-    }
-    false
-}
-
-// A coordinate's 32 bits. Both arms compile to no instruction.
-pub(crate) fn word_of(coordinate: i32) -> u32
-    ensures { result ≡ word_of coordinate }
-{
-    if coordinate < 0 {
-        return 0xffff_ffff - (-1 - coordinate) as u32;
-    }
-    coordinate as u32
-}
+use crate::span::Frame;
+use border::reader::{Reader, Run};
 
 pub(crate) fn low_of(n: usize) -> u32
     ensures { result ≡ low n }
@@ -81,4 +46,27 @@ pub(crate) fn end_of(run: Run) -> usize
         Run::Forward { next, end } => end,
         Run::Backward { next, end } => end,
     }
+}
+
+// A mark's words: its box, and of the state its point, its place, what is left of its moves, and its run.
+pub(crate) fn mark_of(reader: Reader, frame: Frame) -> [u32; 11]
+    ensures { result ≡ mark_of reader (boxed frame) }
+{
+    let low = frame.low;
+    let high = frame.high;
+    let point = reader.point;
+    let run = reader.run;
+    [
+        low.lat.0.cast_unsigned(),
+        low.lon.0.cast_unsigned(),
+        high.lat.0.cast_unsigned(),
+        high.lon.0.cast_unsigned(),
+        point.lat.0.cast_unsigned(),
+        point.lon.0.cast_unsigned(),
+        low_of(reader.place),
+        low_long(reader.moves),
+        kind_of(run),
+        low_of(next_of(run)),
+        low_of(end_of(run)),
+    ]
 }

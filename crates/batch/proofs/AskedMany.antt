@@ -22,7 +22,7 @@ unmeasured_all so = record { answers = map unmeasured so.answers; matches = so.m
 same_front : (n : ℕ) (xs ys : List ℕ) → length xs ≡ length ys → padded n xs ≡ padded n ys → xs ≡ ys
 same_front n xs ys l e = sym (take_at xs (zeros (n - length xs)) (length ys) l) ∙ ap (take (length ys)) e ∙ take_at ys (zeros (n - length ys)) (length ys) refl
 
-inside : {A : Type 0} {a b : A} → R.given a ≡ R.given b → a ≡ b
+inside : {A : Type 0} {a b : A} → ◌≡◌ {A = Reply A} (R.given a) (R.given b) → a ≡ b
 inside e = cc
 
 module _ (file : List ℕ) (head : Head) (fix : Location) (k r : ℕ) where

@@ -1,18 +1,18 @@
 -- What the promise fixes: two replies that it permits are equal, with all three lists; and a refusal leaves all of them zero. Assumes nothing.
 use Rattle.numbers.{proofs.Prelude.{ℕ, Float, Bool, List, ◌≡◌, refl, sym, ap, ◌∙◌, arith}, specs.{Lists.{zeros}, declared.refusal.Refusal.{Refusal}}}
-use Rattle.batch.specs.{Many.{Batch, given, refused, Stamped, Left, left, left_of, stamped_many, many_beside, told_many}, declared.many.{Many.{Many}, Totals.{Totals}}}
-use Rattle.batch.specs.declared.many.Many.TheVariants as M
+use Rattle.batch.specs.{Many.{Batch, given, refused, Stamped, Left, left, left_of, stamped_many, many_beside, told_many}, declared.many.{Stop.{Stop}, Totals.{Totals}}}
+use Rattle.std.specs.Prelude.{Result, Ok, Err}
 
-many_back : Batch Totals → Many
-many_back (given totals) = M.Totals totals
-many_back (refused index why) = M.Refused (record { index = index; why = why })
+many_back : Batch Totals → Result Totals Stop
+many_back (given totals) = Ok totals
+many_back (refused index why) = Err (record { index = index; why = why })
 
-many_again : (r : Many) → many_back (told_many r) ≡ r
+many_again : (r : Result Totals Stop) → many_back (told_many r) ≡ r
 unfolding many_back
-many_again (M.Totals totals) = refl
-many_again (M.Refused stop) = refl
+many_again (Ok totals) = refl
+many_again (Err stop) = refl
 
-pub same_many : (file words : List ℕ) (lats lons : List Float) (asked : Bool) (n room third : ℕ) (r r' : Many) (hs hs' ts ts' told told' : List ℕ)
+pub same_many : (file words : List ℕ) (lats lons : List Float) (asked : Bool) (n room third : ℕ) (r r' : Result Totals Stop) (hs hs' ts ts' told told' : List ℕ)
     → left (told_many r) hs ts told ≡ many_beside file words lats lons asked n room third → left (told_many r') hs' ts' told' ≡ many_beside file words lats lons asked n room third
     → (r ≡ r') × (hs ≡ hs') × (ts ≡ ts') × (told ≡ told')
 same_many file words lats lons asked n room third r r' hs hs' ts ts' told told' e e' = let same = e ∙ sym e' in (

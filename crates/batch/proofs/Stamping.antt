@@ -6,12 +6,11 @@ use Rattle.table.{proofs.{Agreeing.{gave, refused_so}, Words.{words_length, word
 use Rattle.header.{proofs.Buffers.{tail_back}, specs.declared.header.Head.{Head}}
 use Rattle.atlas.specs.Beside.{zones_beside}
 use Rattle.zones.{proofs.{Holding.{Held, held_length, held_front, lent, remains_length, written}, Replying.{agrees_of}}, specs.Lent.{Filled, Outcome, Replied, replied, replied_of}}
-use Rattle.zones.specs.{Lookup.{told_looked}, declared.lookup.{Looked.{Looked}, Zones.{Zones}}}
+use Rattle.zones.specs.declared.lookup.Zones.{Zones}
 use Rattle.batch.specs.Many.{Batch, given, refused, ◌>>=◌, met_at, is_taken, fixes_of, Stamped, nothing, with_one, each_of, answer_words, left, left_of}
 use Rattle.batch.proofs.{Counts.{counts, few}, Few.{Words32}}
 use Rattle.numbers.specs.Reply as R
 use Rattle.table.specs.Hits as H
-use Rattle.zones.specs.declared.lookup.Looked.TheVariants as L
 
 -- ---- lists
 -- what is zero beyond s, behind what is there
@@ -85,17 +84,17 @@ pub record One (file : List ℕ) (head : Head) (words : List ℕ) (fix : Locatio
   pub hits : hs ≡ padded n (H.words it.matches)
   pub text : ts ≡ padded room it.text
 
-module _ (file : List ℕ) (head : Head) (words : List ℕ) (fix : Location) (asked : Bool) (n room : ℕ) (r : Looked) (hs ts : List ℕ)
-    (e : replied (told_looked r) hs ts ≡ looked file head words fix asked n room) where
-  agrees : Agrees (Filled n room hs ts) (zones_beside file head words fix asked n room) (told_looked r)
-  agrees = agrees_of n room (zones_beside file head words fix asked n room) (told_looked r) hs ts e
+module _ (file : List ℕ) (head : Head) (words : List ℕ) (fix : Location) (asked : Bool) (n room : ℕ) (r : Reply Zones) (hs ts : List ℕ)
+    (e : replied r hs ts ≡ looked file head words fix asked n room) where
+  agrees : Agrees (Filled n room hs ts) (zones_beside file head words fix asked n room) r
+  agrees = agrees_of n room (zones_beside file head words fix asked n room) r hs ts e
 
-  pub one_refused : {why : Refusal} → r ≡ L.Refused why → R.refused why ≡ zones_beside file head words fix asked n room
-  one_refused is = refused_so (Filled n room hs ts) _ agrees (ap told_looked is)
+  pub one_refused : {why : Refusal} → r ≡ R.refused why → R.refused why ≡ zones_beside file head words fix asked n room
+  one_refused is = refused_so (Filled n room hs ts) _ agrees is
 
-  pub one_given : {zones : Zones} → r ≡ L.Zones zones → One file head words fix asked n room hs ts zones
+  pub one_given : {zones : Zones} → r ≡ R.given zones → One file head words fix asked n room hs ts zones
   unfolding replied_of
-  one_given {zones} is = let g = gave (Filled n room hs ts) _ agrees (ap told_looked is) in
+  one_given {zones} is = let g = gave (Filled n room hs ts) _ agrees is in
       let said : R.given zones ≡ R.given g.it.answer = ap (λ (x : Replied Zones). x.reply) g.fits in
       record { it = g.it; is = g.is; answer = cc; hits = ap (λ (x : Replied Zones). x.hits) g.fits; text = ap (λ (x : Replied Zones). x.text) g.fits }
 
@@ -132,14 +131,14 @@ module _ (file : List ℕ) (head : Head) (words : List ℕ) (asked : Bool) (n ro
 
   module _ {whole : Batch Stamped} {hits text answers : List ℕ} {i matches used : ℕ} (g : Stamping whole hits text answers i matches used) where
     -- all fixes are answered
-    pub ends : length lats ≤ i → left (given (record { fixes = i; matches = matches; used = used })) hits text answers ≡ left_of n room third whole
+    pub ends : length lats ≤ i → {fixes : ℕ} → fixes ≡ i → left (given (record { fixes = fixes; matches = matches; used = used })) hits text answers ≡ left_of n room third whole
     unfolding left_of fixes_of each_of
-    ends h =
+    ends h f = (λ j. left (given (record { fixes = f j; matches = matches; used = used })) hits text answers) ∙
         (λ j. left (given (record { fixes = sym g.index j; matches = sym g.counted j; used = sym g.text_held.sized j })) (g.words_held.kept j)
         (g.text_held.kept j) (g.answers_held.kept j))
         ∙ ap (left_of n room third) (ap (λ (l : List Float). each (fixes_of l (drop i lons)) g.so) (sym (drop_of_length-le lats {i = i} h)) ∙ g.so_far)
 
-    module _ (same : length lats ≡ length lons) (more : i < length lats) (d d' : Float) (r : Looked) (hs ts : List ℕ) where
+    module _ (same : length lats ≡ length lons) (more : i < length lats) (d d' : Float) (r : Reply Zones) (hs ts : List ℕ) where
       abbrev fix : Location
       fix = record { lat = get_or lats i d; lon = get_or lons i d' }
 
@@ -149,7 +148,7 @@ module _ (file : List ℕ) (head : Head) (words : List ℕ) (asked : Bool) (n ro
           (λ j. met_at (sym g.index j) (zones_beside file head words fix asked (n - sym g.words_held.sized j) (room - sym g.text_held.sized j)) >>= λ o.
           each (fixes_of (drop (i + 1) lats) (drop (i + 1) lons)) (with_one g.so o)) ∙ ap (λ (l : List Location). each l g.so) (sym (fix_at lats lons i d d' more (omega arith))) ∙ g.so_far
 
-      module _ (e : replied (told_looked r) hs ts ≡ looked file head words fix asked (length (lent g.words_held)) (length (lent g.text_held))) where
+      module _ (e : replied r hs ts ≡ looked file head words fix asked (length (lent g.words_held)) (length (lent g.text_held))) where
         -- the words and bytes that are left
         left_words : length (lent g.words_held) ≡ n - width * matches
         left_words = remains_length g.words_held ∙ ap (λ (m : ℕ). n - m) g.words_held.sized
@@ -157,18 +156,18 @@ module _ (file : List ℕ) (head : Head) (words : List ℕ) (asked : Bool) (n ro
         left_bytes : length (lent g.text_held) ≡ room - used
         left_bytes = remains_length g.text_held ∙ ap (λ (m : ℕ). room - m) g.text_held.sized
 
-        here : replied (told_looked r) hs ts ≡ looked file head words fix asked (n - width * matches) (room - used)
+        here : replied r hs ts ≡ looked file head words fix asked (n - width * matches) (room - used)
         here = e ∙ (λ j. looked file head words fix asked (left_words j) (left_bytes j))
 
         -- the fix is refused
-        pub stops : {why : Refusal} (hits' text' answers' : List ℕ) → r ≡ L.Refused why → hits' ≡ zeros n → text' ≡ zeros room → answers' ≡ zeros third
+        pub stops : {why : Refusal} (hits' text' answers' : List ℕ) → r ≡ R.refused why → hits' ≡ zeros n → text' ≡ zeros room → answers' ≡ zeros third
             → left (refused i why) hits' text' answers' ≡ left_of n room third whole
         unfolding left_of
         stops {why} hits' text' answers' is h t a =
             (λ j. left (refused i why) (h j) (t j) (a j)) ∙ ap (left_of n room third) (ap (λ (x : Reply (Outcome Zones)). met_at i x >>= λ o. each
             (fixes_of (drop (i + 1) lats) (drop (i + 1) lons)) (with_one g.so o)) (one_refused file head words fix asked _ _ r hs ts here is) ∙ unrolled)
 
-        module _ {zones : Zones} (is : r ≡ L.Zones zones) where
+        module _ {zones : Zones} (is : r ≡ R.given zones) where
           pub one : One file head words fix asked (n - width * matches) (room - used) hs ts zones
           one = one_given file head words fix asked _ _ r hs ts here is
 

@@ -1,13 +1,12 @@
 -- Many fixes, as document 02 has them (request Q-8): all are answered as one by one, each in the room that the earlier ones left, and the first refusal stops the call.
-use Rattle.std.specs.Prelude.{◌-◌, ◌*◌, ◌&&◌, ◌∷◌, ◌++◌}
+use Rattle.std.specs.Prelude.{◌-◌, ◌*◌, ◌&&◌, ◌∷◌, ◌++◌, Result, Ok, Err}
 use Rattle.numbers.specs.{Lists.{zeros, padded}, Prelude.{ℕ, eqb, leb, Float, length, Bool, List, []}, Reply.{Reply, plain, demand}, declared.refusal.Refusal.{Refusal}}
 use Rattle.header.specs.Header.{head_of}
 use Rattle.table.specs.{Hits.{words}, declared.{hits.Hit.{Hit}, location.Location.{Location}}}
 use Rattle.atlas.specs.Beside.{zones_beside}
 use Rattle.zones.specs.{Lent.{Outcome}, declared.lookup.Zones.{Zones}}
-use Rattle.batch.specs.declared.many.{Many.{Many}, Totals.{Totals}}
+use Rattle.batch.specs.declared.many.{Stop.{Stop}, Totals.{Totals}}
 use Rattle.numbers.specs.Reply as R
-use Rattle.batch.specs.declared.many.Many.TheVariants as M
 
 -- ---- a call that answers, or is refused at the fix with an index
 pub data Batch (A : Type 0) : Type 0 where
@@ -101,6 +100,6 @@ unfoldable pub looked_up_many : List ℕ → List Float → List Float → Bool 
 looked_up_many file lats lons asked n room third = many_beside file [] lats lons asked n room third
 
 -- ---- the code's answer
-abbrev pub told_many : Many → Batch Totals
-told_many (M.Totals totals) = given totals
-told_many (M.Refused stop) = refused stop.index stop.why
+abbrev pub told_many : Result Totals Stop → Batch Totals
+told_many (Ok totals) = given totals
+told_many (Err stop) = refused stop.index stop.why

@@ -1,20 +1,18 @@
 // Many fixes: matches and texts one after the other in the lent lists, and of each fix its match count, end mark and safezone bits in a third.
-ghost use Rattle.std.specs.Prelude.{◌*◌, ◌^◌, ◌≤◌, ◌<◌, min, length, ◌≡◌, true, [], ◌∷◌};
+ghost use Rattle.std.specs.Prelude.{◌*◌, ◌^◌, ◌≤◌, ◌<◌, length, ◌≡◌, true, [], ◌∷◌};
 ghost use Rattle.numbers.specs.Lists.{zeros, over};
 ghost use Rattle.atlas.specs.Beside.{zones_beside};
-ghost use Rattle.zones.specs.{Lent.{replied, replied_of}, Lookup.{told_looked}};
+ghost use Rattle.zones.specs.Lent.{replied, replied_of};
 ghost use Rattle.batch.specs.Many.{is_taken, answer_words, fixes_of, nothing, each_of, told_many, left, left_of, many_beside, looked_up_many};
 
 use crate::zero::zero_all;
 use atlas::lookup::lookup_beside;
-use header::header::{Head, Headed, head_of};
-use numbers::refusal::{Refusal, plain};
+use header::header::{Head, head_of};
+use numbers::fault::Fault;
+use numbers::refusal::Refusal;
 use table::hits::WIDTH;
 use table::location::Location;
-use zones::lookup::{Looked, Zones};
-
-// Lists of unequal length, too many fixes, or a third list that is too short.
-pub const BAD_LISTS: u8 = 33;
+use zones::lookup::Zones;
 
 pub const MOST_FIXES: usize = 4096;
 
@@ -36,22 +34,10 @@ pub struct Stop {
     pub why: Refusal,
 }
 
-#[derive(Clone, Copy)]
-pub enum Many {
-    Totals(Totals),
-    Refused(Stop),
-}
-
 fn is_taken(lats: usize, lons: usize, third: usize) -> bool
     ensures { result ≡ is_taken lats lons third }
 {
-    if lats != lons {
-        return false;
-    }
-    if MOST_FIXES < lats {
-        return false;
-    }
-    ANSWER_WORDS * lats <= third
+    lats == lons && lats <= MOST_FIXES && ANSWER_WORDS * lats <= third
 }
 
 // What one fix was answered, at the front of what remains of the third list.
@@ -69,12 +55,6 @@ const WINDOW_WORDS: usize = 256;
 
 const WINDOW_BYTES: usize = 4096;
 
-fn least(a: usize, b: usize) -> usize
-    ensures { result ≡ min a b }
-{
-    if a < b { a } else { b }
-}
-
 // One fix, in lists that are zero: first at their front alone, so that many fixes do not each clear all the room that is left. What is answered
 // there is answered alike in all of it.
 fn answer_one(
@@ -85,15 +65,15 @@ fn answer_one(
     asked: bool,
     hits: &mut [u32],
     text: &mut [u8],
-) -> Looked
+) -> Result<Zones, Refusal>
     requires { (hits.old ≡ zeros (length hits.old)) × (text.old ≡ zeros (length text.old)) }
-    ensures { replied (told_looked result) hits.new text.new
+    ensures { replied result hits.new text.new
         ≡ replied_of (length hits.old) (length text.old)
         (zones_beside file.now head words.now location asked (length hits.old) (length text.old)) }
 {
-    let slots = least(hits.len(), WINDOW_WORDS);
-    let bytes = least(text.len(), WINDOW_BYTES);
-    let zones = match lookup_beside(
+    let slots = hits.len().min(WINDOW_WORDS);
+    let bytes = text.len().min(WINDOW_BYTES);
+    let front = lookup_beside(
         file,
         head,
         words,
@@ -101,11 +81,11 @@ fn answer_one(
         asked,
         &mut hits[..slots],
         &mut text[..bytes],
-    ) {
-        Looked::Zones(zones) => zones,
-        Looked::Refused(_) => return lookup_beside(file, head, words, location, asked, hits, text),
-    };
-    Looked::Zones(zones)
+    );
+    if front.is_err() {
+        return lookup_beside(file, head, words, location, asked, hits, text);
+    }
+    front
 }
 
 // In lists that are zero and go together.
@@ -119,7 +99,7 @@ fn answer_each(
     hits: &mut [u32],
     text: &mut [u8],
     answers: &mut [u32],
-) -> Many
+) -> Result<Totals, Stop>
     requires { (is_taken (length lats.now) (length lons.now) (length answers.old) ≡ true)
         × (hits.old ≡ zeros (length hits.old)) × (text.old ≡ zeros (length text.old)) × (answers.old ≡ zeros (length answers.old)) }
     ensures { left (told_many result) hits.new text.new answers.new
@@ -127,10 +107,9 @@ fn answer_each(
         (each_of (λ fix. zones_beside file.now head words.now fix asked) (length hits.old) (length text.old)
         (fixes_of lats.now lons.now) nothing) }
 {
-    let mut i = 0;
     let mut matches = 0;
     let mut used = 0;
-    while i < lats.len() {
+    for i in 0..lats.len() {
         let location = Location {
             lat: lats[i],
             lon: lons[i],
@@ -145,20 +124,19 @@ fn answer_each(
             &mut hits[at..],
             &mut text[used..],
         ) {
-            Looked::Zones(zones) => zones,
-            Looked::Refused(why) => {
+            Ok(zones) => zones,
+            Err(why) => {
                 zero_all(hits, text, answers);
-                return Many::Refused(Stop { index: i, why });
+                return Err(Stop { index: i, why });
             }
         };
         let told = ANSWER_WORDS * i;
         put_answer(&mut answers[told..], zones);
         matches += zones.matches;
         used += zones.used;
-        i += 1;
     }
-    Many::Totals(Totals {
-        fixes: i,
+    Ok(Totals {
+        fixes: lats.len(),
         matches,
         used,
     })
@@ -175,21 +153,21 @@ pub fn many_atlas(
     hits: &mut [u32],
     text: &mut [u8],
     answers: &mut [u32],
-) -> Many
+) -> Result<Totals, Stop>
     ensures { left (told_many result) hits.new text.new answers.new
         ≡ many_beside file.now words.now lats.now lons.now asked (length hits.old) (length text.old)
         (length answers.old) }
 {
     zero_all(hits, text, answers);
     if !is_taken(lats.len(), lons.len(), answers.len()) {
-        return Many::Refused(Stop {
+        return Err(Stop {
             index: 0,
-            why: plain(BAD_LISTS),
+            why: Fault::BadFixes.alone(),
         });
     }
     let head = match head_of(file) {
-        Headed::Head(head) => head,
-        Headed::Refused(why) => return Many::Refused(Stop { index: 0, why }),
+        Ok(head) => head,
+        Err(why) => return Err(Stop { index: 0, why }),
     };
     answer_each(file, head, words, lats, lons, asked, hits, text, answers)
 }
@@ -202,7 +180,7 @@ pub fn lookup_many(
     hits: &mut [u32],
     text: &mut [u8],
     answers: &mut [u32],
-) -> Many
+) -> Result<Totals, Stop>
     ensures { left (told_many result) hits.new text.new answers.new
         ≡ looked_up_many file.now lats.now lons.now asked (length hits.old) (length text.old) (length answers.old) }
 {

@@ -1,6 +1,6 @@
 -- The loops that hold words against an index. Assumes nothing.
 use Rattle.numbers.proofs.Prelude.{ℕ, suc, ◌+◌, ◌-◌, ◌*◌, ◌^◌, ◌≤◌, ◌<◌, ℤ, length, Bool, true, false, ◌&&◌, List, [], ◌∷◌, ◌≡◌, refl, sym, ap, ◌∙◌, add-zero, arith}
-use Rattle.numbers.{proofs.Replies.{carried, onward, met, unmet}, specs.{Answer.{found}, Lists.{zeros}, Reply.{Reply, given, refused, plain, demand, ◌>>=◌, ◌>>◌}, Varint.{reading_of}}}
+use Rattle.numbers.{proofs.Replies.{carried, onward, met, unmet}, specs.{Answer.{found}, Lists.{zeros}, Reply.{Reply, given, refused, plain, demand, ◌>>=◌, ◌>>◌}, Varint.{reading_of}, declared.refusal.Refusal.{Refusal}}}
 use Rattle.writer.specs.inner.Stored.{Stored}
 use Rattle.table.specs.{Ordered.{lowest}, Rows.{after, row_by}, declared.rows.{Cursor.{Cursor}, Row.{Row}}}
 use Rattle.index.proofs.{Listing.{list_met, list_not, list_done, list_few}, Standing.{at_append, sets_none}}
@@ -98,7 +98,7 @@ module _ (words : List ℕ) where
           onto : lists ≡ (stands_from words at first >>= λ next. lists_stand words (3 + t + 1) next (rest_at (t + 1)))
           onto = turned ∙ sym (met w (plain 36) _)
 
-          pub walking_list : refused (plain 36) ≡ stands_from words at first → refused (plain 36) ≡ lists
+          pub walking_list : {why : Refusal} → refused why ≡ stands_from words at first → refused why ≡ lists
           walking_list e = carried e _ ∙ sym onto
 
           pub walking_next : {next : ℕ} → n < 2 ^ 32 → given next ≡ stands_from words at first → Walking next (t + 1)

@@ -1,6 +1,7 @@
 -- How building fills the words: what each step left, and what it comes to. Assumes nothing.
-use Rattle.numbers.proofs.Prelude.{ℕ, ◌+◌, ◌*◌, ◌^◌, ◌≤◌, ◌<◌, leb-true, length, get_or, sets, length-sets, true, List, [], ◌∷◌, ◌++◌, map, ◌≡◌, refl, sym, ap, subst, ◌∙◌, arith}
-use Rattle.numbers.{proofs.{Replies.{carried, onward}, Tests.{both}}, specs.{Lists.{zeros}, Reply.{Reply, given, refused}, declared.refusal.Refusal.{Refusal}}}
+use Rattle.std.specs.Prelude.{is_err}
+use Rattle.numbers.proofs.Prelude.{ℕ, ◌+◌, ◌*◌, ◌^◌, ◌≤◌, ◌<◌, leb-true, length, get_or, sets, length-sets, Bool, true, false, List, [], ◌∷◌, ◌++◌, map, ◌≡◌, refl, sym, ap, subst, ◌∙◌, arith}
+use Rattle.numbers.{proofs.{Replies.{carried, onward}, Tests.{both, differ}}, specs.{Lists.{zeros}, Reply.{Reply, given, refused}, declared.refusal.Refusal.{Refusal}}}
 use Rattle.writer.{proofs.Stores.{stored_length}, specs.inner.Stored.{Stored}}
 use Rattle.table.{proofs.Agreeing.{Gave, gave, refused_so}, specs.{Find.{is_precision}, declared.rows.Row.{Row}, inner.Agreeing.{Agrees}}}
 use Rattle.header.specs.{Header.{head_of}, declared.header.Head.{Head}}
@@ -116,8 +117,14 @@ module _ (file : List ℕ) (n : ℕ) where
     unfolding built_in
     opened = onward e (λ head. index_with file head n)
 
-    pub built : {used : ℕ} → reply ≡ given used → indexed (given used) ws ≡ indexed_of file n
-    built r = let g = gave (Wrote n ws) (index_with file head n) settled r in given_index (g.is ∙ opened) g.fits
+    pub built : is_err reply ≡ false → indexed reply ws ≡ indexed_of file n
+    built = go reply refl where
+      go : (r : Reply ℕ) → reply ≡ r → is_err r ≡ false → indexed reply ws ≡ indexed_of file n
+      go (given used) is e = let g = gave (Wrote n ws) (index_with file head n) settled is in ap (λ (r : Reply ℕ). indexed r ws) is ∙ given_index (g.is ∙ opened) g.fits
+      go (refused why) is e = differ (sym e)
 
-    pub not_built : {why : Refusal} {zs : List ℕ} → reply ≡ refused why → zs ≡ zeros n → indexed (refused why) zs ≡ indexed_of file n
-    not_built r z = refused_index (refused_so (Wrote n ws) (index_with file head n) settled r ∙ opened) z
+    pub not_built : is_err reply ≡ true → {zs : List ℕ} → zs ≡ zeros n → indexed reply zs ≡ indexed_of file n
+    not_built = go reply refl where
+      go : (r : Reply ℕ) → reply ≡ r → is_err r ≡ true → {zs : List ℕ} → zs ≡ zeros n → indexed reply zs ≡ indexed_of file n
+      go (given used) is e z = differ e
+      go (refused why) is e {zs} z = ap (λ (r : Reply ℕ). indexed r zs) is ∙ refused_index (refused_so (Wrote n ws) (index_with file head n) settled is ∙ opened) z

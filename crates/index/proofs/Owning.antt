@@ -272,7 +272,7 @@ module _ (file : List ℕ) (size precision : ℕ) (words : List ℕ) (n : ℕ) w
       rest_kept k = unmet k (plain 36) _ ∙ met h (plain 36) _ ∙ met (le-leb (lists_at n size) (length words) room) (plain 36) _
 
       module _ (k : is_at words (records_at + 7 * n) (kept_of file size) ≡ true) where
-        pub rest_lists : refused (plain 36) ≡ lists_stand words 3 (lists_at n size) (lists_in words precision n tiles 0) → refused (plain 36) ≡ remaining
+        pub rest_lists : {why : Refusal} → refused why ≡ lists_stand words 3 (lists_at n size) (lists_in words precision n tiles 0) → refused why ≡ remaining
         unfolding rest_of
         rest_lists l = carried l _ ∙ met k (plain 36) _ ∙ met h (plain 36) _ ∙ met (le-leb (lists_at n size) (length words) room) (plain 36) _
 
@@ -310,7 +310,7 @@ module _ (file : List ℕ) (head : Head) (words : List ℕ) where
           ap (λ (m : ℕ). rest_of file head.sections.metadata head.preamble.precision words m >>= λ used. given tt) counted
           ∙ onward e (λ (rows : List Row). rest_of file head.sections.metadata head.preamble.precision words (length rows) >>= λ used. given tt) ∙ met p (plain 16) _
 
-      pub own_not : refused (plain 36) ≡ rest_of file head.sections.metadata head.preamble.precision words k → refused (plain 36) ≡ own_with file head words
+      pub own_not : {why : Refusal} → refused why ≡ rest_of file head.sections.metadata head.preamble.precision words k → refused why ≡ own_with file head words
       own_not r = carried r (λ used. given tt) ∙ left
 
       pub own_so : {used : ℕ} → given used ≡ rest_of file head.sections.metadata head.preamble.precision words k → given tt ≡ own_with file head words

@@ -21,6 +21,23 @@ pub and_not : (a b : Bool) → b ≡ false → false ≡ (a && b)
 and_not true b e = sym e
 and_not false b e = refl
 
+-- ---- what is left of words from one on
+pub next_left : (more : List ℕ) (i : ℕ) → i < length more → drop i more ≡ get_or more i 0 ∷ drop (i + 1) more
+next_left more i h = let one : suc i ≡ i + 1 = omega arith in drop-cons more i 0 h ∙ ap (λ (k : ℕ). get_or more i 0 ∷ drop k more) one
+
+pub none_left : (more : List ℕ) (i : ℕ) → length more ≤ i → drop i more ≡ []
+none_left more i h = drop_of_length-le more h
+
+module _ (words : List ℕ) (at : ℕ) (more : List ℕ) (i : ℕ) where
+  pub next_stands : i < length more → is_at words (at + i) (drop i more) ≡ (is_word words (at + i) (get_or more i 0) && is_at words (at + (i + 1)) (drop (i + 1) more))
+  unfolding is_at
+  next_stands h = let one : at + i + 1 ≡ at + (i + 1) = omega arith in
+      ap (is_at words (at + i)) (next_left more i h) ∙ ap (λ (k : ℕ). is_word words (at + i) (get_or more i 0) && is_at words k (drop (i + 1) more)) one
+
+  pub none_stand : length more ≤ i → is_at words (at + i) (drop i more) ≡ true
+  unfolding is_at
+  none_stand h = ap (is_at words (at + i)) (none_left more i h)
+
 -- ---- words at a place
 module _ (words : List ℕ) where
   pub word_so : (at x : ℕ) → at < length words → word_at words at ≡ x → is_word words at x ≡ true

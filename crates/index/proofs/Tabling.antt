@@ -1,13 +1,15 @@
 -- The table as it goes into the index, row by row; and that it is in order. Assumes nothing.
 use Rattle.numbers.proofs.{Answers.{found_one}, Lists.{sets_append}, Prelude.{ℕ, ◌+◌, ◌-◌, ◌*◌, ◌^◌, ◌≤◌, ◌<◌, ℤ, length, length-append, sets, Bool, true}}
-use Rattle.numbers.{proofs.{Prelude.{false, List, [], ◌∷◌, ◌++◌, append_assoc, append-nil, ◌≡◌, refl, sym, ap, ◌∙◌, arith}, Readings.{reading_grows}}, specs.{Answer.{Answer, found}, Reply.{Reply}}}
-use Rattle.numbers.specs.{Reply.{given, refused, plain, demand, ◌>>=◌, ◌>>◌}, Varint.{reading_of}}
+use Rattle.numbers.{proofs.{Prelude.{false, List, [], ◌∷◌, ◌++◌, append_assoc, append-nil, ◌≡◌, refl, sym, ap, ◌∙◌, arith}, Readings.{reading_grows}, Replies.{given_one}}, specs.{Answer.{Answer, found}, Reply.{Reply}}}
+use Rattle.numbers.specs.{Reply.{given, refused, plain, demand, ◌>>=◌, ◌>>◌}, Varint.{told, reading_of}, declared.refusal.Refusal.{Refusal}}
+use Rattle.numbers.specs.declared.varint.Stop.{Stop, TheVariants.{Failed, TooLong, Incomplete, OutOfRange, PastEnd}}
+use Rattle.std.specs.Prelude.{Err}
 use lib.Seq.{append_snoc}
 use Rattle.writer.specs.inner.Stored.{Stored}
 use Rattle.table.{proofs.TableRows.{at_end, at_row, at_unreadable, at_refused, row_less}, specs.{Ordered.{lowest}, Rows.{Rows, row_of, after, start_at, row_by, rows_from, rows_in}, Table.{entry_by}}}
 use Rattle.table.specs.declared.{rows.{Cursor.{Cursor}, Row.{Row}}, table.Entry.{Entry}}
 use Rattle.header.specs.declared.header.Head.{Head}
-use Rattle.index.specs.{Index.{record_of, records_at, records_of}, Table.{is_next, table_from, bottom, table_of}, inner.Building.{Recorded}}
+use Rattle.index.specs.{Index.{record_of, records_at, records_of}, Table.{is_next, table_from, bottom, table_of}, inner.Building.{Recorded, next_of}}
 use Rattle.numbers.specs.Answer as A
 
 -- ---- order
@@ -40,6 +42,32 @@ row_place strict file at {r} e = go (entry_by (reading_of strict file) at.place)
   go (found entry) e = ap (λ (x : Row). x.place) (found_one e)
   go A.failed e = let z : ◌≡◌ {A = ℕ} 0 1 = cc in absurd (omega arith)
   go (A.refused n) e = let z : ◌≡◌ {A = ℕ} 0 1 = cc in absurd (omega arith)
+
+-- a row that may stand next was read
+pub next_found : (end : ℕ) (floor : ℤ) (answer : Answer Row) {r : Row} → given r ≡ next_of end floor answer → (found r ≡ answer) × (is_next end floor r ≡ true)
+unfolding next_of
+next_found end floor (found s) {r} e = go (is_next end floor s) refl e where
+  go : (t : Bool) → is_next end floor s ≡ t → given r ≡ (demand t (plain 34) >> given s) → (found r ≡ found s) × (is_next end floor r ≡ true)
+  go true so e = let same = given_one e in (ap found same, ap (is_next end floor) same ∙ so)
+  go false so e = let z : ◌≡◌ {A = ℕ} 0 1 = cc in absurd (omega arith)
+next_found end floor A.failed e = let z : ◌≡◌ {A = ℕ} 0 1 = cc in absurd (omega arith)
+next_found end floor (A.refused n) e = let z : ◌≡◌ {A = ℕ} 0 1 = cc in absurd (omega arith)
+
+pub next_fine : (end : ℕ) (floor : ℤ) {answer : Answer Row} {r : Row} → found r ≡ answer → is_next end floor r ≡ true → given r ≡ next_of end floor answer
+unfolding next_of
+next_fine end floor e t = rw (← e, t)
+
+pub next_not : (end : ℕ) (floor : ℤ) {answer : Answer Row} {r : Row} → found r ≡ answer → is_next end floor r ≡ false → refused (plain 34) ≡ next_of end floor answer
+unfolding next_of
+next_not end floor e t = rw (← e, t)
+
+pub next_stops : (end : ℕ) (floor : ℤ) {answer : Answer Row} (stop : Stop) → told (Err stop) ≡ answer → refused (plain 34) ≡ next_of end floor answer
+unfolding next_of
+next_stops end floor Failed e = rw (← e)
+next_stops end floor TooLong e = rw (← e)
+next_stops end floor Incomplete e = rw (← e)
+next_stops end floor OutOfRange e = rw (← e)
+next_stops end floor PastEnd e = rw (← e)
 
 -- ---- the loop over the rows
 module _ (strict : Bool) (file : List ℕ) (end : ℕ) (start : Cursor) (bottom : ℤ) (before : List ℕ) where
@@ -118,6 +146,18 @@ module _ (strict : Bool) (file : List ℕ) (end : ℕ) (start : Cursor) (bottom 
             → (tabling_next is m s).done ≡ g.done ++ (r ∷ [])
         unfolding tabling_next
         next_done is m s = refl
+
+      -- a row that can't stand here
+      pub tabling_bad : {why : Refusal} → refused why ≡ next_of end floor (row_by (reading_of strict file) at) → refused why ≡ whole
+      unfolding next_of
+      tabling_bad {why} e = go (row_by (reading_of strict file) at) refl e where
+        go : (answer : Answer Row) → answer ≡ row_by (reading_of strict file) at → refused why ≡ next_of end floor answer → refused why ≡ whole
+        go (found r) is e = tested (is_next end floor r) refl e where
+          tested : (t : Bool) → is_next end floor r ≡ t → refused why ≡ (demand t (plain 34) >> given r) → refused why ≡ whole
+          tested true so e = let z : ◌≡◌ {A = ℕ} 0 1 = cc in absurd (omega arith)
+          tested false so e = let same : why ≡ plain 34 = cc in ap refused same ∙ tabling_not_next is so
+        go A.failed is e = let same : why ≡ plain 34 = cc in ap refused same ∙ tabling_unreadable is
+        go (A.refused n) is e = let same : why ≡ plain 34 = cc in ap refused same ∙ tabling_refused is
 
 -- the rows from the table's first place are the file's
 pub same_table : (file : List ℕ) (head : Head) {start : Cursor} → start ≡ start_at head.sections.table →

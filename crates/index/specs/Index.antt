@@ -4,8 +4,7 @@ use Rattle.numbers.specs.Prelude.{ℕ, zero, suc, ltb, leb, length, take, get_or
 use Rattle.numbers.specs.{Lists.{zeros, padded}, Reply.{Reply, given, refused, plain, demand, ◌>>=◌, ◌>>◌}}
 use Rattle.table.specs.{Find.{is_precision}, declared.{rows.Row.{Row}, table.Bounds.{Bounds}}}
 use Rattle.header.specs.{Header.{head_of}, declared.header.Head.{Head}}
-use Rattle.index.specs.{Table.{table_of}, Tiles.{word_of, tile_at, meets}, declared.{build.Built.{Built}, tiles.Tile.{Tile}}}
-use Rattle.index.specs.declared.build.Built.TheVariants as B
+use Rattle.index.specs.{Table.{table_of}, Tiles.{word_of, tile_at, meets}, declared.tiles.Tile.{Tile}}
 
 -- ---- records
 -- a box: lower latitude, lower longitude, upper latitude, upper longitude
@@ -118,8 +117,3 @@ indexed_by n (refused why) = indexed (refused why) (zeros n)
 
 unfoldable pub indexed_of : List ℕ → ℕ → Indexed
 indexed_of file n = indexed_by n (index_in file n)
-
--- ---- the code's answer
-abbrev pub told_built : Built → Reply ℕ
-told_built (B.Used used) = given used
-told_built (B.Refused why) = refused why

@@ -4,8 +4,7 @@ use Rattle.numbers.specs.{Prelude.{ℕ, leb, length, take, drop, Bool, List}, Re
 use Rattle.table.specs.{Find.{fix_of, is_precision}, declared.location.Location.{Location}}
 use Rattle.header.specs.{Header.{head_of}, declared.header.Head.{Head}}
 use Rattle.zones.specs.{Lent.{Outcome, Replied, replied_of}, Lookup.{zones_listed}, declared.lookup.Zones.{Zones}}
-use Rattle.index.specs.{Index.{tiles, records_at}, Tied.{word_at, is_headed, tied_with}, Tiles.{tile_of}, declared.place.{Listing.{Listing}, Place.{Place}}}
-use Rattle.index.specs.declared.place.Listing.TheVariants as L
+use Rattle.index.specs.{Index.{tiles, records_at}, Tied.{word_at, is_headed, tied_with}, Tiles.{tile_of}, declared.place.Place.{Place}}
 
 -- where the list of a tile begins; that of the next begins where it ends
 abbrev pub start_of : List ℕ → ℕ → ℕ
@@ -45,8 +44,3 @@ looked_through file words location asked n room = replied_of n room (head_of fil
 
 unfoldable pub looked_indexed : List ℕ → List ℕ → Location → Bool → ℕ → ℕ → Replied Zones
 looked_indexed file words location asked n room = replied_of n room (head_of file >>= λ head. tied_with file head words >> zones_through file head words location asked n room)
-
--- ---- the code's answer
-abbrev pub told_listing : Listing → Reply Place
-told_listing (L.At place) = given place
-told_listing (L.Refused why) = refused why

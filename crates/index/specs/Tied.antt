@@ -5,8 +5,7 @@ use Rattle.numbers.specs.Reply.{Reply, given, refused, plain, demand, ◌>>=◌,
 use Rattle.table.specs.Find.{is_precision}
 pub use Rattle.marks.specs.Words.{word_at}
 use Rattle.header.specs.{Header.{head_of}, declared.header.Head.{Head}}
-use Rattle.index.specs.{Index.{four_at, words_for, records_at, lists_at}, declared.tied.Tied.{Tied}}
-use Rattle.index.specs.declared.tied.Tied.TheVariants as T
+use Rattle.index.specs.Index.{four_at, words_for, records_at, lists_at}
 
 -- the lists begin where they must: behind so many records and the kept bytes
 abbrev pub begin_of : List ℕ → ℕ → ℕ
@@ -40,8 +39,3 @@ unfoldable pub tied_of : List ℕ → List ℕ → Reply (Unit {0})
 tied_of file words = do
   head ← head_of file
   tied_with file head words
-
--- ---- the code's answer
-abbrev pub told_tied : Tied → Reply (Unit {0})
-told_tied T.Yes = given tt
-told_tied (T.Refused why) = refused why

@@ -1,76 +1,72 @@
 // The table goes into the index row by row, if it can be read, does not run past its end, and is in order.
 ghost use Rattle.std.specs.Prelude.{◌≡◌, ◌^◌, ◌<◌};
-ghost use Rattle.writer.specs.inner.Stored.{Stored};
-ghost use Rattle.index.specs.{inner.Building.{Recorded, told_table}, Index.{box_words, record_of}, Table.{is_next, table_of}};
-ghost use Rattle.table.specs.inner.Agreeing.{Agrees};
+ghost use Rattle.index.specs.{inner.Building.{Recorded, next_of}, Index.{record_of}, Table.{is_next, table_of}};
+ghost use Rattle.numbers.specs.Varint.{reading_of};
+ghost use Rattle.table.specs.{Rows.{row_by}, inner.Agreeing.{Agrees}};
 
-use crate::build::{RECORDS_AT, Table};
-use crate::words::{put, word_of};
+use crate::build::RECORDS_AT;
+use crate::words::put_all;
 use border::place::FixedLat;
 use header::header::Head;
-use table::rows::{Reading, Row, after, row_at, start_at};
-use table::table::{Bounds, lat_below};
+use numbers::fault::Fault;
+use numbers::refusal::Refusal;
+use table::rows::{Cursor, Row, after, row_at, start_at};
 
-// The box, as four words.
-fn put_box(index: &mut [u32], at: usize, bounds: Bounds) -> usize
-    requires { at < 2 ^ 50 }
-    ensures { Stored index.old at (box_words bounds) index.new result }
+// A row's words: where its entry stands, its sums, and its box.
+pub(crate) fn record_of(row: Row) -> [u32; 7]
+    requires { row.place < 2 ^ 32 }
+    ensures { result ≡ record_of row }
 {
-    let first = put(index, at, word_of(bounds.min_lat.0));
-    let second = put(index, first, word_of(bounds.min_lon.0));
-    let third = put(index, second, word_of(bounds.max_lat.0));
-    put(index, third, word_of(bounds.max_lon.0))
-}
-
-fn put_record(index: &mut [u32], at: usize, row: Row) -> usize
-    requires { (at < 2 ^ 49) × (row.place < 2 ^ 32) }
-    ensures { Stored index.old at (record_of row) index.new result }
-{
-    let second = put(index, at, row.place as u32);
-    let third = put(index, second, row.metadata);
-    let fourth = put(index, third, row.polygon);
-    put_box(index, fourth, row.bounds)
+    let bounds = row.bounds;
+    [
+        row.place as u32,
+        row.metadata,
+        row.polygon,
+        bounds.min_lat.0.cast_unsigned(),
+        bounds.min_lon.0.cast_unsigned(),
+        bounds.max_lat.0.cast_unsigned(),
+        bounds.max_lon.0.cast_unsigned(),
+    ]
 }
 
 // Whether a row may stand in the table: it does not run past the end, and is not below the row before it.
-pub(crate) fn is_next(row: Row, end: usize, floor: FixedLat) -> bool
+fn is_next(row: Row, end: usize, floor: FixedLat) -> bool
     ensures { result ≡ is_next end floor.0 row }
 {
-    let bounds = row.bounds;
-    if row.next <= end {
-        if lat_below(bounds.min_lat, floor) {
-            return false;
-        }
-        return true;
-    }
-    false
+    row.next <= end && floor.0 <= row.bounds.min_lat.0
 }
 
-pub(crate) fn put_table(file: &[u8], head: Head, index: &mut [u32]) -> Table
-    ensures { Agrees (Recorded index.old index.new) (table_of file.now head) (told_table result) }
+// The row at a cursor, if it can be read, does not run past the table's end, and is not below the row before it.
+pub(crate) fn next_row(file: &[u8], head: Head, at: Cursor, floor: FixedLat) -> Result<Row, Refusal>
+    ensures { result ≡ next_of head.sections.metadata floor.0 (row_by (reading_of head.strict file.now) at) }
 {
-    let strict = head.strict;
+    let Ok(row) = row_at(file, at, head.strict) else {
+        return Err(Fault::BadTable.alone());
+    };
+    if !is_next(row, head.sections.metadata as usize, floor) {
+        return Err(Fault::BadTable.alone());
+    }
+    Ok(row)
+}
+
+// The answer: how many rows the table has.
+pub(crate) fn put_table(file: &[u8], head: Head, index: &mut [u32]) -> Result<usize, Refusal>
+    ensures { Agrees (Recorded index.old index.new) (table_of file.now head) result }
+{
     let sections = head.sections;
     let end = sections.metadata as usize;
     let mut at = start_at(sections.table as usize);
     let mut floor = FixedLat(-2147483648);
     let mut place = RECORDS_AT;
     let mut n = 0;
+    // Stays a `while`: the step is the cursor's.
     while at.place < end {
-        let row = match row_at(file, at, strict) {
-            Reading::Row(row) => row,
-            Reading::Failed => return Table::Bad,
-            Reading::Refused(_) => return Table::Bad,
-        };
+        let row = next_row(file, head, at, floor)?;
         let bounds = row.bounds;
-        if is_next(row, end, floor) {
-            place = put_record(index, place, row);
-            floor = bounds.min_lat;
-            at = after(row);
-            n += 1;
-        } else {
-            return Table::Bad;
-        }
+        place = put_all(index, place, &record_of(row));
+        floor = bounds.min_lat;
+        at = after(row);
+        n += 1;
     }
-    Table::Rows(n)
+    Ok(n)
 }

@@ -40,6 +40,7 @@ pub(crate) fn put_kept(file: &[u8], size: usize, index: &mut [u32], from: usize)
 {
     let mut at = from;
     let mut place = 0;
+    // Stays a `while` by fours: `chunks_exact` leaves out the last bytes, and the file may be shorter than the size.
     while place < size {
         at = put(index, at, four_at(file, size, place));
         place += 4;

@@ -11,4 +11,4 @@ pub mod own;
 pub mod place;
 pub mod tied;
 pub mod tiles;
-mod words;
+pub mod words;

@@ -26,12 +26,9 @@ fn put_list(index: &mut [u32], tile: Tile, n: usize, from: usize) -> usize
     ensures { Stored index.old «from» (list_in index.old tile n 0) index.new result }
 {
     let mut at = from;
-    let mut k = 0;
-    while k < n {
-        let number = k;
-        k += 1;
-        if is_met_in(index, tile, number) {
-            at = put(index, at, number as u32);
+    for k in 0..n {
+        if is_met_in(index, tile, k) {
+            at = put(index, at, k as u32);
         }
     }
     at
@@ -42,12 +39,10 @@ pub(crate) fn put_lists(index: &mut [u32], precision: u8, n: usize, from: usize)
     ensures { Listed index.old «from» (lists_in index.old precision n tiles 0) index.new result }
 {
     let mut at = from;
-    let mut t = 0;
-    while t < 2048 {
+    for t in 0..2048usize {
         put(index, 3 + t, (at % 0x1_0000_0000) as u32);
         let tile = tile_at(precision, t as u64);
         at = put_list(index, tile, n, at);
-        t += 1;
     }
     put(index, 2051, (at % 0x1_0000_0000) as u32);
     at

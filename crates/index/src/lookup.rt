@@ -1,15 +1,16 @@
 // Lookup through an index: among the rows in the list of the fix's tile.
 ghost use Rattle.std.specs.Prelude.{◌≡◌, length};
 ghost use Rattle.index.specs.Through.{zones_through, looked_through, looked_indexed};
-ghost use Rattle.zones.specs.{Lent.{replied, replied_of}, Lookup.{told_looked}};
+ghost use Rattle.zones.specs.Lent.{replied, replied_of};
 
 use crate::build::RECORDS_AT;
-use crate::place::{Listing, list_of};
-use crate::tied::{Tied, tied_with, wide};
-use header::header::{Head, Headed, head_of};
+use crate::place::list_of;
+use crate::tied::{tied_with, wide};
+use header::header::{Head, head_of};
 use header::zero::zero_both;
+use numbers::refusal::Refusal;
 use table::location::Location;
-use zones::lookup::{Looked, lookup_listed};
+use zones::lookup::{Zones, lookup_listed};
 
 // In a file whose header was read; any header is taken.
 fn through_in(
@@ -20,16 +21,16 @@ fn through_in(
     asked: bool,
     hits: &mut [u32],
     text: &mut [u8],
-) -> Looked
-    ensures { replied (told_looked result) hits.new text.new
+) -> Result<Zones, Refusal>
+    ensures { replied result hits.new text.new
         ≡ replied_of (length hits.old) (length text.old)
         (zones_through file.now head index.now location asked (length hits.old) (length text.old)) }
 {
     let place = match list_of(file.len(), head, index, location) {
-        Listing::At(place) => place,
-        Listing::Refused(why) => {
+        Ok(place) => place,
+        Err(why) => {
             zero_both(hits, text);
-            return Looked::Refused(why);
+            return Err(why);
         }
     };
     let from = place.from;
@@ -56,15 +57,15 @@ pub fn lookup_through(
     asked: bool,
     hits: &mut [u32],
     text: &mut [u8],
-) -> Looked
-    ensures { replied (told_looked result) hits.new text.new
+) -> Result<Zones, Refusal>
+    ensures { replied result hits.new text.new
         ≡ looked_through file.now index.now location asked (length hits.old) (length text.old) }
 {
     let head = match head_of(file) {
-        Headed::Head(head) => head,
-        Headed::Refused(why) => {
+        Ok(head) => head,
+        Err(why) => {
             zero_both(hits, text);
-            return Looked::Refused(why);
+            return Err(why);
         }
     };
     through_in(file, head, index, location, asked, hits, text)
@@ -78,21 +79,20 @@ pub fn lookup_indexed(
     asked: bool,
     hits: &mut [u32],
     text: &mut [u8],
-) -> Looked
-    ensures { replied (told_looked result) hits.new text.new
+) -> Result<Zones, Refusal>
+    ensures { replied result hits.new text.new
         ≡ looked_indexed file.now index.now location asked (length hits.old) (length text.old) }
 {
     let head = match head_of(file) {
-        Headed::Head(head) => head,
-        Headed::Refused(why) => {
+        Ok(head) => head,
+        Err(why) => {
             zero_both(hits, text);
-            return Looked::Refused(why);
+            return Err(why);
         }
     };
-    let tied = tied_with(file, head, index);
-    if let Tied::Refused(why) = tied {
+    if let Err(why) = tied_with(file, head, index) {
         zero_both(hits, text);
-        return Looked::Refused(why);
+        return Err(why);
     }
     through_in(file, head, index, location, asked, hits, text)
 }

@@ -1,12 +1,12 @@
 // Where the list of a fix's tile stands in the words.
 ghost use Rattle.std.specs.Prelude.{◌≡◌, ◌<◌, ◌≤◌, length};
-ghost use Rattle.index.specs.{Index.{records_at}, Through.{is_inside, place_of, told_listing}};
+ghost use Rattle.index.specs.{Index.{records_at}, Through.{is_inside, place_of}};
 
-use crate::tied::{OTHER_INDEX, is_headed, wide};
+use crate::tied::{is_headed, wide};
 use crate::tiles::tile_of;
 use header::header::Head;
-use numbers::refusal::{Refusal, plain};
-use table::codes::BAD_PRECISION;
+use numbers::fault::Fault;
+use numbers::refusal::Refusal;
 use table::find::{fix_of, is_precision};
 use table::location::Location;
 
@@ -14,12 +14,6 @@ use table::location::Location;
 pub struct Place {
     pub from: usize,
     pub end: usize,
-}
-
-#[derive(Clone, Copy)]
-pub enum Listing {
-    At(Place),
-    Refused(Refusal),
 }
 
 // Whether a tile's list stands inside the lists.
@@ -33,24 +27,29 @@ fn is_inside(index: &[u32], t: usize) -> bool
 }
 
 // Of words whose head goes with a file of this length.
-pub fn list_of(length: usize, head: Head, index: &[u32], location: Location) -> Listing
-    ensures { told_listing result ≡ place_of length head index.now location }
+pub fn list_of(
+    length: usize,
+    head: Head,
+    index: &[u32],
+    location: Location,
+) -> Result<Place, Refusal>
+    ensures { result ≡ place_of length head index.now location }
 {
     let preamble = head.preamble;
     let sections = head.sections;
     let precision = preamble.precision;
     let size = sections.metadata;
     if !is_precision(precision) {
-        return Listing::Refused(plain(BAD_PRECISION));
+        return Err(Fault::BadPrecision.alone());
     }
     if !is_headed(index, size, length) {
-        return Listing::Refused(plain(OTHER_INDEX));
+        return Err(Fault::OtherIndex.alone());
     }
     let t = tile_of(precision, fix_of(location, precision));
     if is_inside(index, t) {
         let from = wide(index[3 + t]);
         let end = wide(index[3 + (t + 1)]);
-        return Listing::At(Place { from, end });
+        return Ok(Place { from, end });
     }
-    Listing::Refused(plain(OTHER_INDEX))
+    Err(Fault::OtherIndex.alone())
 }

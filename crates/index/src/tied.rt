@@ -1,35 +1,26 @@
 // Whether an index goes with a file: by length, and by a comparison of every byte of header and table.
 ghost use Rattle.std.specs.Prelude.{◌≡◌, ◌+◌, ◌*◌, ◌/◌, ◌^◌, ◌<◌, ◌≤◌, length, take};
 ghost use Rattle.numbers.specs.Spoken.{said_of, no_values};
-ghost use Rattle.index.specs.{Index.{words_for}, Tied.{is_headed, keeps_from, is_tied, tied_with, tied_of, told_tied}};
+ghost use Rattle.index.specs.{Index.{words_for}, Tied.{is_headed, keeps_from, is_tied, tied_with, tied_of}};
 
 use crate::build::RECORDS_AT;
 use crate::kept::four_at;
-use header::header::{Head, Headed, head_of};
-use numbers::refusal::{Refusal, plain};
+use header::header::{Head, head_of};
+use numbers::fault::Fault;
+use numbers::refusal::Refusal;
 use numbers::said::{Said, say_refused};
-use table::codes::BAD_PRECISION;
 use table::find::is_precision;
 
-// The refusal of an index that does not go with the file.
-pub const OTHER_INDEX: u8 = 36;
-
-#[derive(Clone, Copy)]
-pub enum Tied {
-    Yes,
-    Refused(Refusal),
-}
-
 // What is said of it to C.
-pub fn say_tied(tied: Tied) -> Said
-    ensures { result ≡ said_of no_values (told_tied tied) }
+pub fn say_tied(tied: Result<(), Refusal>) -> Said
+    ensures { result ≡ said_of no_values tied }
 {
     match tied {
-        Tied::Yes => Said {
+        Ok(()) => Said {
             number: 0,
             words: [0; 5],
         },
-        Tied::Refused(why) => say_refused(why),
+        Err(why) => say_refused(why),
     }
 }
 
@@ -67,6 +58,7 @@ pub(crate) fn keeps(file: &[u8], size: usize, index: &[u32], from: usize) -> boo
 {
     let mut at = from;
     let mut place = 0;
+    // Stays a `while` by fours, as in `put_kept`.
     while place < size {
         if index[at] != four_at(file, size, place) {
             return false;
@@ -89,26 +81,23 @@ fn is_tied(file: &[u8], head: Head, index: &[u32]) -> bool
 }
 
 // In a file whose header was read: 16, 36.
-pub(crate) fn tied_with(file: &[u8], head: Head, index: &[u32]) -> Tied
-    ensures { told_tied result ≡ tied_with file.now head index.now }
+pub(crate) fn tied_with(file: &[u8], head: Head, index: &[u32]) -> Result<(), Refusal>
+    ensures { result ≡ tied_with file.now head index.now }
 {
     let preamble = head.preamble;
-    if is_precision(preamble.precision) {
-        if is_tied(file, head, index) {
-            return Tied::Yes;
-        }
-        return Tied::Refused(plain(OTHER_INDEX));
+    if !is_precision(preamble.precision) {
+        return Err(Fault::BadPrecision.alone());
     }
-    Tied::Refused(plain(BAD_PRECISION))
+    if !is_tied(file, head, index) {
+        return Err(Fault::OtherIndex.alone());
+    }
+    Ok(())
 }
 
 // Whether words have the length of this file and its bytes up to the metadata; their records, starts and lists are not looked at. Refused: opening's numbers, 16, 36.
-pub fn index_tied(file: &[u8], index: &[u32]) -> Tied
-    ensures { told_tied result ≡ tied_of file.now index.now }
+pub fn index_tied(file: &[u8], index: &[u32]) -> Result<(), Refusal>
+    ensures { result ≡ tied_of file.now index.now }
 {
-    let head = match head_of(file) {
-        Headed::Head(head) => head,
-        Headed::Refused(why) => return Tied::Refused(why),
-    };
+    let head = head_of(file)?;
     tied_with(file, head, index)
 }

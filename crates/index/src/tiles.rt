@@ -2,7 +2,6 @@
 ghost use Rattle.std.specs.Prelude.{◌≡◌, ◌+◌, ◌-◌, ◌^◌, ◌<◌, ◌≤◌};
 ghost use Rattle.index.specs.Tiles.{lift, begins_at, span_of, tile_along, tile_of, tile_at, meets, is_met};
 
-use crate::words::word_of;
 use border::place::Point;
 use std::num::wrapping_add_u32;
 
@@ -122,8 +121,8 @@ pub(crate) fn tile_of(precision: u8, fix: Point) -> usize
 {
     let lat = fix.lat;
     let lon = fix.lon;
-    let row = tile_along(5, precision as u64, lift(word_of(lat.0)));
-    let column = tile_along(6, precision as u64, lift(word_of(lon.0)));
+    let row = tile_along(5, precision as u64, lift(lat.0.cast_unsigned()));
+    let column = tile_along(6, precision as u64, lift(lon.0.cast_unsigned()));
     (64 * row + column) as usize
 }
 

@@ -1,24 +1,46 @@
-// Words into the lent index. A word that does not fit is counted and left out: the place is held against the room once, at the end.
-ghost use Rattle.std.specs.Prelude.{◌^◌, ◌<◌, ◌≡◌, [], ◌∷◌};
+// Words into a lent list, and words held against it. A word that does not fit is counted and left out: the place is held against the room once, at the end.
+ghost use Rattle.std.specs.Prelude.{◌^◌, ◌<◌, ◌≡◌, [], ◌∷◌, length};
 ghost use Rattle.writer.specs.inner.Stored.{Stored};
-ghost use Rattle.index.specs.Tiles.{word_of};
+ghost use Rattle.index.specs.inner.Own.{is_word, is_at};
 
-use numbers::point::bits_of;
-
-pub(crate) fn put(index: &mut [u32], at: usize, word: u32) -> usize
+pub fn put(words: &mut [u32], at: usize, word: u32) -> usize
     requires { at < 2 ^ 60 }
-    ensures { Stored index.old at (word ∷ []) index.new result }
+    ensures { Stored words.old at (word ∷ []) words.new result }
 {
-    if at < index.len() {
-        index[at] = word;
-        return at + 1;
+    if at < words.len() {
+        words[at] = word;
     }
     at + 1
 }
 
-// A coordinate's 32 bits.
-pub(crate) fn word_of(coordinate: i32) -> u32
-    ensures { result ≡ word_of coordinate }
+// So many, one behind the other.
+pub fn put_all(words: &mut [u32], at: usize, more: &[u32]) -> usize
+    requires { (at < 2 ^ 59) × (length more.now < 2 ^ 59) }
+    ensures { Stored words.old at more.now words.new result }
 {
-    bits_of(coordinate)
+    let mut next = at;
+    for word in more {
+        next = put(words, next, *word);
+    }
+    next
+}
+
+// Whether a word stands at a place.
+pub fn is_word(words: &[u32], at: usize, word: u32) -> bool
+    ensures { result ≡ is_word words.now at word }
+{
+    at < words.len() && words[at] == word
+}
+
+// Whether so many stand from a place on.
+pub fn stand(words: &[u32], at: usize, more: &[u32]) -> bool
+    requires { (at < 2 ^ 59) × (length more.now < 2 ^ 59) }
+    ensures { result ≡ is_at words.now at more.now }
+{
+    for (i, word) in more.iter().enumerate() {
+        if !is_word(words, at + i, *word) {
+            return false;
+        }
+    }
+    true
 }

@@ -1,16 +1,13 @@
 -- Which entries of a damaged file are kept, and why the others are dropped: document 02, Q-7.
-use Rattle.std.specs.Prelude.{◌+◌, ◌-◌, ◌%◌, ◌^◌, ◌<◌, ◌&&◌, ◌∷◌, ◌≡◌, if◌then◌else◌}
+use Rattle.std.specs.Prelude.{◌+◌, ◌-◌, ◌%◌, ◌^◌, ◌<◌, ◌&&◌, ◌∷◌, ◌≡◌, if◌then◌else◌, Option, Some, None, is_ok}
 use Rattle.numbers.specs.Prelude.{ℕ, zero, suc, ltb, leb, Bool, true, false, List, []}
 use Rattle.numbers.specs.{Answer.{Answer, found, failed}, Reply.{Reply, given, refused, plain, demand, ◌or_else◌, ◌>>=◌, ◌>>◌}, Varint.{Numeral, reading_of}}
 use Rattle.border.specs.{Encoding.{version_of, encoded_by}, Trace.{trace_of, border_at}, declared.reader.Encoding.{Encoding}}
 use Rattle.header.specs.{Text.{text_at}, declared.header.Head.{Head}}
-use Rattle.salvage.specs.{Moves.Moves.{end_of}, declared.{strings.{Field.{Field}, Good.{Good}}, walk.Kept.{Kept}}}
+use Rattle.salvage.specs.Moves.Moves.{end_of}
 use Rattle.table.specs.{Rows.{Rows, row, table_end, unreadable, rows_from, after}, declared.rows.{Cursor.{Cursor}, Row.{Row}}}
 use Rattle.numbers.specs.Answer as A
 use Rattle.table.specs.Rows as T
-use Rattle.salvage.specs.declared.walk.Kept.TheVariants as K
-use Rattle.salvage.specs.declared.strings.Field.TheVariants as F
-use Rattle.salvage.specs.declared.strings.Good.TheVariants as G
 
 -- the bytes from one place up to another lie in the metadata section
 abbrev pub in_section : Head → ℕ → ℕ → Bool
@@ -107,19 +104,10 @@ pub record LedTo (file : List ℕ) (head : Head) (at : Cursor) (r : Row) : Type 
   pub good : entry_good file head r ≡ given tt
   pub fewer : head.sections.metadata - r.next < head.sections.metadata - at.place
 
-abbrev pub FirstKept : List ℕ → Head → Cursor → Kept → Type 0
-FirstKept file head at (K.Row r) = LedTo file head at r
-FirstKept file head at K.None = kept_from file head at ≡ []
+abbrev pub FirstKept : List ℕ → Head → Cursor → Option Row → Type 0
+FirstKept file head at (Some r) = LedTo file head at r
+FirstKept file head at None = kept_from file head at ≡ []
 
--- ---- the code's answers
+-- it is kept
 abbrev pub goodness : Reply (Unit {0}) → Bool
-goodness (given good) = true
-goodness (refused why) = false
-
-abbrev pub told_field : Field → Reply ℕ
-told_field (F.Next place) = given place
-told_field (F.Refused why) = refused why
-
-abbrev pub told_good : Good → Reply (Unit {0})
-told_good G.Good = given tt
-told_good (G.Refused why) = refused why
+goodness = is_ok

@@ -4,6 +4,8 @@ use Rattle.numbers.specs.{Lists.{zeros, padded}, Prelude.{ℕ, min, ltb, leb, le
 use Rattle.header.specs.Header.{head_by}
 use Rattle.table.specs.{Rows.{rows_in}, declared.rows.Row.{Row}}
 use Rattle.salvage.specs.{File.{head_texts, new_file}, Kept.{kept_of, lines_from}}
+-- the file's length, the number of lines, the number of kept entries
+pub use Rattle.salvage.specs.declared.rescue.reply.Counts.{Counts}
 
 -- the new file, the words of the list, and the rows that are kept
 pub record Salvaged : Type 0 where
@@ -23,12 +25,6 @@ salvaged_of file words room = do
   demand (ltb 0 (length kept)) (plain 32)
   given (record { file = new; lines = lines; kept = kept })
 
--- the file's length, the number of lines, the number of kept entries
-pub record Counts : Type 0 where
-  pub length' : ℕ
-  pub lines : ℕ
-  pub kept : ℕ
-
 -- the reply, all words of the list and all bytes of the output: zeros behind what is written; on a refusal zeros alone
 pub record Replied : Type 0 where
   pub reply : Reply Counts
@@ -37,7 +33,7 @@ pub record Replied : Type 0 where
 
 abbrev pub replied_of : ℕ → ℕ → Reply Salvaged → Replied
 replied_of words room (given s) = record {
-  reply = given (record { length' = length s.file; lines = length s.lines / 2; kept = length s.kept });
+  reply = given (record { size = length s.file; lines = length s.lines / 2; kept = length s.kept });
   list = padded words s.lines;
   out = padded room s.file;
 }

@@ -6,7 +6,7 @@ ghost use Rattle.salvage.specs.{File.{border_bytes}, Kept.{kept_of}};
 
 use crate::entry::{encoding_in, section_place};
 use crate::moves::redraw::put_border;
-use crate::walk::{Kept, next_kept};
+use crate::walk::next_kept;
 use header::header::Head;
 use table::rows::{after, start_at};
 
@@ -16,12 +16,10 @@ pub(crate) fn put_data(file: &[u8], head: Head, out: &mut [u8], at: usize) -> us
 {
     let mut next = at;
     let mut from = start_at(head.sections.table as usize);
-    loop {
-        let Kept::Row(row) = next_kept(file, head, from) else {
-            return next;
-        };
+    while let Some(row) = next_kept(file, head, from) {
         let place = section_place(head.sections.data, row.polygon);
         next = put_border(file, encoding_in(head), place, out, next);
         from = after(row);
     }
+    next
 }

@@ -8,7 +8,7 @@ ghost use Rattle.salvage.specs.{File.{id_step, box_bytes, entry_bytes, border_by
 use crate::entry::{encoding_in, section_place};
 use crate::moves::put::put_number;
 use crate::moves::redraw::put_border;
-use crate::walk::{Kept, next_kept};
+use crate::walk::next_kept;
 use header::header::Head;
 use numbers::write::form_of;
 use table::rows::{Row, after, start_at};
@@ -62,13 +62,11 @@ pub(crate) fn put_table(file: &[u8], head: Head, out: &mut [u8], at: usize) -> u
     let mut id: u32 = 0;
     let mut size: usize = 0;
     let mut from = start_at(head.sections.table as usize);
-    loop {
-        let Kept::Row(row) = next_kept(file, head, from) else {
-            return next;
-        };
+    while let Some(row) = next_kept(file, head, from) {
         next = put_entry(out, next, id, size as u64, row);
         size = border_size(file, head, row);
         id = row.metadata;
         from = after(row);
     }
+    next
 }

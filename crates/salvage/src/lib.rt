@@ -1,7 +1,6 @@
 // Salvage of a damaged file: what is kept of it, and why the rest is dropped.
 #![tactic(auto)]
 
-pub mod codes;
 pub mod data;
 pub mod entries;
 pub mod entry;

@@ -1,5 +1,4 @@
 // Salvage itself: the list of dropped entries, the new file, and the reply.
-pub mod codes;
 pub mod copy;
 pub mod lines;
 pub mod reply;

@@ -1,42 +1,25 @@
 // The strings of an entry: read, and wholly in the metadata section.
 ghost use Rattle.std.specs.Prelude.{◌≡◌};
-ghost use Rattle.salvage.specs.Kept.{in_section, span_inside, string_inside, field_good, fields_good, told_field, told_good};
+ghost use Rattle.salvage.specs.Kept.{in_section, span_inside, string_inside, field_good, fields_good};
 
-use crate::codes::{BAD_VALUE, STRING_OUTSIDE};
 use header::header::Head;
-use header::text::{Blame, Read, read_text};
-use numbers::refusal::{Refusal, plain};
-use numbers::varint::{Varint, read_number};
-
-// The place of the next field, or the first reason met.
-#[derive(Clone, Copy)]
-pub enum Field {
-    Next(usize),
-    Refused(Refusal),
-}
-
-#[derive(Clone, Copy)]
-pub enum Good {
-    Good,
-    Refused(Refusal),
-}
+use header::text::{Blame, read_text};
+use numbers::fault::Fault;
+use numbers::refusal::Refusal;
+use numbers::varint::read_number;
 
 // Whether the bytes from one place up to another lie in the metadata section.
 pub(crate) fn in_section(head: Head, from: usize, to: usize) -> bool
     ensures { result ≡ in_section head from to }
 {
-    if head.sections.metadata as usize <= from {
-        return to <= head.sections.data as usize;
-    }
-    false
+    head.sections.metadata as usize <= from && to <= head.sections.data as usize
 }
 
 // Whether a length at a place and the bytes behind it do.
 pub(crate) fn span_inside(file: &[u8], head: Head, place: usize) -> bool
     ensures { result ≡ span_inside file.now head place }
 {
-    let n = read_number(file, place, head.strict);
-    let Varint::Number(number) = n else {
+    let Ok(number) = read_number(file, place, head.strict) else {
         return false;
     };
     if 0xFFFF_FFFF < number.value {
@@ -49,8 +32,7 @@ pub(crate) fn span_inside(file: &[u8], head: Head, place: usize) -> bool
 pub(crate) fn string_inside(file: &[u8], head: Head, place: usize) -> bool
     ensures { result ≡ string_inside file.now head place }
 {
-    let n = read_number(file, place, head.strict);
-    let Varint::Number(number) = n else {
+    let Ok(number) = read_number(file, place, head.strict) else {
         return false;
     };
     if number.value < 256 {
@@ -64,37 +46,33 @@ pub(crate) fn string_inside(file: &[u8], head: Head, place: usize) -> bool
     false
 }
 
-// A field value, read and then placed.
-pub(crate) fn field_good(file: &[u8], head: Head, place: usize) -> Field
-    ensures { told_field result ≡ field_good file.now head place }
+// A field value, read and then placed. The answer: the place of the next.
+pub(crate) fn field_good(file: &[u8], head: Head, place: usize) -> Result<usize, Refusal>
+    ensures { result ≡ field_good file.now head place }
 {
     let blame = Blame {
-        number: BAD_VALUE,
+        number: Fault::BadField as u8,
         detail: 0,
     };
-    let text = match read_text(file, head.strict, head.sections.metadata, place, blame) {
-        Read::Text(text) => text,
-        Read::Refused(why) => return Field::Refused(why),
-    };
-    if string_inside(file, head, place) {
-        let next = text.next;
-        return Field::Next(next);
+    let text = read_text(file, head.strict, head.sections.metadata, place, blame)?;
+    if !string_inside(file, head, place) {
+        return Err(Fault::StringOutside.alone());
     }
-    Field::Refused(plain(STRING_OUTSIDE))
+    Ok(text.next)
 }
 
 // So many of them, one after the other.
-pub(crate) fn fields_good(file: &[u8], head: Head, count: usize, place: usize) -> Good
-    ensures { told_good result ≡ fields_good file.now head count place }
+pub(crate) fn fields_good(
+    file: &[u8],
+    head: Head,
+    count: usize,
+    place: usize,
+) -> Result<(), Refusal>
+    ensures { result ≡ fields_good file.now head count place }
 {
-    let mut left = count;
     let mut here = place;
-    while 0 < left {
-        here = match field_good(file, head, here) {
-            Field::Next(next) => next,
-            Field::Refused(why) => return Good::Refused(why),
-        };
-        left -= 1;
+    for _ in 0..count {
+        here = field_good(file, head, here)?;
     }
-    Good::Good
+    Ok(())
 }

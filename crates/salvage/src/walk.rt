@@ -3,41 +3,30 @@ ghost use Rattle.std.specs.Prelude.{◌≡◌};
 ghost use Rattle.salvage.specs.Kept.{entry_good, goodness, FirstKept};
 
 use crate::entry::entry_good;
-use crate::strings::Good;
 use header::header::Head;
-use table::rows::{Cursor, Reading, Row, after, row_at};
-
-#[derive(Clone, Copy)]
-pub enum Kept {
-    Row(Row),
-    None,
-}
+use table::rows::{Cursor, Row, after, row_at};
 
 pub(crate) fn is_good(file: &[u8], head: Head, row: Row) -> bool
     ensures { result ≡ goodness (entry_good file.now head row) }
 {
-    match entry_good(file, head, row) {
-        Good::Good => true,
-        Good::Refused(_) => false,
-    }
+    entry_good(file, head, row).is_ok()
 }
 
 // The first row from a cursor on that is kept.
-pub(crate) fn next_kept(file: &[u8], head: Head, from: Cursor) -> Kept
+pub(crate) fn next_kept(file: &[u8], head: Head, from: Cursor) -> Option<Row>
     ensures { FirstKept file.now head from result }
 {
     let end = head.sections.metadata as usize;
     let mut at = from;
+    // Stays a `while`: the step is the cursor's.
     while at.place < end {
-        let row = match row_at(file, at, head.strict) {
-            Reading::Row(row) => row,
-            Reading::Failed => return Kept::None,
-            Reading::Refused(_) => return Kept::None,
+        let Ok(row) = row_at(file, at, head.strict) else {
+            return None;
         };
         at = after(row);
         if is_good(file, head, row) {
-            return Kept::Row(row);
+            return Some(row);
         }
     }
-    Kept::None
+    None
 }

@@ -1,11 +1,11 @@
 -- What the inner functions of building say of each other.
 use Rattle.std.specs.Prelude.{◌+◌, ◌*◌, ◌^◌, ◌<◌, ◌∷◌, ◌≡◌, if◌then◌else◌}
-use Rattle.numbers.specs.Prelude.{ℕ, zero, suc, length, get_or, sets, Bool, List, [], map}
-use Rattle.numbers.specs.Reply.{Reply, given, refused, plain}
+use Rattle.numbers.specs.Prelude.{ℕ, zero, suc, length, get_or, sets, ℤ, Bool, List, [], map}
+use Rattle.numbers.specs.{Answer.{Answer, found, failed}, Reply.{Reply, given, refused, plain, demand, ◌>>◌}}
 use Rattle.table.specs.declared.rows.Row.{Row}
 pub use Rattle.marks.specs.Marks.{low}
-use Rattle.index.specs.{Index.{records_at, records_of, joined, starts_from}, Tiles.{meets, tile_at}, declared.{build.Table.{Table}, tiles.Tile.{Tile}}}
-use Rattle.index.specs.declared.build.Table.TheVariants as T
+use Rattle.index.specs.{Index.{records_at, records_of, joined, starts_from}, Tiles.{meets, tile_at}, Table.{is_next}, declared.tiles.Tile.{Tile}}
+use Rattle.numbers.specs.Answer as A
 
 -- the box of a record in the words meets a tile
 abbrev pub is_met_in : List ℕ → Tile → ℕ → Bool
@@ -33,6 +33,8 @@ pub record Recorded (before after : List ℕ) (rows : List Row) (n : ℕ) : Type
   pub few : n < 2 ^ 32
   pub stored : after ≡ sets before records_at (records_of rows)
 
-abbrev pub told_table : Table → Reply ℕ
-told_table (T.Rows n) = given n
-told_table T.Bad = refused (plain 34)
+-- a row that was read may stand behind one with this lower latitude in a table with this end; else 34
+unfoldable pub next_of : ℕ → ℤ → Answer Row → Reply Row
+next_of end floor (found r) = demand (is_next end floor r) (plain 34) >> given r
+next_of end floor failed = refused (plain 34)
+next_of end floor (A.refused n) = refused (plain 34)

@@ -3,9 +3,7 @@ use Rattle.std.specs.Prelude.{◌+◌, ◌-◌, ◌*◌, ◌^◌, ◌<◌, ◌&&
 use Rattle.numbers.specs.{Lists.{zeros}, Prelude.{ℕ, eqb, ltb, leb, length, Bool, true, List, []}, Reply.{Reply, given, refused, plain, demand, ◌>>=◌, ◌>>◌}}
 use Rattle.table.specs.{Find.{is_precision}, declared.rows.Row.{Row}}
 use Rattle.header.specs.declared.header.Head.{Head}
-use Rattle.index.specs.{Index.{records_of, kept_of, tiles, records_at, lists_at}, Table.{table_of}, Tied.{word_at}, declared.own.{Compared.{Compared}, Next.{Next}}, inner.Building.{lists_in}}
-use Rattle.index.specs.declared.own.Compared.TheVariants as C
-use Rattle.index.specs.declared.own.Next.TheVariants as N
+use Rattle.index.specs.{Index.{records_of, kept_of, tiles, records_at, lists_at}, Table.{table_of}, Tied.{word_at}, inner.Building.{lists_in}}
 
 -- a word stands at a place of the words
 abbrev pub is_word : List ℕ → ℕ → ℕ → Bool
@@ -58,12 +56,3 @@ own_with file head words = do
   rows ← compared_of file head words
   used ← rest_of file head.sections.metadata head.preamble.precision words (length rows)
   given tt
-
-abbrev pub told_compared : Compared → Reply ℕ
-told_compared (C.Rows n) = given n
-told_compared C.Other = refused (plain 36)
-told_compared C.Bad = refused (plain 34)
-
-abbrev pub told_next : Next → Reply ℕ
-told_next (N.At at) = given at
-told_next N.Other = refused (plain 36)

@@ -4,7 +4,7 @@ use Rattle.numbers.{proofs.{Answers.{All, found_one}, Spelling.{one_byte, varint
 use Rattle.numbers.specs.{Varint.{reading_of}, declared.point.RawPoint.{RawPoint}}
 use lib.IntN.{+ℤ_comm, +ℤ-neg_ℤ_cancel}
 use Rattle.border.{proofs.{OnWay.{At, at_first, at_next, on_way}, Trace.{trace_step}, reader.Turns.{turn_move, turn_marker, mark_closes, advances, open_packed}}, specs.Place.{point_at, moved_by}}
-use Rattle.border.specs.{Reader.{Turn, gives, onward, closing, advanced}, Trace.{Given, reaches, ended, next_point, Trace, point, closed, trace_then, trace_of, border_at}}
+use Rattle.border.specs.{Reader.{onward, closing, advanced}, Trace.{Given, reaches, ended, next_point, Trace, point, closed, trace_then, trace_of, border_at}}
 use Rattle.border.specs.declared.place.Point.{Point}
 use Rattle.border.specs.declared.reader.{Encoding.{Encoding}, Reader.{Reader}, Run.TheVariants.{Idle}, Version.TheVariants.{Packed}}
 use Rattle.writer.specs.Moves.{move_to}
@@ -12,6 +12,7 @@ use Rattle.salvage.proofs.moves.{Ends.{unfound, unrefused}, Forms.{step_back, st
 use Rattle.salvage.proofs.moves.Turning.{turn, trace_by, trace_turn, closed_trace, Ranged, Steps, Closes, DoesThere, next_does}
 use Rattle.salvage.specs.Moves.Moves.{end_of, origin, goes_on, steps_from, step_number, step_bytes, moves_bytes}
 use Rattle.border.specs.Trace as T
+use Rattle.border.specs.declared.reader.Turn.{Turn, TheVariants.{Gives as gives}}
 
 -- ---- a point that a move leads to is that far away
 sum_gap : (a b : ℤ) → (a +ℤ b) -ℤ a ≡ b

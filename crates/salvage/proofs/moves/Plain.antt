@@ -1,17 +1,18 @@
 -- Version 0: a border is its pairs, and they are read again from what is written of them. Assumes nothing.
-use Rattle.numbers.proofs.{Answers.{All, then_all, any, found_one}, Laws.{Read, case_of}}
+use Rattle.std.specs.Prelude.{Err}
+use Rattle.numbers.proofs.{Answers.{All, then_all, any, found_one}, Laws.{Read}}
 use Rattle.numbers.proofs.Prelude.{ℕ, zero, suc, ◌+◌, ◌-◌, ◌^◌, ◌<◌, ne_eqb, eqb, length, mag, Bool, true, false, List, [], ◌∷◌, ◌++◌, append_assoc, flat_map, ◌≡◌, refl, sym, ap, subst, ◌∙◌, arith}
-use Rattle.numbers.{proofs.{Prelude.{OneOf, miss}, Readings.{reading_read}, Spelling.{varint_whole}}, specs.{Answer.{Answer, found, failed, refused, if◌then◌else◌, ◌>>=◌}, Point.{signed_of}}}
-use Rattle.numbers.specs.{Spelling.{varint_of, signed_form}, Varint.{Numeral, told, reading_of}, declared.{point.RawPoint.{RawPoint}, varint.Varint.{Varint}}}
+use Rattle.numbers.{proofs.{Readings.{reading_read}, Spelling.{varint_whole}}, specs.{Answer.{Answer, found, failed, refused, if◌then◌else◌, ◌>>=◌}, Point.{signed_of}}}
+use Rattle.numbers.specs.{Spelling.{varint_of, signed_form}, Varint.{Numeral, told, reading_of}, declared.{point.RawPoint.{RawPoint}, varint.Stop.{Stop}}}
 use Rattle.border.{proofs.{OnWay.{At, at_first, at_next, on_way}, reader.Turns.{open_plain, counted_before, count_fails, count_read, pair_closes}}, specs.Place.{move_by, is_still, moved_by}}
-use Rattle.border.specs.{Reader.{Reading, Turn, gives, again, onward, arrived, closing, shown_by, plain_move, plain_pair, plain_turn}, Trace.{Trace, point, trace_of, border_at}}
+use Rattle.border.specs.{Reader.{Reading, onward, arrived, closing, shown_by, plain_move, plain_pair, plain_turn}, Trace.{Trace, point, trace_of, border_at}}
 use Rattle.border.specs.declared.{place.Point.{Point}, reader.{Encoding.{Encoding}, Reader.{Reader}, Run.TheVariants.{Idle}, Version.TheVariants.{Plain}}}
 use Rattle.writer.specs.Moves.{plain_move_bytes}
-use Rattle.salvage.proofs.moves.{Capping.{capped_then, capped_as}, Ends.{unfound, unrefused}, Forms.{signed_mag, form_again, form_few}, Standing.{reads_both}}
+use Rattle.salvage.proofs.moves.{Capping.{capped_then, capped_as}, Ends.{by_stop, unfound, unrefused}, Forms.{signed_mag, form_again, form_few}, Standing.{reads_both}}
 use Rattle.salvage.proofs.moves.{Turning.{turn, trace_by, trace_turn, closed_trace}, pairs.Pairing.{pair_is}}
 use Rattle.salvage.specs.{Moves.Moves.{end_of, origin, pair_at, pairs_from, plain_moves, moves_bytes}, declared.moves.pairs.Pair.{Pair}, inner.Moves.Laid.{Capped, Copied}}
 use Rattle.border.specs.Trace as T
-use Rattle.numbers.specs.declared.varint.Varint.TheVariants as N
+use Rattle.border.specs.declared.reader.Turn.{Turn, TheVariants.{Gives as gives, Again as again}}
 
 -- ---- a turn is a pair, then its move
 abbrev pair_of : Numeral → Numeral → Pair
@@ -328,11 +329,10 @@ plain_bytes moves n e = ap (λ (k : ℕ). varint_of k ++ flat_map plain_move_byt
 
 module _ (read : Reading) (place : ℕ) (before : List ℕ) (at : ℕ) where
   -- no count
-  pub count_stops : (after : List ℕ) (next : ℕ) (n : Varint) → OneOf (1 ∷ 2 ∷ []) (case_of n) → told n ≡ read place → Copied (moves_bytes Plain) (plain_moves read place) before at after next
+  pub count_stops : (after : List ℕ) (next : ℕ) (stop : Stop) → told (Err stop) ≡ read place → Copied (moves_bytes Plain) (plain_moves read place) before at after next
   unfolding plain_moves
-  count_stops after next (N.Number number) o e = absurd (miss (1 ∷ 2 ∷ []) 0 tt o)
-  count_stops after next N.Failed o e = rw (← e) tt
-  count_stops after next (N.Refused n) o e = rw (← e) tt
+  count_stops after next =
+      by_stop (λ (a : Answer Numeral). a ≡ read place → Copied (moves_bytes Plain) (plain_moves read place) before at after next) (λ e. rw (← e) tt) (λ n e. rw (← e) tt)
 
   -- the count, then the pairs
   pub count_goes : {middle : List ℕ} {next : ℕ} (after : List ℕ) (end : ℕ) {count : Numeral} → found count ≡ read place → Capped before at (varint_of count.value) middle next

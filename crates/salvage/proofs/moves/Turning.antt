@@ -5,12 +5,13 @@ use Rattle.numbers.specs.{Varint.{reading_of, backward_at}, declared.point.RawPo
 use lib.IntN.{+ℤ_idr}
 use native.Mathlib.Nat.{lt-suc_self}
 use Rattle.border.{proofs.{Room.{left}, Trace.{next_step, trace_step, again_less}, reader.Turns.{open_packed, closed_ends}}, specs.Place.{point_at, move_by, moved_by, negated}}
-use Rattle.border.specs.Reader.{Reading, Turn, gives, again, ends, onward, arrived, advanced, as_i64, opened, reference, marker, lent, packed_turn, turn_of}
+use Rattle.border.specs.Reader.{Reading, onward, arrived, advanced, as_i64, opened, reference, marker, lent, packed_turn, turn_of}
 use Rattle.border.specs.Trace.{Given, reaches, ended, round_again, next_point, Trace, point, closed, trace_then, trace_of}
 use Rattle.border.specs.declared.{place.Point.{Point}, reader.{Encoding.{Encoding}, Reader.{Reader}}}
 use Rattle.border.specs.declared.reader.{Run.{Run, TheVariants.{Idle, Forward, Backward}}, Version.TheVariants.{Packed}}
 use Rattle.salvage.proofs.moves.Forms.{Small, point_tiny, still_tiny, negated_tiny}
 use Rattle.border.specs.Trace as T
+use Rattle.border.specs.declared.reader.Turn.{Turn, TheVariants.{Gives as gives, Again as again, Ended as ends}}
 
 -- ---- the trace, turn by turn
 unfoldable pub trace_by : Answer Turn → (Reader → Trace) → Trace

@@ -1,22 +1,12 @@
 -- What the promise fixes: two replies that it permits are equal, with both lent outputs; and a refusal leaves both zero. Assumes nothing.
 use Rattle.numbers.{proofs.Prelude.{ℕ, List, ◌≡◌, refl, sym, ap, ◌∙◌, arith}, specs.{Lists.{zeros}, Reply.{Reply, given, refused}, declared.refusal.Refusal.{Refusal}}}
-use Rattle.salvage.specs.{Salvage.{Salvaged, Counts, Replied, replied_of, salvaged_of, salvaged}, declared.rescue.reply.Rescued.{Rescued}, inner.Rescue.Told.{told_rescued, replied}}
-use Rattle.salvage.specs.declared.rescue.reply.Rescued.TheVariants as R
-
-back : Reply Counts → Rescued
-back (given counts) = R.Counts (record { size = counts.length'; lines = counts.lines; kept = counts.kept })
-back (refused why) = R.Refused why
-
-back_again : (r : Rescued) → back (told_rescued r) ≡ r
-unfolding back
-back_again (R.Counts counts) = refl
-back_again (R.Refused why) = refl
+use Rattle.salvage.specs.{Salvage.{Salvaged, Counts, Replied, replied_of, salvaged_of, salvaged}, inner.Rescue.Told.{replied}}
 
 module _ (file : List ℕ) (words room : ℕ) where
-  pub same_salvage : (r r' : Rescued) (list list' out out' : List ℕ) → replied r list out ≡ salvaged file words room → replied r' list' out' ≡ salvaged file words room
+  pub same_salvage : (r r' : Reply Counts) (list list' out out' : List ℕ) → replied r list out ≡ salvaged file words room → replied r' list' out' ≡ salvaged file words room
       → (r ≡ r') × (list ≡ list') × (out ≡ out')
   same_salvage r r' list list' out out' e e' = let same = e ∙ sym e' in
-      (sym (back_again r) ∙ ap (λ (x : Replied). back x.reply) same ∙ back_again r', ap (λ (x : Replied). x.list) same, ap (λ (x : Replied). x.out) same)
+      (ap (λ (x : Replied). x.reply) same, ap (λ (x : Replied). x.list) same, ap (λ (x : Replied). x.out) same)
 
   all_zero : (answer : Reply Salvaged) (why : Refusal) → (replied_of words room answer).reply ≡ refused why →
       ((replied_of words room answer).list ≡ zeros words) × ((replied_of words room answer).out ≡ zeros room)

@@ -1,11 +1,11 @@
 -- Strings and their places, field by field. Assumes nothing.
-use Rattle.numbers.proofs.Prelude.{ℕ, zero, suc, ◌+◌, ◌-◌, ◌%◌, ◌^◌, ◌≤◌, ◌<◌, lt-ltb, le-ltb, lt-leb, leb, Bool, true, false, ◌&&◌, List, [], ◌∷◌, ◌≡◌, refl, sym, ap, ◌∙◌, arith, OneOf, miss}
-use Rattle.numbers.{proofs.Laws.{case_of}, specs.{Answer.{found}, Reply.{Reply, given, refused, plain}, Varint.{Numeral, told, reading_of}, declared.refusal.Refusal.{Refusal}}}
-use Rattle.numbers.specs.declared.varint.Varint.{Varint}
+use Rattle.std.specs.Prelude.{Err}
+use Rattle.numbers.proofs.Prelude.{ℕ, zero, suc, ◌+◌, ◌-◌, ◌%◌, ◌^◌, ◌≤◌, ◌<◌, lt-ltb, le-ltb, lt-leb, leb, Bool, true, false, ◌&&◌, List, [], ◌∷◌, ◌≡◌, refl, sym, ap, ◌∙◌, arith}
+use Rattle.numbers.specs.{Answer.{Answer, found}, Reply.{Reply, given, refused, plain}, Varint.{Numeral, told, reading_of}, declared.{refusal.Refusal.{Refusal}, varint.Stop.{Stop}}}
+use Rattle.salvage.proofs.moves.Ends.{by_stop}
 use native.Mathlib.Numerals.{sub-one}
 use Rattle.header.{proofs.Strings.{away}, specs.{Text.{text_at}, declared.{header.Head.{Head}, text.Text.{Text}}}}
 use Rattle.salvage.specs.Kept.{in_section, span_inside, string_inside, field_good, fields_good}
-use Rattle.numbers.specs.declared.varint.Varint.TheVariants as N
 
 nothing_in : (t : Bool) → false ≡ (t && false)
 nothing_in true = refl
@@ -13,22 +13,13 @@ nothing_in false = refl
 
 module _ (file : List ℕ) (head : Head) (place : ℕ) where
   -- ---- a length that can't be read
-  module _ (n : Varint) (none : OneOf (1 ∷ 2 ∷ []) (case_of n)) (e : told n ≡ reading_of head.strict file place) where
-    pub span_stops : false ≡ span_inside file head place
-    unfolding span_inside
-    span_stops = go n none e where
-      go : (n : Varint) → OneOf (1 ∷ 2 ∷ []) (case_of n) → told n ≡ reading_of head.strict file place → false ≡ span_inside file head place
-      go (N.Number number) o g = absurd (miss (1 ∷ 2 ∷ []) 0 tt o)
-      go N.Failed o g = rw (← g)
-      go (N.Refused m) o g = rw (← g)
+  pub span_stops : (stop : Stop) → told (Err stop) ≡ reading_of head.strict file place → false ≡ span_inside file head place
+  unfolding span_inside
+  span_stops = by_stop (λ (a : Answer Numeral). a ≡ reading_of head.strict file place → false ≡ span_inside file head place) (λ e. rw (← e)) (λ n e. rw (← e))
 
-    pub string_stops : false ≡ string_inside file head place
-    unfolding string_inside
-    string_stops = go n none e where
-      go : (n : Varint) → OneOf (1 ∷ 2 ∷ []) (case_of n) → told n ≡ reading_of head.strict file place → false ≡ string_inside file head place
-      go (N.Number number) o g = absurd (miss (1 ∷ 2 ∷ []) 0 tt o)
-      go N.Failed o g = rw (← g)
-      go (N.Refused m) o g = rw (← g)
+  pub string_stops : (stop : Stop) → told (Err stop) ≡ reading_of head.strict file place → false ≡ string_inside file head place
+  unfolding string_inside
+  string_stops = by_stop (λ (a : Answer Numeral). a ≡ reading_of head.strict file place → false ≡ string_inside file head place) (λ e. rw (← e)) (λ n e. rw (← e))
 
   -- ---- one that was read
   module _ {number : Numeral} (e : found number ≡ reading_of head.strict file place) where

@@ -1,6 +1,8 @@
 -- The rows that are kept, from a cursor on. Assumes nothing.
 use Rattle.numbers.proofs.Prelude.{ℕ, ◌-◌, ◌≤◌, ◌<◌, Bool, true, false, List, [], ◌∷◌, ◌≡◌, refl, sym, ap, ◌∙◌, arith}
-use Rattle.numbers.{proofs.{Readings.{reading_grows}, Tests.{differ}}, specs.{Answer.{Answer, found, failed}, Reply.{Reply, given, refused}, Varint.{Numeral, reading_of}}}
+use Rattle.numbers.{proofs.{Readings.{reading_grows}, Tests.{differ}}, specs.{Answer.{Answer, found, failed}, Reply.{Reply, given, refused}, Varint.{Numeral, told, reading_of}, declared.varint.Stop.{Stop}}}
+use Rattle.std.specs.Prelude.{Err}
+use Rattle.salvage.proofs.moves.Ends.{by_stop}
 use Rattle.header.specs.declared.header.Head.{Head}
 use Rattle.table.{proofs.TableRows.{at_end, at_row, at_unreadable, at_refused, row_less}, specs.{Rows.{after, row_by}, declared.rows.{Cursor.{Cursor}, Row.{Row}}}}
 use Rattle.salvage.specs.Kept.{entry_good, kept_if, kept_of, kept_from, goodness, LedTo}
@@ -30,13 +32,16 @@ module _ (file : List ℕ) (head : Head) where
   kept_end at h = ap (kept_of file head) (at_end read (reading_grows head.strict file) at h)
 
   module _ (at : Cursor) (more : at.place < end) where
-    pub kept_failed : failed ≡ row_by read at → kept_from file head at ≡ []
+    kept_failed : failed ≡ row_by read at → kept_from file head at ≡ []
     unfolding kept_from kept_of
     kept_failed e = ap (kept_of file head) (at_unreadable read (reading_grows head.strict file) at more e)
 
-    pub kept_refused : {n : ℕ} → A.refused n ≡ row_by read at → kept_from file head at ≡ []
+    kept_refused : {n : ℕ} → A.refused n ≡ row_by read at → kept_from file head at ≡ []
     unfolding kept_from kept_of
     kept_refused e = ap (kept_of file head) (at_refused read (reading_grows head.strict file) at more e)
+
+    pub kept_stops : (stop : Stop) → told (Err stop) ≡ row_by read at → kept_from file head at ≡ []
+    kept_stops = by_stop (λ (a : Answer Row). a ≡ row_by read at → kept_from file head at ≡ []) kept_failed (λ n. kept_refused)
 
     pub kept_here : {r : Row} {t : Bool} → found r ≡ row_by read at → t ≡ goodness (entry_good file head r) → t ≡ true → LedTo file head at r
     unfolding kept_from kept_of

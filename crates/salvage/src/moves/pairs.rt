@@ -3,12 +3,12 @@ ghost use mathlib.Core.List.{flat_map};
 ghost use Rattle.std.specs.Prelude.{suc, ◌≡◌};
 ghost use Rattle.writer.specs.Moves.{plain_move_bytes};
 ghost use Rattle.border.specs.declared.reader.Version.TheVariants.{Plain};
-ghost use Rattle.numbers.specs.Varint.{reading_of};
-ghost use Rattle.salvage.specs.{inner.Moves.Laid.{Capped, Copied, told_pair, stopped_pair}, Moves.Moves.{pair_at, pairs_from, plain_moves, moves_bytes}};
+ghost use Rattle.numbers.specs.Varint.{told, reading_of};
+ghost use Rattle.salvage.specs.{inner.Moves.Laid.{Capped, Copied}, Moves.Moves.{pair_at, pairs_from, plain_moves, moves_bytes}};
 
 use crate::moves::put::put_number;
 use numbers::point::{RawPoint, signed};
-use numbers::varint::{Varint, read_number};
+use numbers::varint::{Stop, read_number};
 use numbers::write::form_of;
 
 // A move, and the place behind its two numbers.
@@ -18,40 +18,16 @@ pub struct Pair {
     pub place: usize,
 }
 
-#[derive(Clone, Copy)]
-pub enum Paired {
-    Pair(Pair),
-    Failed,
-    Refused(u8),
-}
-
-// The answer where a number could not be read.
-fn stop(n: Varint) -> Paired
-    ensures { told_pair result ≡ stopped_pair n }
+pub(crate) fn read_pair(file: &[u8], strict: bool, place: usize) -> Result<Pair, Stop>
+    ensures { told result ≡ pair_at (reading_of strict file.now) place }
 {
-    match n {
-        Varint::Refused(number) => Paired::Refused(number),
-        Varint::Failed => Paired::Failed,
-        Varint::Number(_) => Paired::Failed,
-    }
-}
-
-pub(crate) fn read_pair(file: &[u8], strict: bool, place: usize) -> Paired
-    ensures { told_pair result ≡ pair_at (reading_of strict file.now) place }
-{
-    let n = read_number(file, place, strict);
-    let Varint::Number(lat) = n else {
-        return stop(n);
-    };
-    let m = read_number(file, lat.place, strict);
-    let Varint::Number(lon) = m else {
-        return stop(m);
-    };
+    let lat = read_number(file, place, strict)?;
+    let lon = read_number(file, lat.place, strict)?;
     let by = RawPoint {
         lat: signed(lat.value),
         lon: signed(lon.value),
     };
-    Paired::Pair(Pair {
+    Ok(Pair {
         by,
         place: lon.place,
     })
@@ -78,8 +54,9 @@ fn put_pairs(
     let mut next = at;
     let mut here = place;
     let mut left = count;
+    // Stays a `loop`: there is one pair more than the count, which may be the greatest number.
     loop {
-        let Paired::Pair(pair) = read_pair(file, strict, here) else {
+        let Ok(pair) = read_pair(file, strict, here) else {
             return next;
         };
         let by = pair.by;
@@ -96,7 +73,7 @@ fn put_pairs(
 pub(crate) fn put_plain(file: &[u8], strict: bool, place: usize, out: &mut [u8], at: usize) -> usize
     ensures { Copied (moves_bytes Plain) (plain_moves (reading_of strict file.now) place) out.old at out.new result }
 {
-    let Varint::Number(count) = read_number(file, place, strict) else {
+    let Ok(count) = read_number(file, place, strict) else {
         return at;
     };
     let next = put_number(out, at, count.value);

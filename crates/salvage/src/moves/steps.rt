@@ -6,7 +6,7 @@ ghost use Rattle.salvage.specs.{inner.Moves.Laid.{Copied}, Moves.Moves.{step_num
 
 use crate::moves::put::put_number;
 use border::place::Point;
-use border::reader::{Encoding, Next, Version, next_point, open_border};
+use border::reader::{Encoding, Version, next_point, open_border};
 use numbers::write::{form_of, interleave};
 
 // The number of the move between two points; 0 would be no move, so a zero move is 3.
@@ -15,13 +15,10 @@ pub(crate) fn step_number(from: Point, to: Point) -> u64
 {
     let lat = form_of(from.lat.0, to.lat.0);
     let lon = form_of(from.lon.0, to.lon.0);
-    if lat != 0 {
-        return interleave(lat, lon);
+    if lat == 0 && lon == 0 {
+        return 3;
     }
-    if lon != 0 {
-        return interleave(lat, lon);
-    }
-    3
+    interleave(lat, lon)
 }
 
 // The moves of a border, and its end; `data` is where references count from.
@@ -42,11 +39,7 @@ pub(crate) fn put_steps(
     };
     let mut next = at;
     let mut reader = open_border(place);
-    loop {
-        let n = next_point(file, encoding, reader);
-        let Next::Point(later) = n else {
-            return next;
-        };
+    while let Some(later) = next_point(file, encoding, reader).unwrap_or(None) {
         if later.closed {
             let behind = put_number(out, next, 0);
             return put_number(out, behind, 0);
@@ -54,4 +47,5 @@ pub(crate) fn put_steps(
         next = put_number(out, next, step_number(reader.point, later.point));
         reader = later;
     }
+    next
 }

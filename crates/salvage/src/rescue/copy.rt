@@ -2,6 +2,7 @@
 ghost use Rattle.std.specs.Prelude.{[], ◌∷◌, take, drop};
 ghost use Rattle.salvage.specs.inner.Moves.Laid.{Capped};
 
+// Not the writer's: this one counts with a cap (Capped).
 fn put_byte(out: &mut [u8], at: usize, byte: u8) -> usize
     ensures { Capped out.old at (byte ∷ []) out.new result }
 {

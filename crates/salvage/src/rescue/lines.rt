@@ -7,10 +7,10 @@ ghost use Rattle.table.specs.Rows.{after, row_by};
 ghost use Rattle.salvage.specs.inner.Rescue.Turns.{judged_turn, turn_by, Listed};
 
 use crate::entry::entry_good;
-use crate::rescue::codes::{ENTRY_FAILS, NOTHING_FOLLOWS};
-use crate::strings::Good;
 use header::header::Head;
-use table::rows::{Cursor, Reading, Row, after, row_at, start_at};
+use numbers::fault::Fault;
+use numbers::refusal::or_refuse;
+use table::rows::{Cursor, Row, after, row_at, start_at};
 
 // Why an entry is dropped, and where the table goes on.
 #[derive(Clone, Copy)]
@@ -19,7 +19,7 @@ pub struct Dropped {
     pub next: Cursor,
 }
 
-// What becomes of the entry at a cursor.
+// What becomes of the entry at a cursor. Stays an enum of its own: there are three cases, and a reason is the number that the list keeps.
 #[derive(Clone, Copy)]
 pub enum Turn {
     Kept(Cursor),
@@ -39,10 +39,9 @@ pub struct Lines {
 fn put_word(list: &mut [u32], at: usize, word: u32)
     ensures { list.new ≡ set list.old at word }
 {
-    if list.len() <= at {
-        return;
+    if at < list.len() {
+        list[at] = word;
     }
-    list[at] = word;
 }
 
 // A line, and the place behind it.
@@ -61,8 +60,8 @@ fn judge(file: &[u8], head: Head, row: Row) -> Turn
 {
     let next = after(row);
     match entry_good(file, head, row) {
-        Good::Good => Turn::Kept(next),
-        Good::Refused(why) => {
+        Ok(()) => Turn::Kept(next),
+        Err(why) => {
             let reason = why.number;
             Turn::Dropped(Dropped { reason, next })
         }
@@ -72,10 +71,9 @@ fn judge(file: &[u8], head: Head, row: Row) -> Turn
 pub(crate) fn turn_at(file: &[u8], head: Head, at: Cursor) -> Turn
     ensures { result ≡ turn_by file.now head (row_by (reading_of head.strict file.now) at) }
 {
-    match row_at(file, at, head.strict) {
-        Reading::Row(row) => judge(file, head, row),
-        Reading::Failed => Turn::Unreadable(ENTRY_FAILS),
-        Reading::Refused(number) => Turn::Unreadable(number),
+    match or_refuse(row_at(file, at, head.strict), Fault::EntryFails.alone()) {
+        Ok(row) => judge(file, head, row),
+        Err(why) => Turn::Unreadable(why.number),
     }
 }
 
@@ -88,6 +86,7 @@ pub(crate) fn put_lines(file: &[u8], head: Head, list: &mut [u32]) -> Lines
     let mut number: u32 = 0;
     let mut words: usize = 0;
     let mut kept: usize = 0;
+    // Stays a `while`: the step is the cursor's.
     while at.place < end {
         match turn_at(file, head, at) {
             Turn::Kept(next) => {
@@ -102,7 +101,7 @@ pub(crate) fn put_lines(file: &[u8], head: Head, list: &mut [u32]) -> Lines
             }
             Turn::Unreadable(reason) => {
                 let next = put_line(list, words, number, reason);
-                let last = put_line(list, next, number + 1, NOTHING_FOLLOWS);
+                let last = put_line(list, next, number + 1, Fault::NothingFollows.number());
                 return Lines { words: last, kept };
             }
         }

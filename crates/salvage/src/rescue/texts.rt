@@ -1,39 +1,26 @@
 // Names and notice, inline.
 ghost use Rattle.std.specs.Prelude.{◌≡◌, take};
-ghost use Rattle.header.specs.Text.{told_read};
 ghost use Rattle.salvage.specs.inner.Moves.Laid.{Capped};
 ghost use Rattle.salvage.specs.File.{head_texts};
 ghost use Rattle.salvage.specs.inner.Rescue.Texts.{short_text, text_bytes, behind, Inlined};
 
 use crate::moves::put::put_number;
-use crate::rescue::codes::LONG_TEXT;
 use crate::rescue::copy::put_span;
 use header::header::Head;
-use header::text::{Read, String, Text, read_string};
+use header::text::{Text, read_string};
+use numbers::fault::Fault;
 use numbers::limits::LONGEST_TEXT;
-use numbers::refusal::{Refusal, plain};
-
-// The place behind what was written.
-#[derive(Clone, Copy)]
-pub enum Put {
-    Place(usize),
-    Refused(Refusal),
-}
+use numbers::refusal::{Refusal, or_refuse};
 
 // The text at a place of the header, unless it is too long to stand inline.
-fn short_text(file: &[u8], strict: bool, place: usize) -> Read
-    ensures { told_read result ≡ short_text strict file.now place }
+fn short_text(file: &[u8], strict: bool, place: usize) -> Result<Text, Refusal>
+    ensures { result ≡ short_text strict file.now place }
 {
-    match read_string(file, strict, 0, place) {
-        String::Text(text) => {
-            if LONGEST_TEXT < text.size {
-                return Read::Refused(plain(LONG_TEXT));
-            }
-            Read::Text(text)
-        }
-        String::Failed => Read::Refused(plain(LONG_TEXT)),
-        String::Refused(number) => Read::Refused(plain(number)),
+    let text = or_refuse(read_string(file, strict, 0, place), Fault::BadText.alone())?;
+    if LONGEST_TEXT < text.size {
+        return Err(Fault::BadText.alone());
     }
+    Ok(text)
 }
 
 // Its length and its bytes, as they are stored.
@@ -44,27 +31,22 @@ fn put_text(file: &[u8], text: Text, out: &mut [u8], at: usize) -> usize
     put_span(file, text.start, text.size, out, next)
 }
 
-// The names, then the notice.
-fn put_texts(file: &[u8], head: Head, out: &mut [u8], at: usize) -> Put
+// The names, then the notice. The answer: the place behind them.
+fn put_texts(file: &[u8], head: Head, out: &mut [u8], at: usize) -> Result<usize, Refusal>
     ensures { Inlined (head_texts file.now head) out.old at out.new result }
 {
-    let mut left = head.preamble.count as usize + 1;
     let mut place: usize = 7;
     let mut next = at;
-    while 0 < left {
-        let text = match short_text(file, head.strict, place) {
-            Read::Text(text) => text,
-            Read::Refused(why) => return Put::Refused(why),
-        };
+    for _ in 0..head.preamble.count as usize + 1 {
+        let text = short_text(file, head.strict, place)?;
         next = put_text(file, text, out, next);
         place = text.next;
-        left -= 1;
     }
-    Put::Place(next)
+    Ok(next)
 }
 
 // Behind the first seven bytes, which stay.
-pub(crate) fn put_head(file: &[u8], head: Head, out: &mut [u8]) -> Put
+pub(crate) fn put_head(file: &[u8], head: Head, out: &mut [u8]) -> Result<usize, Refusal>
     ensures { Inlined (behind (take 7 file.now) (head_texts file.now head)) out.old 0 out.new result }
 {
     let at = put_span(file, 0, 7, out, 0);

@@ -8,8 +8,9 @@ use crate::data::put_data;
 use crate::entries::put_table;
 use crate::moves::put::put_number;
 use crate::rescue::copy::put_span;
-use crate::rescue::texts::{Put, put_head};
+use crate::rescue::texts::put_head;
 use header::header::Head;
+use numbers::refusal::Refusal;
 
 // The metadata section, byte for byte.
 fn put_metadata(file: &[u8], head: Head, out: &mut [u8], at: usize) -> usize
@@ -63,13 +64,10 @@ fn put_sections(file: &[u8], head: Head, out: &mut [u8], at: usize) -> usize
 }
 
 // All of it, and its length.
-pub(crate) fn put_whole(file: &[u8], head: Head, out: &mut [u8]) -> Put
+pub(crate) fn put_whole(file: &[u8], head: Head, out: &mut [u8]) -> Result<usize, Refusal>
     ensures { Inlined (whole_of file.now head) out.old 0 out.new result }
 {
-    let sizes = match put_head(file, head, out) {
-        Put::Place(place) => place,
-        Put::Refused(why) => return Put::Refused(why),
-    };
+    let sizes = put_head(file, head, out)?;
     let sections = put_sizes(file, head, out, sizes);
-    Put::Place(put_sections(file, head, out, sections))
+    Ok(put_sections(file, head, out, sections))
 }

@@ -9,7 +9,7 @@ loop-k-init c =
 
 pub loop-k-preserved : goal.loop-k-preserved
 loop-k-preserved c =
-    entering_on _ _ _ _ _ c.loop-k.invariant c.loop-k-test.true c.requires.2 c.put_one-next.ensures.0 c.put_one-next.ensures.1
+    entering_on _ _ _ _ _ c.loop-k.invariant c.loop-k-test.true c.requires.2 c.put_one-at.ensures.0 c.put_one-at.ensures.1
 
 pub returns : goal.returns
 returns c =

@@ -1,10 +1,6 @@
 -- `atlas::course::edges_from` meets its contract. The loop's invariant is `Counting`.
-use Rattle.numbers.proofs.Prelude.{◌-◌, ◌^◌}
 use Rattle.atlas.proofs.{Counting.{Counting}}
 use Rattle.atlas.proofs.course.edges_from.Given as goal
 
 abbrev pub invariant-loop-n : goal.invariant-loop-n
 invariant-loop-n l = Counting l.file l.encoding l.initial.reader l.reader l.n
-
-abbrev pub decreases-loop-n : goal.decreases-loop-n
-decreases-loop-n l = 2 ^ 24 - l.n

@@ -1,17 +1,17 @@
 -- `atlas::simple::simple_in` meets its contract: a text of zeros, then the lookup, then zeros again where it refused.
-use Rattle.numbers.{proofs.Prelude.{rules, length, refl, ap, ◌∙◌}, specs.Lists.{zeros}}
+use Rattle.numbers.{proofs.Prelude.{rules, length, refl, sym, ap, ◌∙◌}, specs.Lists.{zeros}}
 use Rattle.header.proofs.Buffers.{of_length, all_zero}
-use Rattle.zones.{proofs.Replying.{given_reply, refused_reply}, specs.Simple.{told_simple}}
 use Rattle.atlas.specs.Beside.{described_beside}
+use Rattle.zones.proofs.Replying.{given_reply, refused_reply}
 use Rattle.atlas.proofs.simple.simple_in.Goals as goal
 
-pub returns-in-Refused : goal.returns-in-Refused
-returns-in-Refused c =
-    refused_reply (described_beside c.args.file.now c.args.head c.args.words.now c.args.location) (told_simple c.look.result) _ _ refl (of_length _ (length
-    c.args.text.now) c.zero.ensures) c.look.ensures (ap told_simple c.in-Refused.is) (all_zero _ (length c.look.new.hits) c.zero_both.ensures.0
-    ∙ ap zeros ((search rules))) (all_zero _ (length c.look.new.text) c.zero_both.ensures.1 ∙ ap zeros ((search rules)))
+pub returns-then-is_err : goal.returns-then-is_err
+returns-then-is_err c =
+    refused_reply (described_beside c.args.file.now c.args.head c.args.words.now c.args.location) c.look-described.result _ _ refl (of_length _ (length
+    c.args.text.now) c.zero.ensures) c.look-described.ensures (all_zero _ (length c.look-described.new.hits) c.zero_both.ensures.0
+    ∙ ap zeros ((search rules))) (all_zero _ (length c.look-described.new.text) c.zero_both.ensures.1 ∙ ap zeros ((search rules))) (sym c.is_err.ensures.value ∙ c.if-is_err.true)
 
 pub returns : goal.returns
 returns c =
-    given_reply (described_beside c.args.file.now c.args.head c.args.words.now c.args.location) (told_simple c.look.result) _ _ refl (of_length _ (length
-    c.args.text.now) c.zero.ensures) c.look.ensures (ap told_simple c.in-Described.is)
+    given_reply (described_beside c.args.file.now c.args.head c.args.words.now c.args.location) c.look-described.result _ _ refl (of_length _ (length
+    c.args.text.now) c.zero.ensures) c.look-described.ensures (sym c.is_err.ensures.value ∙ c.if-is_err.false)

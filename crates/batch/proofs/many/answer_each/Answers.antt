@@ -8,10 +8,10 @@ pub loop-i-init : goal.loop-i-init
 loop-i-init c =
     begins _ _ _ _ _ _ _ _ _ _ _ _ c.requires.1 c.requires.2 c.requires.3
 
-pub returns-in-Refused : goal.returns-in-Refused
-returns-in-Refused c =
+pub returns-in-Err : goal.returns-in-Err
+returns-in-Err c =
     stops _ _ _ _ _ _ _ _ _ c.loop-i.invariant (taken (length c.args.lats.now) (length c.args.lons.now) (length c.args.answers.now) c.requires.0).0
-    c.loop-i-test.true nan nan c.answer_one.result c.answer_one.new.hits c.answer_one.new.text c.answer_one.ensures _ _ _ c.in-Refused.is (c.zero_all.ensures.0
+    c.loop-i-test.true nan nan c.answer_one.result c.answer_one.new.hits c.answer_one.new.text c.answer_one.ensures _ _ _ c.in-Err.is (c.zero_all.ensures.0
     ∙ ap zeros (c.hits-1.given.1 ∙ held_length c.loop-i.invariant.words_held)) (c.zero_all.ensures.1 ∙ ap zeros (c.text-1.given.1
     ∙ held_length c.loop-i.invariant.text_held)) (c.zero_all.ensures.2 ∙ ap zeros (held_length c.loop-i.invariant.answers_held))
 
@@ -29,7 +29,7 @@ put_answer-requires c = (
     arith,
     counted_few _ _ _ _ _ _ _ _ _ c.loop-i.invariant (taken (length
         c.args.lats.now) (length c.args.lons.now) (length c.args.answers.now) c.requires.0).0 c.loop-i-test.true nan nan c.answer_one.result c.answer_one.new.hits
-        c.answer_one.new.text c.answer_one.ensures c.in-Zones.is (λ i. omega (arith, (c.type_inv.words i).fits)) (omega (arith, c.well_formed)),
+        c.answer_one.new.text c.answer_one.ensures c.in-Ok.is (λ i. omega (arith, (c.type_inv.words i).fits)) (omega (arith, c.well_formed)),
   ),
 )
 
@@ -38,7 +38,7 @@ overflow_add-matches c =
     omega (
       arith,
       (words_on _ _ _ _ _ _ _ _ _ c.loop-i.invariant (taken (length c.args.lats.now) (length c.args.lons.now) (length c.args.answers.now)
-          c.requires.0).0 c.loop-i-test.true nan nan c.answer_one.result c.answer_one.new.hits c.answer_one.new.text c.answer_one.ensures c.in-Zones.is (came_back
+          c.requires.0).0 c.loop-i-test.true nan nan c.answer_one.result c.answer_one.new.hits c.answer_one.new.text c.answer_one.ensures c.in-Ok.is (came_back
           c.loop-i.invariant.words_held c.answer_one.new.hits c.hits-1.given.1)).fits,
       c.well_formed,
     )
@@ -49,7 +49,7 @@ overflow_add-used c =
       arith,
       (goes _ _ _ _ _ _ _ _ _ c.loop-i.invariant (taken (length c.args.lats.now) (length c.args.lons.now)
           (length c.args.answers.now) c.requires.0).0 c.loop-i-test.true nan nan c.answer_one.result c.answer_one.new.hits c.answer_one.new.text c.answer_one.ensures
-          c.in-Zones.is c.put_answer.new.answers (came_back c.loop-i.invariant.words_held c.answer_one.new.hits c.hits-1.given.1) (came_back
+          c.in-Ok.is c.put_answer.new.answers (came_back c.loop-i.invariant.words_held c.answer_one.new.hits c.hits-1.given.1) (came_back
           c.loop-i.invariant.text_held c.answer_one.new.text c.text-1.given.1) (omega (
             arith,
             c.loop-i-test.true,
@@ -63,7 +63,7 @@ pub loop-i-preserved : goal.loop-i-preserved
 loop-i-preserved c =
     used_is _ _ _ _ _ _ _ _ _ (omega arith) (goes _ _ _ _ _ _ _ _ _ c.loop-i.invariant (taken (length c.args.lats.now) (length c.args.lons.now) (length
     c.args.answers.now) c.requires.0).0 c.loop-i-test.true nan nan c.answer_one.result c.answer_one.new.hits c.answer_one.new.text c.answer_one.ensures
-    c.in-Zones.is c.put_answer.new.answers (came_back c.loop-i.invariant.words_held c.answer_one.new.hits c.hits-1.given.1) (came_back
+    c.in-Ok.is c.put_answer.new.answers (came_back c.loop-i.invariant.words_held c.answer_one.new.hits c.hits-1.given.1) (came_back
     c.loop-i.invariant.text_held c.answer_one.new.text c.text-1.given.1) (omega (
       arith,
       c.loop-i-test.true,
@@ -73,4 +73,4 @@ loop-i-preserved c =
 
 pub returns : goal.returns
 returns c =
-    ends _ _ _ _ _ _ _ _ _ c.loop-i.invariant c.loop-i-test.false
+    ends _ _ _ _ _ _ _ _ _ c.loop-i.invariant c.loop-i-test.false (omega (arith, c.loop-i-test.false, c.loop-i.auto.i-end))

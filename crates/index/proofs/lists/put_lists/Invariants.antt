@@ -1,11 +1,6 @@
 -- `index::lists::put_lists` meets its contract. The loop's invariant is `Tiling`.
-use Rattle.numbers.proofs.Prelude.{◌-◌}
-use Rattle.index.specs.Index.{tiles}
 use Rattle.index.proofs.{Listing.{Tiling}}
 use Rattle.index.proofs.lists.put_lists.Given as goal
 
 abbrev pub invariant-loop-t : goal.invariant-loop-t
 invariant-loop-t l = Tiling l.initial.index l.precision l.n l.from l.index l.at l.t
-
-abbrev pub decreases-loop-t : goal.decreases-loop-t
-decreases-loop-t l = tiles - l.t

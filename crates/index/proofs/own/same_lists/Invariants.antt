@@ -1,11 +1,6 @@
 -- `index::own::same_lists` meets its contract. The loop's invariant is `Walking`.
-use Rattle.numbers.proofs.Prelude.{◌-◌}
-use Rattle.index.specs.{Index.{tiles}}
 use Rattle.index.proofs.{Comparing.{Walking}}
 use Rattle.index.proofs.own.same_lists.Given as goal
 
 abbrev pub invariant-loop-t : goal.invariant-loop-t
 invariant-loop-t l = Walking l.index l.precision l.n l.from l.at l.t
-
-abbrev pub decreases-loop-t : goal.decreases-loop-t
-decreases-loop-t l = tiles - l.t

@@ -1,50 +1,48 @@
 -- `index::own::same_table` meets its contract. The loop's invariant is `Matching`.
-use Rattle.numbers.{proofs.{Prelude.{sym, ap, ◌∙◌, arith}, Replies.{carried, onward, met, unmet}}, specs.Reply.{plain}}
-use Rattle.table.{proofs.Agreeing.{agree_given, agree_refused}, specs.Rows.{told_reading}}
+use Rattle.numbers.{proofs.{Prelude.{sym, ap, ◌∙◌, arith}, Replies.{passed_on, carried, onward, met, unmet}}, specs.Reply.{plain}}
+use Rattle.table.proofs.Agreeing.{agree_given, agree_refused}
 use Rattle.index.specs.inner.Own.{compared_of}
-use Rattle.index.proofs.{Comparing.{matching_starts, matching_next}, Tabling.{tabling_ends, tabling_unreadable, tabling_refused, tabling_not_next, tabling_less, same_table}}
+use Rattle.index.proofs.{Comparing.{matching_starts, matching_next}, Sides.{and_first, and_rest}, Tabling.{next_found, tabling_ends, tabling_bad, tabling_less, row_place, same_table}}
 use Rattle.index.proofs.own.same_table.Goals as goal
+use Rattle.index.proofs.own.same_table.Goals.{then-same, else-same}
 
 pub loop-at-init : goal.loop-at-init
 loop-at-init c =
     matching_starts _ _ _ _ _ _
 
-pub returns-in-Failed : goal.returns-in-Failed
+pub returns-in_err-row : goal.returns-in_err-row
 unfolding compared_of
-returns-in-Failed c =
-    agree_refused _ (carried (tabling_unreadable _ _ _ _ _ _ c.loop-at.invariant.tabling c.loop-at-test.true (sym (ap told_reading c.in-Failed.is) ∙ c.row_at.ensures)
-    ∙ same_table _ _ c.start_at-at.ensures) _)
+returns-in_err-row c =
+    rw (passed_on _ c.from_residual.ensures.1) (agree_refused _ (carried (tabling_bad _ _ _ _ _ _ c.loop-at.invariant.tabling c.loop-at-test.true (sym
+    c.in_err-row.was ∙ c.next_row.ensures) ∙ same_table _ _ c.start_at-at.ensures) _))
 
-pub returns-in-Refused : goal.returns-in-Refused
-unfolding compared_of
-returns-in-Refused c =
-    agree_refused _ (carried (tabling_refused _ _ _ _ _ _ c.loop-at.invariant.tabling c.loop-at-test.true (sym (ap told_reading c.in-Refused.is) ∙ c.row_at.ensures)
-    ∙ same_table _ _ c.start_at-at.ensures) _)
+pub record_of-requires : goal.record_of-requires
+record_of-requires c =
+    let row = next_found _ _ _ (sym c.in_ok-row.was ∙ c.next_row.ensures) in
+    omega (arith, row_place _ _ _ row.0, c.loop-at-test.true, c.struct_known-1.given)
 
 pub loop-at-smaller : goal.loop-at-smaller
 loop-at-smaller c =
-    tabling_less _ _ _ _ _ _ c.loop-at.invariant.tabling c.loop-at-test.true (sym (ap told_reading c.in-Row.is) ∙ c.row_at.ensures) c.after-at.ensures
+    let row = next_found _ _ _ (sym c.in_ok-row.was ∙ c.next_row.ensures) in
+    tabling_less _ _ _ _ _ _ c.loop-at.invariant.tabling c.loop-at-test.true row.0 c.after-at.ensures
 
 pub loop-at-preserved : goal.loop-at-preserved
 loop-at-preserved c =
-    matching_next _ _ _ _ _ _ c.loop-at.invariant c.loop-at-test.true (sym (ap told_reading c.in-Row.is) ∙ c.row_at.ensures) (sym c.is_next.ensures
-    ∙ c.if-is_next.true) c.after-at.ensures c.still_same-same.ensures
+    let row = next_found _ _ _ (sym c.in_ok-row.was ∙ c.next_row.ensures) in
+    matching_next _ _ _ _ _ _ c.loop-at.invariant c.loop-at-test.true row.0 row.1 c.after-at.ensures (elim c.if-same.branch [
+      | then-same w ↦ w.same-is ∙ (rw w.record_of.ensures at w.stand-same.ensures) ∙ and_rest _ _ w.if-same.true
+      | else-same w ↦ w.same-is ∙ w.if-same.false ∙ and_first _ _ w.if-same.false
+    ])
 
-pub returns-else-is_next : goal.returns-else-is_next
+pub returns-then-not-same : goal.returns-then-not-same
 unfolding compared_of
-returns-else-is_next c =
-    agree_refused _ (carried (tabling_not_next _ _ _ _ _ _ c.loop-at.invariant.tabling c.loop-at-test.true (sym (ap told_reading c.in-Row.is)
-    ∙ c.row_at.ensures) (sym c.is_next.ensures ∙ c.if-is_next.false) ∙ same_table _ _ c.start_at-at.ensures) _)
-
-pub returns-then-same : goal.returns-then-same
-unfolding compared_of
-returns-then-same c =
+returns-then-not-same c =
     let e = tabling_ends _ _ _ _ _ _ c.loop-at.invariant.tabling c.loop-at-test.false (omega (arith, c.struct_known-1.given)) in
-    agree_given _ (met (sym c.loop-at.invariant.compared ∙ c.if-same.true) (plain 36) _ ∙ onward (e.0
-    ∙ same_table _ _ c.start_at-at.ensures) _) (record { counted = e.1.counted; few = e.1.few })
+    rw c.alone.ensures (agree_refused _ (unmet (sym c.loop-at.invariant.compared ∙ c.if-not-same.true) (plain 36) _ ∙ onward (e.0 ∙ same_table _ _ c.start_at-at.ensures) _))
 
 pub returns : goal.returns
 unfolding compared_of
 returns c =
     let e = tabling_ends _ _ _ _ _ _ c.loop-at.invariant.tabling c.loop-at-test.false (omega (arith, c.struct_known-1.given)) in
-    agree_refused _ (unmet (sym c.loop-at.invariant.compared ∙ c.if-same.false) (plain 36) _ ∙ onward (e.0 ∙ same_table _ _ c.start_at-at.ensures) _)
+    agree_given _ (met (sym c.loop-at.invariant.compared ∙ c.if-not-same.false) (plain 36) _ ∙ onward (e.0
+    ∙ same_table _ _ c.start_at-at.ensures) _) (record { counted = e.1.counted; few = e.1.few })

@@ -5,11 +5,11 @@ use Rattle.index.proofs.place.list_of.Goals as goal
 
 pub returns-then-not-is_precision : goal.returns-then-not-is_precision
 returns-then-not-is_precision c =
-    rw c.plain.ensures (no_precision c.args.length c.args.head c.args.index.now c.args.location (sym c.is_precision.ensures ∙ c.if-not-is_precision.true))
+    rw c.alone.ensures (no_precision c.args.length c.args.head c.args.index.now c.args.location (sym c.is_precision.ensures ∙ c.if-not-is_precision.true))
 
 pub returns-then-not-is_headed : goal.returns-then-not-is_headed
 returns-then-not-is_headed c =
-    rw c.plain-then-not-is_headed.ensures (no_head c.args.length c.args.head c.args.index.now c.args.location (sym c.is_precision.ensures
+    rw c.alone-then-not-is_headed.ensures (no_head c.args.length c.args.head c.args.index.now c.args.location (sym c.is_precision.ensures
     ∙ c.if-not-is_precision.false) (sym c.is_headed.ensures ∙ c.if-not-is_headed.true))
 
 pub returns-then-is_inside : goal.returns-then-is_inside
@@ -21,5 +21,5 @@ returns-then-is_inside c =
 pub returns : goal.returns
 returns c =
     let tile = tile_same c.args.head c.args.location c.fix_of.ensures c.tile_of-t.ensures.0 in
-    rw c.plain-2.ensures (outside c.args.length c.args.head c.args.index.now c.args.location (sym c.is_precision.ensures
+    rw c.alone-2.ensures (outside c.args.length c.args.head c.args.index.now c.args.location (sym c.is_precision.ensures
     ∙ c.if-not-is_precision.false) (sym c.is_headed.ensures ∙ c.if-not-is_headed.false) tile (sym c.is_inside.ensures ∙ c.if-is_inside.false))

@@ -15,8 +15,8 @@ overflow_add-result c =
 pub returns : goal.returns
 returns c =
     let fix = c.args.fix in
-    let lat = c.word_of.ensures ∙ ap (of_z w32) (to_z-of_z w32 fix.lat.0 (search rules)) in
-    let lon = c.word_of-2.ensures ∙ ap (of_z w32) (to_z-of_z w32 fix.lon.0 (search rules)) in
+    let lat = c.cast_unsigned.ensures ∙ ap (of_z w32) (to_z-of_z w32 fix.lat.0 (search rules)) in
+    let lon = c.cast_unsigned-2.ensures ∙ ap (of_z w32) (to_z-of_z w32 fix.lon.0 (search rules)) in
     let row = c.tile_along-row.ensures ∙ ap (tile_along 5 c.args.precision) (c.lift.ensures ∙ ap (λ (w : ℕ). lift w) lat) in
     let column = c.tile_along-column.ensures ∙ ap (tile_along 6 c.args.precision) (c.lift-2.ensures ∙ ap (λ (w : ℕ). lift w) lon) in (
       (λ i. 64 * row i + column i),

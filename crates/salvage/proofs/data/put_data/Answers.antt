@@ -8,5 +8,5 @@ loop-row-init c =
 
 pub loop-row-preserved : goal.loop-row-preserved
 loop-row-preserved c =
-    draws_go _ _ _ _ _ c.loop-row.invariant (rw c.in-Row.is at c.next_kept.ensures) c.after-from.ensures (border_drawn _ _ _ (rw c.in-Row.is at
+    draws_go _ _ _ _ _ c.loop-row.invariant (rw c.in-Some.is at c.next_kept.ensures) c.after-from.ensures (border_drawn _ _ _ (rw c.in-Some.is at
     c.next_kept.ensures).good c.encoding_in.ensures c.section_place-place.ensures c.put_border-next.ensures)

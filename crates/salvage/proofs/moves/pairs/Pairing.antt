@@ -1,12 +1,11 @@
 -- Pairs that are read and written one after the other. Assumes nothing.
-use Rattle.numbers.proofs.Prelude.{ℕ, suc, ◌-◌, tag_of, List, [], ◌∷◌, ◌++◌, append_assoc, append-nil, flat_map, ◌≡◌, refl, sym, ap, ◌∙◌, arith, OneOf, miss}
-use Rattle.numbers.{proofs.Answers.{found_again}, specs.{Answer.{Answer, found, failed, refused, ◌>>=◌}, Point.{signed_of}, Varint.{numeral}, declared.point.RawPoint.{RawPoint}}}
+use Rattle.std.specs.Prelude.{Err}
+use Rattle.numbers.proofs.Prelude.{ℕ, suc, ◌-◌, List, [], ◌∷◌, ◌++◌, append_assoc, append-nil, flat_map, ◌≡◌, refl, sym, ap, ◌∙◌, arith}
+use Rattle.numbers.{proofs.Answers.{found_again}, specs.{Answer.{Answer, found, failed, refused, ◌>>=◌}, Point.{signed_of}, Varint.{numeral, told}, declared.{point.RawPoint.{RawPoint}, varint.Stop.{Stop}}}}
 use Rattle.writer.specs.Moves.{plain_move_bytes}
 use Rattle.border.specs.{Place.{move_by}, Reader.{Reading}}
-use Rattle.salvage.proofs.moves.Capping.{capped_none, capped_then, capped_as}
-use Rattle.salvage.specs.{Moves.Moves.{pair_at, pairs_from}, declared.moves.pairs.{Pair.{Pair}, Paired.{Paired}}, inner.Moves.Laid.{Capped, Copied, told_pair}}
-use Rattle.salvage.specs.contracts.moves.pairs.Paired as Paired'
-use Rattle.salvage.specs.declared.moves.pairs.Paired.TheVariants as P
+use Rattle.salvage.proofs.moves.{Capping.{capped_none, capped_then, capped_as}, Ends.{by_stop, unfound, unrefused}}
+use Rattle.salvage.specs.{Moves.Moves.{pair_at, pairs_from}, declared.moves.pairs.Pair.{Pair}, inner.Moves.Laid.{Capped, Copied}}
 
 -- the two numbers of a pair
 pub pair_is : (read : Reading) (place : ℕ) {a b next after : ℕ} → numeral a next ≡ read place → numeral b after ≡ read next
@@ -15,10 +14,8 @@ unfolding pair_at
 pair_is read place e g = rw (← e, ← g)
 
 -- an answer that is no pair
-pub no_pair : (p : Paired) → OneOf (1 ∷ 2 ∷ []) (tag_of Paired'.the_type p) → (pair : Pair) → told_pair p ≡ found pair → ⊥
-no_pair (P.Pair pair) o other e = absurd (miss (1 ∷ 2 ∷ []) 0 tt o)
-no_pair P.Failed o other e = let z : ◌≡◌ {A = ℕ} 0 1 = cc in absurd (omega arith)
-no_pair (P.Refused n) o other e = let z : ◌≡◌ {A = ℕ} 0 1 = cc in absurd (omega arith)
+pub no_pair : (stop : Stop) (pair : Pair) → told {A = Pair} (Err stop) ≡ found pair → ⊥
+no_pair stop pair = by_stop (λ (a : Answer Pair). a ≡ found pair → ⊥) unfound (λ n. unrefused) stop
 
 -- the bytes of one more, of moves or of anything
 pub bytes_next : {A : Type 0} (each : A → List ℕ) (done : List A) (by : A) → flat_map each done ++ each by ≡ flat_map each (done ++ (by ∷ []))

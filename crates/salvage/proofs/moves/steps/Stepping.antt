@@ -1,15 +1,13 @@
 -- The moves of a border of version 1, written as its points are read. Assumes nothing.
-use Rattle.numbers.proofs.Prelude.{ℕ, tag_of, lit<, true, false, List, [], ◌∷◌, ◌++◌, append_assoc, append-nil, flat_map, ◌⊎◌, inl, inr, ◌≡◌, refl, sym, ap, subst, ◌∙◌, OneOf, miss}
-use Rattle.numbers.{proofs.{Answers.{All}, Spelling.{varint_byte}, Tests.{differ}}, specs.{Answer.{Answer, found, failed, refused}, Spelling.{varint_of}, declared.point.RawPoint.{RawPoint}}}
-use Rattle.border.{proofs.Trace.{point_trace, trace_step}, specs.{Trace.{Given, reaches, next_point, Trace, point, closed, trace_then, trace_of, border_at}, declared.reader.Encoding.{Encoding}}}
-use Rattle.border.specs.declared.reader.{Next.{Next}, Reader.{Reader}, Version.TheVariants.{Packed}}
+use Rattle.std.specs.{Prelude.{Result, Ok, Err}, Result.{result_unwrap_or}}
+use Rattle.numbers.proofs.Prelude.{ℕ, lit<, true, false, List, [], ◌∷◌, ◌++◌, append_assoc, append-nil, flat_map, ◌⊎◌, inl, inr, ◌≡◌, refl, sym, ap, subst, ◌∙◌}
+use Rattle.numbers.{proofs.{Answers.{All}, Spelling.{varint_byte}, Tests.{differ}}, specs.{Answer.{Answer, found, failed, refused, ◌>>=◌}, Spelling.{varint_of}, Varint.{told}, declared.{point.RawPoint.{RawPoint}, varint.Stop.{Stop}}}}
+use Rattle.border.{proofs.Trace.{point_trace}, specs.{Trace.{Given, reaches, ended, next_point, Trace, point, closed, trace_of, border_at}, declared.reader.Encoding.{Encoding}}}
+use Rattle.border.specs.declared.reader.{Reader.{Reader}, Version.TheVariants.{Packed}}
 use Rattle.writer.specs.Moves.{move_to}
-use Rattle.salvage.proofs.moves.{Capping.{capped_none, capped_then, capped_as}, Ends.{end_stops, end_goes}, Packed.{origin_ranged, open_goes, steps_next, steps_last}}
+use Rattle.salvage.proofs.moves.{Capping.{capped_none, capped_then, capped_as}, Ends.{by_stop, going, end_step, end_goes}, Packed.{origin_ranged, open_goes, steps_next, steps_last}}
 use Rattle.salvage.proofs.moves.{Turning.{closed_trace, Ranged, Steps, Closes, DoesThere, next_does}, pairs.Pairing.{bytes_next}}
 use Rattle.salvage.specs.{Moves.Moves.{end_of, origin, steps_from, moves_by, moves_at, closed_moves, step_bytes, moves_bytes}, inner.Moves.Laid.{Capped, Copied}}
-use Rattle.border.specs.contracts.reader.Next as Next'
-use Rattle.border.specs.inner.Told as R
-use Rattle.border.specs.declared.reader.Next.TheVariants as N
 
 -- the two zeros of the end
 end_bytes : varint_of 0 ++ varint_of 0 ≡ 0 ∷ 0 ∷ []
@@ -74,14 +72,20 @@ module _ (f : List ℕ) (encoding : Encoding) (packed : encoding.version ≡ Pac
         rw (wanted_is closes ∙ ap found all) (capped_then (flat_map step_bytes p.done) (0 ∷ 0 ∷ []) p.laid (capped_as end_bytes (capped_then (varint_of 0) (varint_of 0) c d)))
 
   -- no further point: the border does not close
-  pub steps_stop : {now : List ℕ} {next : ℕ} (after : List ℕ) (end : ℕ) (s : Reader) → Stepping now next s → (n : Next) → OneOf (1 ∷ 2 ∷ 3 ∷ []) (tag_of Next'.the_type n)
-      → R.told n ≡ next_point f encoding s → Copied (moves_bytes Packed) wanted before at after end
+  steps_none : {now : List ℕ} {next : ℕ} (after : List ℕ) (end : ℕ) (s : Reader) → Stepping now next s → found ended ≡ next_point f encoding s
+      → Copied (moves_bytes Packed) wanted before at after end
+  steps_none after end s p e = absurd (subst (All (DoesThere s)) (sym e) (next_does f encoding packed s p.still_open p.in_range))
+
+  steps_stop : {now : List ℕ} {next : ℕ} (after : List ℕ) (end : ℕ) (s : Reader) → Stepping now next s → (stop : Stop) → told (Err stop) ≡ next_point f encoding s
+      → Copied (moves_bytes Packed) wanted before at after end
   unfolding closed_moves
-  steps_stop after end s p (N.Point t) o e = absurd (miss (1 ∷ 2 ∷ 3 ∷ []) 0 tt o)
-  steps_stop after end s p N.Ended o e = absurd (subst (All (DoesThere s)) (sym e) (next_does f encoding packed s p.still_open p.in_range))
-  steps_stop after end s p N.Failed o e =
-      let ending : end_of whole ≡ failed = sym p.ends ∙ ap end_of (trace_step f encoding s ∙ ap (λ (g : Answer Given). trace_then g (trace_of f encoding)) (sym e))
-      ∙ sym (end_stops N.Failed (trace_of f encoding) o) in rw ending tt
-  steps_stop after end s p (N.Refused n) o e =
-      let ending : end_of whole ≡ refused n = sym p.ends ∙ ap end_of (trace_step f encoding s ∙ ap (λ (g : Answer Given). trace_then g (trace_of f encoding)) (sym e))
-      ∙ sym (end_stops (N.Refused n) (trace_of f encoding) o) in rw ending tt
+  steps_stop after end s p =
+      by_stop (λ (a : Answer Given). a ≡ next_point f encoding s → Copied (moves_bytes Packed) wanted before at after end) (λ e. rw (ending failed e) tt)
+      (λ n e. rw (ending (refused n) e) tt) where
+        ending : (a : Answer Given) → a ≡ next_point f encoding s → end_of whole ≡ (a >>= going (trace_of f encoding))
+        ending a e = sym p.ends ∙ end_step f encoding s ∙ ap (λ (b : Answer Given). b >>= going (trace_of f encoding)) (sym e)
+
+  pub steps_over : {now : List ℕ} {next : ℕ} (after : List ℕ) (end : ℕ) (s : Reader) → Stepping now next s → (n : Result Given Stop) → result_unwrap_or n ended ≡ ended
+      → told n ≡ next_point f encoding s → Copied (moves_bytes Packed) wanted before at after end
+  steps_over after end s p (Ok g) is e = steps_none after end s p (ap found (sym is) ∙ e)
+  steps_over after end s p (Err stop) is e = steps_stop after end s p stop e

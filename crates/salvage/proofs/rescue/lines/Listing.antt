@@ -1,6 +1,6 @@
 -- The list, entry by entry: what an entry adds to it, and what is left to store. Assumes nothing.
 use Rattle.numbers.proofs.Prelude.{ℕ, suc, ◌+◌, ◌*◌, ◌≤◌, ◌<◌, length, List, [], ◌∷◌, ◌≡◌, refl, sym, ap, subst, ◌∙◌, arith}
-use Rattle.numbers.{proofs.Readings.{reading_grows}, specs.{Answer.{Answer, found, failed}, Reply.{Reply, given, refused}, Varint.{Numeral, reading_of}}}
+use Rattle.numbers.{proofs.{Readings.{reading_grows}, Replies.{given_one}}, specs.{Answer.{Answer, found, failed}, Reply.{Reply, given, refused, plain, ◌or_else◌}, Varint.{Numeral, reading_of}, declared.refusal.Refusal.{Refusal}}}
 use Rattle.writer.{proofs.Stores.{Left, left_all, left_step, left_none, left_last, stored_then}, specs.inner.Stored.{Stored}}
 use Rattle.header.specs.declared.header.Head.{Head}
 use Rattle.salvage.specs.{Kept.{entry_good, kept_if, kept_of, line_if, lines_from}, declared.rescue.lines.{Dropped.{Dropped}, Turn.{Turn}}, inner.Rescue.Turns.{judged_turn, turn_by, Listed}}
@@ -11,6 +11,17 @@ use Rattle.salvage.specs.declared.rescue.lines.Turn.TheVariants as T
 -- ---- an entry that was judged
 
 module _ (file : List ℕ) (head : Head) where
+  -- one that was read, and one that was not
+  pub turn_given : (answer : Answer Row) {r : Row} → given r ≡ (answer or_else plain 70) → judged_turn (entry_good file head r) (after r) ≡ turn_by file head answer
+  turn_given (found s) e = let same = given_one e in rw same refl
+  turn_given failed e = let z : ◌≡◌ {A = ℕ} 0 1 = cc in absurd (omega arith)
+  turn_given (A.refused n) e = let z : ◌≡◌ {A = ℕ} 0 1 = cc in absurd (omega arith)
+
+  pub turn_refused : (answer : Answer Row) {why : Refusal} → refused why ≡ (answer or_else plain 70) → T.Unreadable why.number ≡ turn_by file head answer
+  turn_refused (found s) e = let z : ◌≡◌ {A = ℕ} 0 1 = cc in absurd (omega arith)
+  turn_refused failed {why} e = let same : why ≡ plain 70 = cc in ap (λ (w : Refusal). T.Unreadable w.number) same
+  turn_refused (A.refused n) {why} e = let same : why ≡ plain n = cc in ap (λ (w : Refusal). T.Unreadable w.number) same
+
   abbrev read : ℕ → Answer Numeral
   read = reading_of head.strict file
 

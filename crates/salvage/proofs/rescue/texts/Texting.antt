@@ -5,23 +5,21 @@ use Rattle.header.specs.{Text.{string_at}, declared.{header.Head.{Head}, text.Te
 use Rattle.salvage.proofs.moves.Capping.{capped_then, capped_as}
 use Rattle.salvage.specs.{File.{texts_inline, head_texts}, inner.{Moves.Laid.{Capped}, Rescue.Texts.{short_text, text_bytes, behind, Inlined}}}
 use Rattle.numbers.specs.Answer as A
-use Rattle.salvage.specs.declared.rescue.texts.Put.TheVariants as P
 
 -- ---- one text
 module _ (strict : Bool) (file : List ℕ) (place : ℕ) where
-  pub short_fits : {text : Text} → found text ≡ string_at strict file 0 place → text.size ≤ 255 → given text ≡ short_text strict file place
+  abbrev read : Reply Text
+  read = string_at strict file 0 place or_else plain 26
+
+  pub short_fits : {text : Text} → given text ≡ read → text.size ≤ 255 → given text ≡ short_text strict file place
   unfolding short_text
   short_fits {text} e h = rw (← e, le-leb text.size 255 h)
 
-  pub short_long : {text : Text} → found text ≡ string_at strict file 0 place → 255 < text.size → refused (plain 26) ≡ short_text strict file place
+  pub short_long : {text : Text} → given text ≡ read → 255 < text.size → refused (plain 26) ≡ short_text strict file place
   unfolding short_text
   short_long {text} e h = rw (← e, lt-leb text.size 255 h)
 
-  pub short_failed : failed ≡ string_at strict file 0 place → refused (plain 26) ≡ short_text strict file place
-  unfolding short_text
-  short_failed e = rw (← e)
-
-  pub short_refused : {n : ℕ} → A.refused n ≡ string_at strict file 0 place → refused (plain n) ≡ short_text strict file place
+  pub short_refused : {why : Refusal} → refused why ≡ read → refused why ≡ short_text strict file place
   unfolding short_text
   short_refused e = rw (← e)
 
@@ -95,12 +93,13 @@ module _ (file : List ℕ) (head : Head) where
             laid = capped_then t.done (text_bytes file text) t.laid c;
           }
 
-      pub texts_stop : (after : List ℕ) {why : Refusal} → 0 < left → refused why ≡ short_text head.strict file place → Inlined (head_texts file head) before at after (P.Refused why)
-      texts_stop after {why} h e =
-          subst (λ (r : Reply (List ℕ)). Inlined r before at after (P.Refused why)) (ap (behind t.done) (texts_refused (left - 1) place e) ∙ opened h) refl
+      pub texts_stop : (after : List ℕ) {why : Refusal} {r : Reply ℕ} → r ≡ refused why → 0 < left → refused why ≡ short_text head.strict file place
+          → Inlined (head_texts file head) before at after r
+      texts_stop after {why} is h e =
+          rw is (subst (λ (r : Reply (List ℕ)). Inlined r before at after (refused why)) (ap (behind t.done) (texts_refused (left - 1) place e) ∙ opened h) refl)
 
-      pub texts_end : left ≤ 0 → Inlined (head_texts file head) before at now (P.Place next)
+      pub texts_end : left ≤ 0 → Inlined (head_texts file head) before at now (given next)
       unfolding texts_inline
       texts_end h = let none : left ≡ 0 = omega arith in
           let all : behind t.done (texts_inline file head 0 place) ≡ head_texts file head = ap (λ (n : ℕ). behind t.done (texts_inline file head n place)) (sym none) ∙ t.rest in
-          subst (λ (r : Reply (List ℕ)). Inlined r before at now (P.Place next)) all (capped_as (sym (append-nil t.done)) t.laid)
+          subst (λ (r : Reply (List ℕ)). Inlined r before at now (given next)) all (capped_as (sym (append-nil t.done)) t.laid)

@@ -1,12 +1,11 @@
 -- The new file from its parts, whose sizes were counted with a cap. Assumes nothing.
 use Rattle.numbers.proofs.Prelude.{ℕ, ◌+◌, ◌≤◌, ◌<◌, ltb-true, ltb-false, ltb, length, take, length-append, Bool, true, false, ◌&&◌, List, [], ◌∷◌, ◌++◌, append_assoc, flat_map, ◌≡◌, refl}
-use Rattle.numbers.{proofs.{Prelude.{sym, ap, ◌∙◌, arith}, Tests.{differ}}, specs.{Reply.{Reply, given, refused}, Spelling.{varint_of}}}
+use Rattle.numbers.{proofs.{Prelude.{sym, ap, ◌∙◌, arith}, Tests.{differ}}, specs.{Reply.{Reply, given, refused}, Spelling.{varint_of}, declared.refusal.Refusal.{Refusal}}}
 use Rattle.header.specs.declared.header.Head.{Head}
 use Rattle.salvage.proofs.{entries.Tabling.{sized_of}, moves.Capping.{capped_then, capped_as, capped_form}}
 use Rattle.salvage.specs.{File.{head_texts, metadata_of, border_bytes, assembled, new_file, Sized, all_short, Tabled}, Kept.{kept_of}, inner.Moves.Laid.{cap, Capped}}
 use Rattle.salvage.specs.inner.Rescue.{Texts.{behind, Inlined}, Whole.{new_table, new_data, sizes_of, SizedIf, Sizes, whole_of}}
 use Rattle.table.specs.{Rows.{rows_in}, declared.rows.Row.{Row}}
-use Rattle.salvage.specs.declared.rescue.texts.Put.TheVariants as P
 
 -- ---- a border that reaches the cap makes the data section reach it
 module _ (file : List ℕ) (head : Head) where
@@ -95,9 +94,14 @@ module _ (front table metadata bytes : List ℕ) where
     go true true false x y z = past (omega (arith, sum, ltb-false (length bytes) cap z))
 
 module _ (file : List ℕ) (head : Head) where
-  pub whole_given : (r : Reply (List ℕ)) → r ≡ head_texts file head → (before : List ℕ) {one two after : List ℕ} {p q next : ℕ} → Inlined (behind (take 7 file) r) before 0 one (P.Place p)
+  pub whole_refused : (r : Reply (List ℕ)) → r ≡ head_texts file head → (before one after : List ℕ) {why : Refusal} {reply : Reply ℕ} → reply ≡ refused why
+      → Inlined (behind (take 7 file) r) before 0 one (refused why) → Inlined (whole_of file head) before 0 after reply
+  whole_refused (given texts) e before one after is i = absurd i
+  whole_refused (refused told) e before one after is i = rw (← e, is) i
+
+  pub whole_given : (r : Reply (List ℕ)) → r ≡ head_texts file head → (before : List ℕ) {one two after : List ℕ} {p q next : ℕ} → Inlined (behind (take 7 file) r) before 0 one (given p)
       → Sizes (new_table file head) (metadata_of file head) (new_data file head) one p two q → Capped two q (new_table file head ++ (metadata_of file head ++ new_data file head)) after next
-      → Inlined (whole_of file head) before 0 after (P.Place next)
+      → Inlined (whole_of file head) before 0 after (given next)
   unfolding new_file
   whole_given (given texts) e before i s c = rw (← e) (whole_laid (take 7 file ++ texts) (new_table file head) (metadata_of file head) (new_data file head) i s c)
   whole_given (refused why) e before i s c = absurd i

@@ -2,8 +2,7 @@
 use Rattle.std.specs.Prelude.{◌++◌, ◌≡◌}
 use Rattle.numbers.specs.{Limits.{longest_text}, Prelude.{ℕ, leb, take, drop, Bool, List}, Reply.{Reply, given, refused, plain, demand, ◌or_else◌, ◌>>=◌, ◌>>◌}, Spelling.{varint_of}}
 use Rattle.header.specs.{Text.{string_at}, declared.text.Text.{Text}}
-use Rattle.salvage.specs.{declared.rescue.texts.Put.{Put}, inner.Moves.Laid.{Capped}}
-use Rattle.salvage.specs.declared.rescue.texts.Put.TheVariants as P
+use Rattle.salvage.specs.inner.Moves.Laid.{Capped}
 
 -- the text at a place of the header; 26 for one that can't stand inline
 unfoldable pub short_text : Bool → List ℕ → ℕ → Reply Text
@@ -22,8 +21,8 @@ behind front (given bytes) = given (front ++ bytes)
 behind front (refused why) = refused why
 
 -- bytes that were given were written, and a refusal is told
-abbrev pub Inlined : Reply (List ℕ) → List ℕ → ℕ → List ℕ → Put → Type 0
-Inlined (given bytes) before place after (P.Place next) = Capped before place bytes after next
-Inlined (given bytes) before place after (P.Refused why) = ⊥
-Inlined (refused why) before place after (P.Place next) = ⊥
-Inlined (refused why) before place after (P.Refused told) = told ≡ why
+abbrev pub Inlined : Reply (List ℕ) → List ℕ → ℕ → List ℕ → Reply ℕ → Type 0
+Inlined (given bytes) before place after (given next) = Capped before place bytes after next
+Inlined (given bytes) before place after (refused why) = ⊥
+Inlined (refused why) before place after (given next) = ⊥
+Inlined (refused why) before place after (refused told) = told ≡ why

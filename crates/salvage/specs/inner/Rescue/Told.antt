@@ -1,17 +1,12 @@
--- The code's answer, as the reply of document 02, Q-7.
+-- The reply of document 02, Q-7, with what is left in both outputs.
 use Rattle.std.specs.Prelude.{◌≡◌}
 use Rattle.numbers.specs.{Prelude.{ℕ, List}, Reply.{Reply, given, refused}}
-use Rattle.salvage.specs.{Salvage.{Salvaged, Counts, Replied, replied_of}, declared.rescue.reply.Rescued.{Rescued}}
-use Rattle.salvage.specs.declared.rescue.reply.Rescued.TheVariants as R
+use Rattle.salvage.specs.Salvage.{Salvaged, Counts, Replied, replied_of}
 
-abbrev pub told_rescued : Rescued → Reply Counts
-told_rescued (R.Counts counts) = given (record { length' = counts.size; lines = counts.lines; kept = counts.kept })
-told_rescued (R.Refused why) = refused why
-
-abbrev pub replied : Rescued → List ℕ → List ℕ → Replied
-replied r list out = record { reply = told_rescued r; list = list; out = out }
+abbrev pub replied : Reply Counts → List ℕ → List ℕ → Replied
+replied reply list out = record { reply = reply; list = list; out = out }
 
 -- what is left where the outputs were zero: all of it, or the refusal alone
-abbrev pub Filled : Reply Salvaged → ℕ → ℕ → Rescued → List ℕ → List ℕ → Type 0
+abbrev pub Filled : Reply Salvaged → ℕ → ℕ → Reply Counts → List ℕ → List ℕ → Type 0
 Filled (given s) words room r list out = replied r list out ≡ replied_of words room (given s)
-Filled (refused why) words room r list out = told_rescued r ≡ refused why
+Filled (refused why) words room r list out = r ≡ refused why

@@ -35,7 +35,7 @@ pub returns-in-Unreadable : goal.returns-in-Unreadable
 returns-in-Unreadable c =
     lists_stop _ _ _ c.loop-at.invariant
     (turned c.args.file.now c.args.head c.loop-at.number c.loop-at.at c.loop-at-test.true c.in-Unreadable.ensures)
-    c.put_line-next.ensures c.put_line-last.ensures
+    c.put_line-next.ensures (rw c.number.ensures at c.put_line-last.ensures)
 
 pub returns : goal.returns
 returns c = lists_end _ _ _ c.loop-at.invariant c.loop-at-test.false
