@@ -4,16 +4,14 @@ use Rattle.numbers.{proofs.{Prelude.{◌&&◌, List, [], ◌∷◌, ◌++◌, �
 use Rattle.numbers.specs.{Reply.{given, refused, plain, demand, ◌>>=◌, ◌>>◌}, declared.refusal.Refusal.{Refusal}}
 use Rattle.writer.{proofs.Stores.{stored_front}, specs.{Writer.{border_of, every}, inner.Stored.{Stored}}}
 use Rattle.builder.proofs.{Counting.{counted_is, readable_is, values_many, yards_many}, drawing.Sections.{appended_fits, drawn_alone}}
-use Rattle.builder.specs.Borders.{Drawn, drawn_from, drawn_of, passed, with_border}
+use Rattle.builder.specs.Borders.{Drawn, drawn_from, drawn_of, with_border}
 use Rattle.builder.specs.File.{Room, are_texts, borders_good, built_of, counted, file_of, fitted, known, readable, up_to}
-use Rattle.builder.specs.{Yards.{Lent, Plan, Yard, counted_lengths, counts_good, cut_by, lengths_good, plan_of, values_from, yards_from}, declared.borders.Border.{Border}}
+use Rattle.builder.specs.{Yards.{Lent, Plan, Yard, counted_lengths, counts_good, cut_by, lengths_good, plan_of, values_from, yards_from}}
 use Rattle.builder.specs.inner.Drawing.Section.{DrawsAll}
 use Rattle.build.proofs.entries.Tabled.{drawn_many}
-use Rattle.build.specs.{Checked.{checked, lent_as}, Room.{enough_for, need_of, room_of}, Whole.{Builds, told_built}, declared.{file.Built.{Built}, room.Work.{Work}}}
+use Rattle.build.specs.{Checked.{checked, lent_as}, Room.{enough_for, need_of, room_of}, Whole.{Builds}, declared.room.Work.{Work}}
 use Rattle.build.specs.inner.Whole.{Drew, Fills, Good, Settles, Starts, ends_as, file_for}
-use Rattle.builder.specs.declared.borders.Border.TheVariants as B
 use Rattle.builder.specs.inner.Drawing.Section
-use Rattle.build.specs.declared.file.Built.TheVariants as W
 
 -- ---- the checks come first, then the borders
 built_by : (b : Reply (Unit {0})) (c r k : Bool) (drawn : Reply Drawn) (rest : Drawn → Reply (List ℕ))
@@ -95,10 +93,10 @@ module _ (kind version precision names : ℕ) (yards : List ℕ) (lats lons : Li
       let some = ltb-true 0 (length yards / 4) (both (ltb 0 (length yards / 4)) rest g.counts).0 in omega (arith, some)
 
   -- ---- `start`
-  pub start_refused : (file room : ℕ) (before places bytes : List ℕ) (r : Border) → passed r ≡ checked (plan_of lent) → (why : Refusal) → r ≡ B.Refused why →
-      Starts lent file room before places bytes (B.Refused why)
+  pub start_refused : (file room : ℕ) (before places bytes : List ℕ) (r : Reply (Unit {0})) → r ≡ checked (plan_of lent) → (why : Refusal) → r ≡ refused why →
+      (last : Reply ℕ) → last ≡ refused why → Starts lent file room before places bytes last
   unfolding Starts
-  start_refused file room before places bytes r e why is = λ work. built_refused (plan_of lent) (record { file = file; bytes = room; work = work }) why (sym e ∙ ap passed is)
+  start_refused file room before places bytes r e why is last same = rw same (λ work. built_refused (plan_of lent) (record { file = file; bytes = room; work = work }) why (sym e ∙ is))
 
   same_drawn : (d d' : ℕ) → d ≡ d' → drawn_of version d (yards_from yards lats lons pieces []) ≡ drawn_of (plan_of lent).version d' (plan_of lent).yards
   unfolding drawn_of plan_of
@@ -106,24 +104,24 @@ module _ (kind version precision names : ℕ) (yards : List ℕ) (lats lons : Li
       drawn_alone version d (0 ∷ []) yards lats lons pieces [] (drop (names + 1) (cut_by lengths texts))
       ∙ ap (λ (n : ℕ). drawn_from version n (0 ∷ []) (yards_from yards lats lons pieces (drop (names + 1) (cut_by lengths texts)))) e
 
-  pub start_drawn : checked (plan_of lent) ≡ given tt → (file room : ℕ) (before places bytes : List ℕ) (d : ℕ) → d ≡ up_to (min file room) → (r : Border) →
+  pub start_drawn : checked (plan_of lent) ≡ given tt → (file room : ℕ) (before places bytes : List ℕ) (d : ℕ) → d ≡ up_to (min file room) → (r : Reply ℕ) →
       DrawsAll (drawn_of version d (yards_from yards lats lons pieces [])) before places bytes r → Starts lent file room before places bytes r
   unfolding Starts DrawsAll plan_of
-  start_drawn ok file room before places bytes d e (B.Drawn size) w =
+  start_drawn ok file room before places bytes d e (given size) w =
       (ok, subst (λ (reply : Reply Drawn). Section.Whole reply before places bytes size) (same_drawn d (up_to (min file room)) e) w)
-  start_drawn ok file room before places bytes d e (B.Refused why) w =
+  start_drawn ok file room before places bytes d e (refused why) w =
       λ work. built_undrawn (plan_of lent) (record { file = file; bytes = room; work = work }) ok why (sym (same_drawn d (up_to (min file room)) e) ∙ w)
 
   -- ---- `fill_all`
-  module _ (file room : ℕ) (before places bytes : List ℕ) (r : Border) (s : Starts lent file room before places bytes r) where
-    pub refused_fills : (why : Refusal) → r ≡ B.Refused why → (work : Work) (out : List ℕ) → Fills (built_of (plan_of lent) (room_of lent work file room)) file out (W.Refused why)
+  module _ (file room : ℕ) (before places bytes : List ℕ) (r : Reply ℕ) (s : Starts lent file room before places bytes r) where
+    pub refused_fills : (why : Refusal) → r ≡ refused why → (work : Work) (out : List ℕ) (last : Reply ℕ) → last ≡ refused why → Fills (built_of (plan_of lent) (room_of lent work file room)) file out last
     unfolding Starts Fills room_of
-    refused_fills why is work out =
-        let t : Starts lent file room before places bytes (B.Refused why) = subst (Starts lent file room before places bytes) is s in
-        t (enough_for work (need_of names (length yards) lengths))
+    refused_fills why is work out last same =
+        let t : Starts lent file room before places bytes (refused why) = subst (Starts lent file room before places bytes) is s in
+        rw same (t (enough_for work (need_of names (length yards) lengths)))
 
-    module _ (size : ℕ) (is : r ≡ B.Drawn size) where
-      told : Starts lent file room before places bytes (B.Drawn size)
+    module _ (size : ℕ) (is : r ≡ given size) where
+      told : Starts lent file room before places bytes (given size)
       told = subst (Starts lent file room before places bytes) is s
 
       ok : checked (plan_of lent) ≡ given tt
@@ -157,9 +155,9 @@ module _ (kind version precision names : ℕ) (yards : List ℕ) (lats lons : Li
         stored = whole.stored;
       }
 
-      pub drawn_fills : (work : Work) (out : List ℕ) (built : Built)
-          → ((pieces' drawn : List ℕ) → Drew yards drawn places → Fills (ends_as (enough_for work (need_of names (length yards) lengths)) file
-          (file_for (lent_as kind version precision names yards lats lons pieces' lengths texts) drawn (take size bytes))) file out built) → Fills (built_of (plan_of lent)
+      pub drawn_fills : (work : Work) (out : List ℕ) (built : Reply ℕ)
+          → ((drawn : List ℕ) → Drew yards drawn places → Fills (ends_as (enough_for work (need_of names (length yards) lengths)) file
+          (file_for (lent_as kind version precision names yards lats lons pieces lengths texts) drawn (take size bytes))) file out built) → Fills (built_of (plan_of lent)
           (room_of lent work file room)) file out built
       unfolding room_of
       drawn_fills work out built f =
@@ -169,11 +167,11 @@ module _ (kind version precision names : ℕ) (yards : List ℕ) (lats lons : Li
           let same : file_for lent whole.drawn.places (take size bytes) ≡ file_of (plan_of lent) whole.drawn =
           ap (λ (b : List ℕ). file_of (plan_of lent) (record { bytes = b; places = whole.drawn.places })) (sym whole.front) in
           subst (λ (reply : Reply (List ℕ)). Fills reply file out built) (sym (own ∙ ap (ends_as enough' file) (sym same)))
-          (f pieces whole.drawn.places drew)
+          (f whole.drawn.places drew)
 
 -- ---- `finish`
 module _ (work : Bool) (room : ℕ) (file out : List ℕ) where
-  pub short_fills : work ≡ false → (r : Built) → r ≡ W.Refused (plain 28) → Fills (ends_as work room file) room out r
+  pub short_fills : work ≡ false → (r : Reply ℕ) → r ≡ refused (plain 28) → Fills (ends_as work room file) room out r
   unfolding Fills ends_as
   short_fills none r e = subst (Fills (ends_as work room file) room out) (sym e) (ap (λ (b : Bool). demand (b && leb (length file) (up_to room)) (plain 28) >> given file) none)
 
@@ -185,11 +183,11 @@ module _ (work : Bool) (room : ℕ) (file out : List ℕ) where
     unfolding ends_as
     ends fits e = ap (λ (b : Bool). demand (b && leb (length file) (up_to room)) (plain 28) >> given file) yes' ∙ ap (λ (b : Bool). demand b (plain 28) >> given file) e
 
-    pub long_fills : up_to room < end → (r : Built) → r ≡ W.Refused (plain 28) → Fills (ends_as work room file) room out r
+    pub long_fills : up_to room < end → (r : Reply ℕ) → r ≡ refused (plain 28) → Fills (ends_as work room file) room out r
     unfolding Fills
     long_fills h r e = subst (Fills (ends_as work room file) room out) (sym e) (ends false (lt-leb (length file) (up_to room) (omega (arith, size, h))))
 
-    pub whole_fills : end ≤ up_to room → Fills (ends_as work room file) room out (W.Length end)
+    pub whole_fills : end ≤ up_to room → Fills (ends_as work room file) room out (given end)
     unfolding Fills fitted
     whole_fills h = let fits : length file ≤ room = omega (arith, size, h) in
         let front : out ≡ file ++ drop (length file) (zeros room) = stored_front (zeros room) file out end s (omega (arith, fits, length-replicate {A = ℕ} room 0)) in
@@ -198,15 +196,15 @@ module _ (work : Bool) (room : ℕ) (file out : List ℕ) where
         ∙ ap (fitted room) (sym (ends true (le-leb (length file) (up_to room) (omega (arith, size, h))))))
 
 -- ---- `build`
-pub settled_fits : (reply : Reply (List ℕ)) (room : ℕ) (before after : List ℕ) (built r : Built) → length before ≡ room → Fills reply room before built → Settles built before after r →
-    record { reply = told_built r; out = after } ≡ fitted room reply
+pub settled_fits : (reply : Reply (List ℕ)) (room : ℕ) (before after : List ℕ) (built r : Reply ℕ) → length before ≡ room → Fills reply room before built → Settles built before after r →
+    record { reply = r; out = after } ≡ fitted room reply
 unfolding Fills Settles fitted
-settled_fits reply room before after (W.Length n) r size f s =
-    ap (λ (b : Built). record { reply = told_built b; out = after }) s.0 ∙ (ap (λ (l : List ℕ). record { reply = given n; out = l }) s.1 ∙ f)
-settled_fits reply room before after (W.Refused why) r size f s =
-    ap (λ (b : Built). record { reply = told_built b; out = after }) s.0 ∙ (ap (λ (l : List ℕ). record { reply = refused why; out = l }) (s.1 ∙ ap zeros size) ∙ ap (fitted room) (sym f))
+settled_fits reply room before after (given n) r _ f s =
+    ap (λ (b : Reply ℕ). record { reply = b; out = after }) s.0 ∙ (ap (λ (l : List ℕ). record { reply = given n; out = l }) s.1 ∙ f)
+settled_fits reply room before after (refused why) r size f s =
+    ap (λ (b : Reply ℕ). record { reply = b; out = after }) s.0 ∙ (ap (λ (l : List ℕ). record { reply = refused why; out = l }) (s.1 ∙ ap zeros size) ∙ ap (fitted room) (sym f))
 
-pub settled_builds : (lent : Lent) (room : Room) (before after : List ℕ) (built r : Built) → length before ≡ room.file → Fills (built_of (plan_of lent) room) room.file before built →
+pub settled_builds : (lent : Lent) (room : Room) (before after : List ℕ) (built r : Reply ℕ) → length before ≡ room.file → Fills (built_of (plan_of lent) room) room.file before built →
     Settles built before after r → Builds lent room after r
 unfolding Builds
 settled_builds lent room before after built r size f s = settled_fits (built_of (plan_of lent) room) room.file before after built r size f s

@@ -1,11 +1,11 @@
 -- What a plan needs lies inside what is lent. Assumes nothing.
 use Rattle.numbers.proofs.Prelude.{ℕ, zero, suc, ◌+◌, ◌-◌, ◌*◌, ◌/◌, ◌^◌, ◌≤◌, ◌<◌, length, take, get_or, length-take-le, Bool, true, false, List, ◌≡◌, refl, sym, ap, subst}
-use Rattle.numbers.{proofs.Prelude.{◌∙◌, arith}, specs.{Lists.{zeros}, declared.refusal.Refusal.{Refusal}}}
+use Rattle.numbers.{proofs.Prelude.{◌∙◌, arith}, specs.{Lists.{zeros}, Reply.{Reply, given, refused}, declared.refusal.Refusal.{Refusal}}}
+use Rattle.std.specs.Prelude.{is_err}
 use Rattle.writer.specs.inner.Stored.{Stored}
 use Rattle.builder.{proofs.Counting.{lengths_room}, specs.Yards.{sum_of}}
 use Rattle.build.proofs.{Filing.{reaches}, Planned.{few_names, few_yards, all_lengths}, Rooms.{sum_front}, Slices.{told, texts_few}}
-use Rattle.build.specs.{Room.{need_of, enough_for}, declared.{file.Built.{Built}, room.{Need.{Need}, Work.{Work}}}, inner.Whole.{Good, Filling, Settles}}
-use Rattle.build.specs.declared.file.Built.TheVariants as W
+use Rattle.build.specs.{Room.{need_of, enough_for}, declared.{room.{Need.{Need}, Work.{Work}}}, inner.Whole.{Good, Filling, Settles}}
 
 pub record Cuts (names : ℕ) (yards lengths texts : List ℕ) (n : Need) : Type 0 where
   pub few_names : names ≤ 255
@@ -75,13 +75,15 @@ pub four_times : (a b c d : ℕ) → a ≡ b → 4 * b ≤ c → d ≡ c → 4 *
 four_times a b c d e h k = omega (arith, h, e, k)
 
 -- ---- an answer, as it is settled
-pub settle_length : (b : Built) (n : ℕ) → b ≡ W.Length n → (out : List ℕ) → Settles b out out (W.Length n)
+pub settle_given : (b : Reply ℕ) → is_err b ≡ false → (out : List ℕ) → Settles b out out b
 unfolding Settles
-settle_length b n e out = subst (λ (x : Built). Settles x out out (W.Length n)) (sym e) (refl, refl)
+settle_given (given n) h out = (refl, refl)
+settle_given (refused why) h out = let z : ◌≡◌ {A = ℕ} 0 1 = cc in absurd (omega arith)
 
-pub settle_refused : (b : Built) (why : Refusal) → b ≡ W.Refused why → (before after : List ℕ) → after ≡ zeros (length before) → Settles b before after (W.Refused why)
+pub settle_refused : (b : Reply ℕ) → is_err b ≡ true → (before after : List ℕ) → after ≡ zeros (length before) → Settles b before after b
 unfolding Settles
-settle_refused b why e before after z = subst (λ (x : Built). Settles x before after (W.Refused why)) (sym e) (refl, z)
+settle_refused (given n) h before after z = let z : ◌≡◌ {A = ℕ} 0 1 = cc in absurd (omega arith)
+settle_refused (refused why) h before after z = (refl, z)
 
 -- ---- whether there is room
 pub lacks : (work : Work) (names words : ℕ) (lengths : List ℕ) (need : Need) → need ≡ need_of names words lengths → (b : Bool) → b ≡ enough_for work need → b ≡ false →

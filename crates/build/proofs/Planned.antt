@@ -1,12 +1,11 @@
 -- The checks of a plan, by those of what is lent. Assumes nothing.
 use Rattle.numbers.proofs.Prelude.{ℕ, ◌+◌, ◌*◌, ◌/◌, ◌≤◌, leb-true, eqb, ltb, leb, ℤ, length, take, drop, Bool, true, false, ◌&&◌, List, [], ◌≡◌, sym, ap, ◌∙◌}
-use Rattle.numbers.{proofs.Tests.{both}, specs.{Reply.{Reply, given, plain, demand, ◌>>◌}, declared.refusal.Refusal.{Refusal}}}
+use Rattle.numbers.{proofs.Tests.{both}, specs.{Reply.{Reply, given, refused, plain, demand, ◌>>◌}, declared.refusal.Refusal.{Refusal}}}
 use Rattle.writer.specs.Writer.{every}
-use Rattle.builder.{proofs.{Checking.{borders_alone}, Counting.{counted_is, readable_is, values_many}}, specs.{Borders.{passed}, File.{borders_good, counted, readable, known, are_texts}}}
-use Rattle.builder.specs.{Yards.{Plan, Lent, plan_of, yards_from, cut_by, values_from, counted_lengths, counts_good, lengths_good}, declared.borders.Border.{Border}}
+use Rattle.builder.{proofs.{Checking.{borders_alone}, Counting.{counted_is, readable_is, values_many}}, specs.{File.{borders_good, counted, readable, known, are_texts}}}
+use Rattle.builder.specs.{Yards.{Plan, Lent, plan_of, yards_from, cut_by, values_from, counted_lengths, counts_good, lengths_good}}
 use Rattle.header.specs.Header.{is_kind}
 use Rattle.build.specs.Checked.{checked, lent_as}
-use Rattle.builder.specs.declared.borders.Border.TheVariants as B
 
 module _ (names : ℕ) (yards : List ℕ) (lengths : ℕ) (good : counts_good names yards lengths ≡ true) where
   abbrev count : ℕ
@@ -39,16 +38,16 @@ module _ (kind version precision names : ℕ) (yards : List ℕ) (lats lons : Li
   abbrev later : Reply (Unit {0})
   later = demand (counted plan) (plain 25) >> (demand (readable plan) (plain 26) >> demand (known plan) (plain 27))
 
-  module _ (r : Border) (is : passed r ≡ borders_good (yards_from yards lats lons [] [])) where
-    bordered : borders_good plan.yards ≡ passed r
+  module _ (r : Reply (Unit {0})) (is : r ≡ borders_good (yards_from yards lats lons [] [])) where
+    bordered : borders_good plan.yards ≡ r
     unfolding plan_of
     bordered = borders_alone yards lats lons pieces [] (drop (names + 1) (cut_by lengths texts)) [] ∙ sym is
 
-    pub border_bad : (why : Refusal) → r ≡ B.Refused why → passed (B.Refused why) ≡ checked plan
+    pub border_bad : (why : Refusal) → r ≡ refused why → refused why ≡ checked plan
     unfolding checked
-    border_bad why e = sym (ap (λ (x : Reply (Unit {0})). x >> later) (bordered ∙ ap passed e))
+    border_bad why e = sym (ap (λ (x : Reply (Unit {0})). x >> later) (bordered ∙ e))
 
-    module _ (ok : passed r ≡ given tt) where
+    module _ (ok : r ≡ given tt) where
       past_borders : checked plan ≡ later
       unfolding checked
       past_borders = ap (λ (x : Reply (Unit {0})). x >> later) (bordered ∙ ok)
@@ -57,8 +56,8 @@ module _ (kind version precision names : ℕ) (yards : List ℕ) (lats lons : Li
         counted_by : counted plan ≡ b
         counted_by = counted_is lent ∙ sym counts
 
-        pub counts_bad : b ≡ false → (s : Border) → s ≡ B.Refused (plain 25) → passed s ≡ checked plan
-        counts_bad n s e = ap passed e ∙
+        pub counts_bad : b ≡ false → (s : Reply (Unit {0})) → s ≡ refused (plain 25) → s ≡ checked plan
+        counts_bad n s e = e ∙
             sym (past_borders ∙ ap (λ (x : Bool). demand x (plain 25) >> (demand (readable plan) (plain 26) >> demand (known plan) (plain 27))) (counted_by ∙ n))
 
         module _ (good : b ≡ true) where
@@ -74,8 +73,8 @@ module _ (kind version precision names : ℕ) (yards : List ℕ) (lats lons : Li
             readable_by =
                 sym (readable_is lent counts_hold) ∙ (ap (λ (n : ℕ). are_texts (take (names + 1 + names * n) lengths) texts) (values_many yards) ∙ sym tested)
 
-            pub texts_bad : t ≡ false → (s : Border) → s ≡ B.Refused (plain 26) → passed s ≡ checked plan
-            texts_bad n s e = ap passed e ∙ sym (past_counts ∙ ap (λ (x : Bool). demand x (plain 26) >> demand (known plan) (plain 27)) (readable_by ∙ n))
+            pub texts_bad : t ≡ false → (s : Reply (Unit {0})) → s ≡ refused (plain 26) → s ≡ checked plan
+            texts_bad n s e = e ∙ sym (past_counts ∙ ap (λ (x : Bool). demand x (plain 26) >> demand (known plan) (plain 27)) (readable_by ∙ n))
 
             module _ (fine : t ≡ true) (k : Bool) (form : k ≡ ((leb 1 precision && leb precision 31) && (ltb version 2 && is_kind kind))) where
               past_texts : checked plan ≡ demand k (plain 27)
@@ -83,8 +82,8 @@ module _ (kind version precision names : ℕ) (yards : List ℕ) (lats lons : Li
               past_texts =
                   past_counts ∙ (ap (λ (x : Bool). demand x (plain 26) >> demand (known plan) (plain 27)) (readable_by ∙ fine) ∙ ap (λ (x : Bool). demand x (plain 27)) (sym form))
 
-              pub form_bad : k ≡ false → (s : Border) → s ≡ B.Refused (plain 27) → passed s ≡ checked plan
-              form_bad n s e = ap passed e ∙ sym (past_texts ∙ ap (λ (x : Bool). demand x (plain 27)) n)
+              pub form_bad : k ≡ false → (s : Reply (Unit {0})) → s ≡ refused (plain 27) → s ≡ checked plan
+              form_bad n s e = e ∙ sym (past_texts ∙ ap (λ (x : Bool). demand x (plain 27)) n)
 
               pub all_good : k ≡ true → given tt ≡ checked plan
               all_good n = sym (past_texts ∙ ap (λ (x : Bool). demand x (plain 27)) n)

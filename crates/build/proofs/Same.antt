@@ -3,26 +3,16 @@ use Rattle.numbers.proofs.Prelude.{ℕ, length, take, take_at, List, ◌≡◌, 
 use Rattle.numbers.{proofs.Refusals.{Listed}, specs.{Lists.{zeros}, Reply.{Reply, given, refused}, declared.refusal.Refusal.{Refusal}}}
 use Rattle.builder.{proofs.drawing.Lending.{never_given}, specs.{File.{Room, Replied, fitted, built_of}, Yards.{Lent, plan_of}}}
 use Rattle.build.proofs.Numbered.{build_numbers, build_refusals}
-use Rattle.build.specs.{Whole.{told_built, Builds}, declared.file.Built.{Built}}
-use Rattle.build.specs.declared.file.Built.TheVariants as W
-
-untold : Reply ℕ → Built
-untold (given length) = W.Length length
-untold (refused why) = W.Refused why
-
-untold_told : (r : Built) → untold (told_built r) ≡ r
-unfolding untold
-untold_told (W.Length length) = refl
-untold_told (W.Refused why) = refl
+use Rattle.build.specs.Whole.{Builds}
 
 module _ (lent : Lent) (room : Room) where
   -- Two replies that the promise permits are equal, with all of the output.
-  pub same_built : (r r' : Built) (out out' : List ℕ) → Builds lent room out r → Builds lent room out' r' → (r ≡ r') × (out ≡ out')
+  pub same_built : (r r' : Reply ℕ) (out out' : List ℕ) → Builds lent room out r → Builds lent room out' r' → (r ≡ r') × (out ≡ out')
   unfolding Builds
   same_built r r' out out' b b' = let e = b ∙ sym b' in
-      (sym (untold_told r) ∙ (ap (λ (x : Replied). untold x.reply) e ∙ untold_told r'), ap (λ (x : Replied). x.out) e)
+      (ap (λ (x : Replied). x.reply) e, ap (λ (x : Replied). x.out) e)
 
-  module _ (out : List ℕ) (why : Refusal) (b : Builds lent room out (W.Refused why)) where
+  module _ (out : List ℕ) (why : Refusal) (b : Builds lent room out (refused why)) where
     -- what was refused, and what is left of the output
     settled : (built_of (plan_of lent) room ≡ refused why) × (out ≡ zeros room.file)
     unfolding Builds fitted
@@ -39,7 +29,7 @@ module _ (lent : Lent) (room : Room) where
     build_numbered = build_refusals (plan_of lent) room why settled.0
 
   -- Where the build answers, the front of the output, as long as it says, is the file of the definition.
-  pub wrote : (out : List ℕ) (n : ℕ) → Builds lent room out (W.Length n) → built_of (plan_of lent) room ≡ given (take n out)
+  pub wrote : (out : List ℕ) (n : ℕ) → Builds lent room out (given n) → built_of (plan_of lent) room ≡ given (take n out)
   unfolding Builds fitted
   wrote out n b = go (built_of (plan_of lent) room) b where
     go : (reply : Reply (List ℕ)) → record { reply = given n; out = out } ≡ fitted room.file reply → reply ≡ given (take n out)

@@ -4,3 +4,4 @@ pub mod Whole
 pub mod Metadata
 pub mod Entries
 pub mod inner
+pub mod Lists

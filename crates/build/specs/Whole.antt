@@ -1,17 +1,12 @@
 -- What `build` replies, and what it leaves in all that was lent.
 use Rattle.std.specs.Prelude.{◌≡◌}
-use Rattle.numbers.specs.{Lists.{zeros}, Prelude.{ℕ, ℤ, pos, length, replicate, List}, Reply.{Reply, given, refused}}
+use Rattle.numbers.specs.{Lists.{zeros}, Prelude.{ℕ, ℤ, pos, length, replicate, List}, Reply.{Reply}}
 use Rattle.builder.specs.{File.{Room, built_of, fitted}, Yards.{Lent, plan_of}}
-use Rattle.build.specs.declared.{file.Built.{Built}, room.Work.{Work}}
-use Rattle.build.specs.declared.file.Built.TheVariants as W
-
-abbrev pub told_built : Built → Reply ℕ
-told_built (W.Length length) = given length
-told_built (W.Refused why) = refused why
+use Rattle.build.specs.declared.room.Work.{Work}
 
 -- the reply and the output
-unfoldable pub Builds : Lent → Room → List ℕ → Built → Type 0
-Builds lent room out r = record { reply = told_built r; out = out } ≡ fitted room.file (built_of (plan_of lent) room)
+unfoldable pub Builds : Lent → Room → List ℕ → Reply ℕ → Type 0
+Builds lent room out r = record { reply = r; out = out } ≡ fitted room.file (built_of (plan_of lent) room)
 
 -- the working lists, all zero
 pub record Cleared (work : Work) (room : ℕ) (starts keys spare kept held words places : List ℕ) (boxes : List ℤ) (bytes : List ℕ) : Type 0 where

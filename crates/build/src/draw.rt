@@ -4,9 +4,10 @@ ghost use Rattle.std.specs.Prelude.{ℕ, ◌≤◌, length, get_or};
 ghost use Rattle.builder.specs.{Borders.{drawn_of}, Yards.{yards_from}};
 ghost use Rattle.builder.specs.inner.Drawing.Section.{DrawsAll};
 
-use builder::borders::Border;
+use crate::lent::Lent;
 use builder::drawing::section::draw_yards;
 use builder::drawing::yard::draw_yard;
+use numbers::refusal::Refusal;
 
 // With no room at all the first border is refused, by 23 before 28.
 fn draw_nothing(
@@ -16,7 +17,7 @@ fn draw_nothing(
     lons: &[i32],
     pieces: &[u32],
     out: &mut [u8],
-) -> Border
+) -> Result<usize, Refusal>
     requires { 4 ≤ length yards.now }
     ensures { (places bytes : List ℕ) → DrawsAll (drawn_of version 0 (yards_from yards.now lats.now lons.now pieces.now [])) places places bytes result }
 {
@@ -30,21 +31,34 @@ fn draw_nothing(
 }
 
 pub(crate) fn draw(
-    version: u8,
-    yards: &[u32],
-    lats: &[i32],
-    lons: &[i32],
-    pieces: &[u32],
+    plan: Lent,
     room: usize,
     places: &mut [u32],
     bytes: &mut [u8],
     out: &mut [u8],
-) -> Border
-    requires { (4 ≤ length yards.now) × (room ≤ length bytes.old) × (room ≤ length out.old) × (room ≤ 1073741824) × (get_or bytes.old 0 0 ≡ 0) }
-    ensures { DrawsAll (drawn_of version room (yards_from yards.now lats.now lons.now pieces.now [])) places.old places.new bytes.new result }
+) -> Result<usize, Refusal>
+    requires { (4 ≤ length plan.yards.now) × (room ≤ length bytes.old) × (room ≤ length out.old) × (room ≤ 1073741824) × (get_or bytes.old 0 0 ≡ 0) }
+    ensures { DrawsAll (drawn_of plan.entry.asked.version room (yards_from plan.entry.yards.now plan.entry.lats.now plan.entry.lons.now plan.entry.pieces.now [])) places.old places.new bytes.new result }
 {
     if room == 0 {
-        return draw_nothing(version, yards, lats, lons, pieces, out);
+        return draw_nothing(
+            plan.asked.version,
+            plan.yards,
+            plan.lats,
+            plan.lons,
+            plan.pieces,
+            out,
+        );
     }
-    draw_yards(version, yards, lats, lons, pieces, room, places, bytes, out)
+    draw_yards(
+        plan.asked.version,
+        plan.yards,
+        plan.lats,
+        plan.lons,
+        plan.pieces,
+        room,
+        places,
+        bytes,
+        out,
+    )
 }

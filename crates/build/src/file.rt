@@ -2,87 +2,31 @@
 ghost use mathlib.Core.{Path.{◌≡◌}, List.{List}};
 ghost use Rattle.std.specs.Prelude.{ℕ, ◌^◌, ◌≤◌, length, get_or};
 ghost use Rattle.builder.specs.{File.{built_of}, Yards.{plan_of}};
-ghost use Rattle.numbers.specs.Reply.{plain};
-ghost use Rattle.build.specs.{Room.{work_of, need_of, enough_for, room_of}, inner.Whole.{lent_for, Good, Drew, file_for, ends_as, Fills, Starts, Settles}, Whole.{Builds, Cleared}};
+ghost use Rattle.build.specs.{Room.{work_of, need_of, enough_for, room_of}, inner.Whole.{lent_for, lent_in, Good, Drew, file_for, ends_as, Fills, Starts, Settles}, Lists.{work_in}, Whole.{Builds, Cleared}};
 
 use crate::asked::Asked;
 use crate::checks::check_plan;
 use crate::draw::draw;
 use crate::fill::fill;
+use crate::lent::Lent;
+use crate::lists::Lists;
 use crate::room::{Work, data_room, has_room, need_of, up_to};
-use crate::zero::{zero_longs, zero_numbers};
-use builder::borders::Border;
-use header::field::zero;
-use header::zero::zero_words;
-use numbers::refusal::{Refusal, plain};
-
-#[derive(Clone, Copy)]
-pub enum Built {
-    // How long the file is.
-    Length(usize),
-    Refused(Refusal),
-}
+use numbers::fault::Fault;
+use numbers::refusal::Refusal;
 
 // The checks, then the borders, into a list that begins with zero.
-fn start(
-    asked: Asked,
-    yards: &[u32],
-    lats: &[i32],
-    lons: &[i32],
-    pieces: &[u32],
-    lengths: &[u32],
-    texts: &[u8],
-    places: &mut [u32],
-    bytes: &mut [u8],
-    out: &mut [u8],
-) -> Border
+fn start(plan: Lent, places: &mut [u32], bytes: &mut [u8], out: &mut [u8]) -> Result<usize, Refusal>
     requires { get_or bytes.old 0 0 ≡ 0 }
-    ensures { Starts (lent_for asked yards.now lats.now lons.now pieces.now lengths.now texts.now) (length out.old) (length bytes.old) places.old places.new bytes.new result }
+    ensures { Starts (lent_in plan.entry) (length out.old) (length bytes.old) places.old places.new bytes.new result }
 {
-    let checked = check_plan(
-        asked.kind,
-        asked.version,
-        asked.precision,
-        asked.names,
-        yards,
-        lats,
-        lons,
-        lengths,
-        texts,
-    );
-    match checked {
-        Border::Drawn(_) => (),
-        Border::Refused(why) => return Border::Refused(why),
-    }
+    check_plan(plan)?;
     let room = data_room(out.len(), bytes.len());
-    draw(
-        asked.version,
-        yards,
-        lats,
-        lons,
-        pieces,
-        room,
-        places,
-        bytes,
-        out,
-    )
-}
-
-// A list too short, or a file too long.
-fn no_room() -> Built
-    ensures { result ≡ Built.Refused (plain 28) }
-{
-    Built::Refused(plain(28))
+    draw(plan, room, places, bytes, out)
 }
 
 // The file itself, once its borders are drawn.
 fn finish(
-    asked: Asked,
-    yards: &[u32],
-    lats: &[i32],
-    lons: &[i32],
-    lengths: &[u32],
-    texts: &[u8],
+    plan: Lent,
     starts: &mut [u32],
     keys: &mut [u64],
     spare: &mut [u64],
@@ -93,14 +37,14 @@ fn finish(
     boxes: &mut [i32],
     bytes: &[u8],
     out: &mut [u8],
-) -> Built
-    requires { Good asked.names yards.now lengths.now texts.now × (length bytes.now ≤ 2 ^ 30) }
-    ensures { (pieces drawn : List ℕ) → Drew yards.now drawn places.old
+) -> Result<usize, Refusal>
+    requires { Good plan.asked.names plan.yards.now plan.lengths.now plan.texts.now × (length bytes.now ≤ 2 ^ 30) }
+    ensures { (drawn : List ℕ) → Drew plan.entry.yards.now drawn places.old
         → Fills (ends_as (enough_for (work_of (length starts.old) (length keys.old) (length spare.old) (length kept.old) (length held.old) (length words.old) (length places.old) (length boxes.old))
-        (need_of asked.names (length yards.now) lengths.now)) (length out.old)
-        (file_for (lent_for asked yards.now lats.now lons.now pieces lengths.now texts.now) drawn bytes.now)) (length out.old) out.new result }
+        (need_of plan.entry.asked.names (length plan.entry.yards.now) plan.entry.lengths.now)) (length out.old)
+        (file_for (lent_in plan.entry) drawn bytes.now)) (length out.old) out.new result }
 {
-    let need = need_of(asked.names as usize, yards.len(), lengths);
+    let need = need_of(plan.asked.names as usize, plan.yards.len(), plan.lengths);
     let work = Work {
         starts: starts.len(),
         keys: keys.len(),
@@ -112,27 +56,20 @@ fn finish(
         boxes: boxes.len(),
     };
     if !has_room(work, need) {
-        return no_room();
+        return Err(Fault::FileFull.alone());
     }
     let end = fill(
-        asked, need, yards, lats, lons, lengths, texts, starts, keys, spare, kept, held, words,
-        places, boxes, bytes, out,
+        plan, need, starts, keys, spare, kept, held, words, places, boxes, bytes, out,
     );
     if up_to(out.len()) < end {
-        return no_room();
+        return Err(Fault::FileFull.alone());
     }
-    Built::Length(end)
+    Ok(end)
 }
 
 // With nothing zeroed afterwards.
 fn fill_all(
-    asked: Asked,
-    yards: &[u32],
-    lats: &[i32],
-    lons: &[i32],
-    pieces: &[u32],
-    lengths: &[u32],
-    texts: &[u8],
+    plan: Lent,
     starts: &mut [u32],
     keys: &mut [u64],
     spare: &mut [u64],
@@ -143,27 +80,16 @@ fn fill_all(
     boxes: &mut [i32],
     bytes: &mut [u8],
     out: &mut [u8],
-) -> Built
+) -> Result<usize, Refusal>
     requires { get_or bytes.old 0 0 ≡ 0 }
-    ensures { Fills (built_of (plan_of (lent_for asked yards.now lats.now lons.now pieces.now lengths.now texts.now))
-        (room_of (lent_for asked yards.now lats.now lons.now pieces.now lengths.now texts.now)
+    ensures { Fills (built_of (plan_of (lent_in plan.entry))
+        (room_of (lent_in plan.entry)
         (work_of (length starts.old) (length keys.old) (length spare.old) (length kept.old) (length held.old) (length words.old) (length places.old) (length boxes.old))
         (length out.old) (length bytes.old))) (length out.old) out.new result }
 {
-    let started = start(
-        asked, yards, lats, lons, pieces, lengths, texts, places, bytes, out,
-    );
-    let size = match started {
-        Border::Drawn(size) => size,
-        Border::Refused(why) => return Built::Refused(why),
-    };
+    let size = start(plan, places, bytes, out)?;
     finish(
-        asked,
-        yards,
-        lats,
-        lons,
-        lengths,
-        texts,
+        plan,
         starts,
         keys,
         spare,
@@ -178,45 +104,32 @@ fn fill_all(
 }
 
 // Zeros over every working list.
-fn clear(
-    starts: &mut [u32],
-    keys: &mut [u64],
-    spare: &mut [u64],
-    kept: &mut [u32],
-    held: &mut [u8],
-    words: &mut [u32],
-    places: &mut [u32],
-    boxes: &mut [i32],
-    bytes: &mut [u8],
-)
-    ensures { Cleared (work_of (length starts.old) (length keys.old) (length spare.old) (length kept.old) (length held.old) (length words.old) (length places.old) (length boxes.old))
-        (length bytes.old) starts.new keys.new spare.new kept.new held.new words.new places.new boxes.new bytes.new }
+fn clear(lists: Lists)
+    ensures { Cleared (work_in lists.entry) (length lists.entry.bytes.now) lists.exit.0.now lists.exit.1.0.now lists.exit.1.1.0.now lists.exit.1.1.1.0.now
+        lists.exit.1.1.1.1.0.now lists.exit.1.1.1.1.1.0.now lists.exit.1.1.1.1.1.1.0.now lists.exit.1.1.1.1.1.1.1.0.now lists.exit.1.1.1.1.1.1.1.1.0.now }
 {
-    zero_words(starts);
-    zero_longs(keys);
-    zero_longs(spare);
-    zero_words(kept);
-    zero(held);
-    zero_words(words);
-    zero_words(places);
-    zero_numbers(boxes);
-    zero(bytes);
+    lists.starts.fill(0);
+    lists.keys.fill(0);
+    lists.spare.fill(0);
+    lists.kept.fill(0);
+    lists.held.fill(0);
+    lists.words.fill(0);
+    lists.places.fill(0);
+    lists.boxes.fill(0);
+    lists.bytes.fill(0);
 }
 
 // Where it is refused, the output is zero.
-pub fn settle(built: Built, out: &mut [u8]) -> Built
+pub fn settle(built: Result<usize, Refusal>, out: &mut [u8]) -> Result<usize, Refusal>
     ensures { Settles built out.old out.new result }
 {
-    match built {
-        Built::Length(length) => Built::Length(length),
-        Built::Refused(why) => {
-            zero(out);
-            Built::Refused(why)
-        }
+    if built.is_err() {
+        out.fill(0);
     }
+    built
 }
 
-// The file at the front of the output, zeros behind it and in every other list; on a refusal zeros everywhere.
+// How long the file is; it stands at the front of the output, zeros behind it and in every other list; on a refusal zeros everywhere.
 pub fn build(
     asked: Asked,
     yards: &[u32],
@@ -235,7 +148,7 @@ pub fn build(
     boxes: &mut [i32],
     bytes: &mut [u8],
     out: &mut [u8],
-) -> Built
+) -> Result<usize, Refusal>
     ensures { Builds (lent_for asked yards.now lats.now lons.now pieces.now lengths.now texts.now)
         (room_of (lent_for asked yards.now lats.now lons.now pieces.now lengths.now texts.now)
         (work_of (length starts.old) (length keys.old) (length spare.old) (length kept.old) (length held.old) (length words.old) (length places.old) (length boxes.old))
@@ -243,11 +156,29 @@ pub fn build(
         × Cleared (work_of (length starts.old) (length keys.old) (length spare.old) (length kept.old) (length held.old) (length words.old) (length places.old) (length boxes.old))
         (length bytes.old) starts.new keys.new spare.new kept.new held.new words.new places.new boxes.new bytes.new }
 {
-    zero(bytes);
+    bytes.fill(0);
+    let plan = Lent {
+        asked,
+        yards,
+        lats,
+        lons,
+        pieces,
+        lengths,
+        texts,
+    };
     let built = fill_all(
-        asked, yards, lats, lons, pieces, lengths, texts, starts, keys, spare, kept, held, words,
-        places, boxes, bytes, out,
+        plan, starts, keys, spare, kept, held, words, places, boxes, bytes, out,
     );
-    clear(starts, keys, spare, kept, held, words, places, boxes, bytes);
+    clear(Lists {
+        starts,
+        keys,
+        spare,
+        kept,
+        held,
+        words,
+        places,
+        boxes,
+        bytes,
+    });
     settle(built, out)
 }

@@ -5,10 +5,10 @@ ghost use Rattle.writer.specs.inner.Stored.{Stored};
 ghost use Rattle.builder.specs.{Entries.{table_from, entry_of_word}, File.{head_from, assembled}, Yards.{cut_by, yards_from}};
 ghost use Rattle.build.specs.Entries.Corners.{InOrder};
 ghost use Rattle.numbers.specs.Lists.{zeros};
-ghost use Rattle.build.specs.{inner.{Puts.{section_from, SectionIn, Headed}, Whole.{lent_for, Filling, file_for, Drew}}, Room.{work_of}};
+ghost use Rattle.build.specs.{inner.{Puts.{section_from, SectionIn, Headed}, Whole.{lent_in, Filling, file_for, Drew}}, Room.{work_of}};
 
-use crate::asked::Asked;
 use crate::entries::order::order_yards;
+use crate::lent::Lent;
 use crate::recording::section::{Section, lay_records};
 use crate::room::Need;
 use crate::write::write_file;
@@ -17,9 +17,7 @@ use builder::head::Form;
 // The yards in the order of the table, and the whole file.
 fn put_file(
     form: Form,
-    yards: &[u32],
-    lats: &[i32],
-    lons: &[i32],
+    plan: Lent,
     front: &[u32],
     strings: &[u8],
     boxes: &mut [i32],
@@ -33,14 +31,14 @@ fn put_file(
     bytes: &[u8],
     out: &mut [u8],
 ) -> usize
-    requires { Headed front.now strings.now × SectionIn section.records section.remote section.lengths section.bytes kept.now held.now words.now × (length keys.old ≡ length yards.now / 4) × (length keys.old ≤ 4096)
+    requires { Headed front.now strings.now × SectionIn section.records section.remote section.lengths section.bytes kept.now held.now words.now × (length keys.old ≡ length plan.yards.now / 4) × (length keys.old ≤ 4096)
         × (4 * length keys.old ≤ length boxes.old) × (length keys.old ≤ length spare.old) × (length bytes.now ≤ 2 ^ 30) }
-    ensures { InOrder (yards_from yards.now lats.now lons.now [] []) boxes.old boxes.new keys.new spare.old spare.new
+    ensures { InOrder (yards_from plan.entry.yards.now plan.entry.lats.now plan.entry.lons.now [] []) boxes.old boxes.new keys.new spare.old spare.new
         × Stored (zeros (length out.old)) 0 (assembled (head_from form.kind form.version form.precision form.names (cut_by front.now strings.now))
         (table_from 0 0 (map (entry_of_word boxes.new places.now) keys.new))
         (section_from section.records (take section.lengths words.now) (take section.lengths kept.now) (take section.bytes held.now)) bytes.now) out.new result }
 {
-    order_yards(yards, lats, lons, boxes, keys, spare);
+    order_yards(plan.yards, plan.lats, plan.lons, boxes, keys, spare);
     let n = section.lengths;
     let m = section.bytes;
     let records = section.records;
@@ -64,13 +62,8 @@ fn put_file(
 
 // The metadata laid out, and the file.
 pub(crate) fn fill(
-    asked: Asked,
+    plan: Lent,
     need: Need,
-    yards: &[u32],
-    lats: &[i32],
-    lons: &[i32],
-    lengths: &[u32],
-    texts: &[u8],
     starts: &mut [u32],
     keys: &mut [u64],
     spare: &mut [u64],
@@ -82,9 +75,9 @@ pub(crate) fn fill(
     bytes: &[u8],
     out: &mut [u8],
 ) -> usize
-    requires { Filling asked.names yards.now lengths.now texts.now need (work_of (length starts.old) (length keys.old) (length spare.old) (length kept.old) (length held.old) (length words.old) (length places.old) (length boxes.old)) × (length bytes.now ≤ 2 ^ 30) }
-    ensures { (pieces drawn : List ℕ) → Drew yards.now drawn places.old
-        → Stored (zeros (length out.old)) 0 (file_for (lent_for asked yards.now lats.now lons.now pieces lengths.now texts.now) drawn bytes.now) out.new result }
+    requires { Filling plan.asked.names plan.yards.now plan.lengths.now plan.texts.now need (work_of (length starts.old) (length keys.old) (length spare.old) (length kept.old) (length held.old) (length words.old) (length places.old) (length boxes.old)) × (length bytes.now ≤ 2 ^ 30) }
+    ensures { (drawn : List ℕ) → Drew plan.entry.yards.now drawn places.old
+        → Stored (zeros (length out.old)) 0 (file_for (lent_in plan.entry) drawn bytes.now) out.new result }
 {
     let count = need.count;
     let front = need.front;
@@ -92,10 +85,10 @@ pub(crate) fn fill(
     let behind = need.behind;
     let sum = need.sum;
     let section = lay_records(
-        asked.names as usize,
+        plan.asked.names as usize,
         count,
-        &lengths[front..all],
-        &texts[behind..sum],
+        &plan.lengths[front..all],
+        &plan.texts[behind..sum],
         starts,
         keys,
         spare,
@@ -105,18 +98,16 @@ pub(crate) fn fill(
         places,
     );
     let form = Form {
-        kind: asked.kind,
-        version: asked.version,
-        precision: asked.precision,
-        names: asked.names as u8,
+        kind: plan.asked.kind,
+        version: plan.asked.version,
+        precision: plan.asked.precision,
+        names: plan.asked.names as u8,
     };
     put_file(
         form,
-        yards,
-        lats,
-        lons,
-        &lengths[..front],
-        texts,
+        plan,
+        &plan.lengths[..front],
+        plan.texts,
         boxes,
         &mut keys[..count],
         spare,

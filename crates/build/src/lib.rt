@@ -7,6 +7,8 @@ pub mod draw;
 pub mod entries;
 pub mod file;
 pub mod fill;
+mod lent;
+pub mod lists;
 pub mod metadata;
 pub mod recording;
 pub mod room;

@@ -30,20 +30,14 @@ pub struct Need {
 pub fn up_to(room: usize) -> usize
     ensures { result ≡ up_to room }
 {
-    if 0x4000_0000 < room {
-        return 0x4000_0000;
-    }
-    room
+    room.min(0x4000_0000)
 }
 
 // The room of the data section: of the output and of the list for it.
 pub fn data_room(out: usize, bytes: usize) -> usize
     ensures { result ≡ up_to (min out bytes) }
 {
-    if out < bytes {
-        return up_to(out);
-    }
-    up_to(bytes)
+    up_to(out.min(bytes))
 }
 
 // The sum of some lengths.
@@ -52,10 +46,8 @@ pub fn sum_of(lengths: &[u32]) -> usize
     ensures { result ≡ sum_of lengths.now }
 {
     let mut sum = 0;
-    let mut i = 0;
-    while i < lengths.len() {
-        sum += lengths[i] as usize;
-        i += 1;
+    for length in lengths {
+        sum += *length as usize;
     }
     sum
 }

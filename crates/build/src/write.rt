@@ -11,7 +11,6 @@ use builder::head::{Form, put_head};
 use builder::put::{put_bytes, put_varint};
 use builder::records::put_records;
 use builder::table::put_table;
-use header::field::zero;
 
 fn put_sizes(out: &mut [u8], place: usize, table: u64, metadata: u64, bytes: u64) -> usize
     requires { place < 2 ^ 60 }
@@ -91,7 +90,7 @@ pub fn write_file(
     ensures { Stored (zeros (length out.old)) 0 (assembled (head_from form.kind form.version form.precision form.names (cut_by front.now strings.now))
         (table_from 0 0 (map (entry_of_word boxes.now places.now) keys.now)) (section_from records words.now lengths.now texts.now) bytes.now) out.new result }
 {
-    zero(out);
+    out.fill(0);
     let head = put_head(out, form, front, strings);
     let table = table_size(keys, boxes, places);
     let sizes = put_sizes(out, head, table as u64, size, bytes.len() as u64);

@@ -1,12 +1,9 @@
 -- Borders that are checked one after another, as they are lent. Assumes nothing.
-use Rattle.numbers.proofs.Prelude.{ℕ, suc, ◌+◌, ◌-◌, ◌*◌, ◌≤◌, ◌<◌, le-leb, leb-true, lt-leb, leb-false, tag_of, declared, leb, ℤ, length, take, drop, get_or, length-drop, drop_of_length-le}
-use Rattle.numbers.proofs.Prelude.{drop-cons}
-use Rattle.numbers.proofs.Prelude.{drop-drop, Bool, true, false, List, [], ◌∷◌, ◌≡◌, refl, sym, ap, ◌∙◌, arith}
+use Rattle.numbers.proofs.Prelude.{ℕ, suc, ◌+◌, ◌-◌, ◌*◌, ◌≤◌, ◌<◌, le-leb, leb-true, lt-leb, leb-false, leb, ℤ, length, take, drop, get_or, length-drop, drop_of_length-le}
+use Rattle.numbers.proofs.Prelude.{drop-drop, Bool, true, false, List, [], ◌∷◌, ◌++◌, ◌≡◌, refl, sym, ap, ◌∙◌, arith}
 use Rattle.numbers.specs.{Answer.{if◌then◌else◌}, Reply.{Reply, given, refused, ◌>>◌}, declared.refusal.Refusal.{Refusal}}
 use Rattle.writer.specs.Writer.{checks}
-use Rattle.builder.specs.{Borders.{passed}, File.{borders_good}, Yards.{Text, part_of, part_end, next_part, yards_from}, declared.borders.Border.{Border}}
-use Rattle.builder.specs.contracts.borders.Border as K
-use Rattle.builder.specs.declared.borders.Border.TheVariants as B
+use Rattle.builder.specs.{File.{borders_good}, Yards.{Text, part_of, part_end, next_part, yards_from}}
 
 -- ---- parts of a list
 module _ {A : Type 0} (l : List A) (at count : ℕ) where
@@ -57,14 +54,10 @@ module _ (size at count : ℕ) where
   next_cut h = sym (ap (λ (b : Bool). if b then at + count else size) (lt-leb count (size - at) h))
 
 pub parts_checked : (lats : List ℤ) (lat tall : ℕ) (lons : List ℤ) (lon wide e f : ℕ) → e ≡ part_end (length lats) lat tall → f ≡ part_end (length lons) lon wide
-    → (r : Border) → passed r ≡ checks 0 (take (e - lat) (drop lat lats)) (take (f - lon) (drop lon lons)) [] → passed r ≡ checks 0 (part_of tall (drop lat lats)) (part_of wide (drop lon lons)) []
+    → (r : Reply (Unit {0})) → r ≡ checks 0 (take (e - lat) (drop lat lats)) (take (f - lon) (drop lon lons)) [] → r ≡ checks 0 (part_of tall (drop lat lats)) (part_of wide (drop lon lons)) []
 parts_checked lats lat tall lons lon wide e f ends ends' r is =
     is ∙ (ap (λ (l : List ℤ). checks 0 l (take (f - lon) (drop lon lons)) []) (part_is lats lat tall e ends) ∙ ap (λ (l : List ℤ). checks 0 (part_of tall (drop lat lats)) l [])
     (part_is lons lon wide f ends'))
-
-pub drawn_tag : (r : Border) → tag_of (declared K.enum) r ≡ 0 → passed r ≡ given tt
-drawn_tag (B.Drawn size) t = refl
-drawn_tag (B.Refused why) t = absurd (omega (arith, t))
 
 -- ---- yards as they are lent
 -- the checks look at neither pieces nor texts
@@ -77,15 +70,14 @@ borders_alone (a ∷ b ∷ []) ys xs w w' t t' = refl
 borders_alone (a ∷ []) ys xs w w' t t' = refl
 borders_alone [] ys xs w w' t t' = refl
 
-next_word : (l : List ℕ) (j k : ℕ) → suc j ≡ k → j < length l → drop j l ≡ get_or l j 0 ∷ drop k l
-next_word l j k e h = drop-cons l j 0 h ∙ ap (λ (n : ℕ). get_or l j 0 ∷ drop n l) e
-
 -- four words are a yard
-pub four_words : (l : List ℕ) (i : ℕ) → 4 ≤ length l - i → drop i l ≡ get_or l i 0 ∷ get_or l (i + 1) 0 ∷ get_or l (i + 2) 0 ∷ get_or l (i + 3) 0 ∷ drop (i + 4) l
-four_words l i h =
-    next_word l i (i + 1) (omega arith) (omega (arith, h)) ∙ ap (λ (r : List ℕ). get_or l i 0 ∷ r) (next_word l (i + 1) (i + 2) (omega arith) (omega (arith, h))
-    ∙ ap (λ (r : List ℕ). get_or l (i + 1) 0 ∷ r) (next_word l (i + 2) (i + 3) (omega arith) (omega (arith, h)) ∙ ap (λ (r : List ℕ). get_or l (i + 2) 0 ∷ r)
-    (next_word l (i + 3) (i + 4) (omega arith) (omega (arith, h)))))
+pub four_words : (yard rest : List ℕ) → length yard ≡ 4 → yard ++ rest ≡ get_or yard 0 0 ∷ get_or yard 1 0 ∷ get_or yard 2 0 ∷ get_or yard 3 0 ∷ rest
+four_words [] rest h = absurd (omega (arith, h))
+four_words (a ∷ []) rest h = absurd (omega (arith, h))
+four_words (a ∷ b ∷ []) rest h = absurd (omega (arith, h))
+four_words (a ∷ b ∷ p ∷ []) rest h = absurd (omega (arith, h))
+four_words (a ∷ b ∷ p ∷ v ∷ []) rest h = refl
+four_words (a ∷ b ∷ p ∷ v ∷ e ∷ more) rest h = let many : suc (suc (suc (suc (suc (length more))))) ≡ 4 = h in absurd (omega (arith, many))
 
 -- fewer are none
 none_left : (ns : List ℕ) (ys xs : List ℤ) → length ns < 4 → borders_good (yards_from ns ys xs [] []) ≡ given tt
@@ -100,45 +92,45 @@ none_left [] ys xs h = refl
 abbrev good_from : List ℕ → List ℤ → List ℤ → Reply (Unit {0})
 good_from ns ys xs = borders_good (yards_from ns ys xs [] [])
 
-pub record Checking (yards : List ℕ) (lats lons : List ℤ) (lat lon i : ℕ) : Type 0 where
-  pub index : i ≤ length yards
+-- what is left of the words, cut by so many
+pub record Checking (yards : List ℕ) (lats lons : List ℤ) (left : List ℕ) (size lat lon : ℕ) : Type 0 where
+  pub four : size ≡ 4
   pub tall : lat ≤ length lats
   pub wide : lon ≤ length lons
-  pub same : good_from (drop i yards) (drop lat lats) (drop lon lons) ≡ good_from yards lats lons
+  pub same : good_from left (drop lat lats) (drop lon lons) ≡ good_from yards lats lons
 
-pub check_starts : (yards : List ℕ) (lats lons : List ℤ) → Checking yards lats lons 0 0 0
-check_starts yards lats lons = record { index = omega arith; tall = omega arith; wide = omega arith; same = refl }
+pub check_starts : (yards : List ℕ) (lats lons : List ℤ) (left : List ℕ) (size : ℕ) → left ≡ yards → size ≡ 4 → Checking yards lats lons left size 0 0
+check_starts yards lats lons left size e f = record { four = f; tall = omega arith; wide = omega arith; same = ap (λ (ns : List ℕ). good_from ns lats lons) e }
 
-module _ (yards : List ℕ) (lats lons : List ℤ) (lat lon i : ℕ) (c : Checking yards lats lons lat lon i) where
-  module _ (more : 4 ≤ length yards - i) where
+module _ (yards : List ℕ) (lats lons : List ℤ) (left : List ℕ) (size lat lon : ℕ) (c : Checking yards lats lons left size lat lon) where
+  module _ (yard rest : List ℕ) (cut : left ≡ yard ++ rest) (long : length yard ≡ size) where
     abbrev here : Reply (Unit {0})
-    here = checks 0 (part_of (get_or yards i 0) (drop lat lats)) (part_of (get_or yards (i + 1) 0) (drop lon lons)) []
+    here = checks 0 (part_of (get_or yard 0 0) (drop lat lats)) (part_of (get_or yard 1 0) (drop lon lons)) []
 
     abbrev later : Reply (Unit {0})
-    later = good_from (drop (i + 4) yards) (drop (get_or yards i 0) (drop lat lats)) (drop (get_or yards (i + 1) 0) (drop lon lons))
+    later = good_from rest (drop (get_or yard 0 0) (drop lat lats)) (drop (get_or yard 1 0) (drop lon lons))
 
-    step : good_from (drop i yards) (drop lat lats) (drop lon lons) ≡ (here >> later)
+    step : good_from left (drop lat lats) (drop lon lons) ≡ (here >> later)
     unfolding yards_from borders_good
     step =
-        ap (λ (ns : List ℕ). good_from ns (drop lat lats) (drop lon lons)) (four_words yards i more) ∙ ap (λ (k : Reply (Unit {0})). here >> k) (borders_alone
-        (drop (i + 4) yards) (drop (get_or yards i 0) (drop lat lats)) (drop (get_or yards (i + 1) 0) (drop lon lons)) (drop (5 * get_or yards (i + 2) 0) []) [] (drop (get_or yards (i + 3) 0) []) [])
+        ap (λ (ns : List ℕ). good_from ns (drop lat lats) (drop lon lons)) (cut ∙ four_words yard rest (long ∙ c.four)) ∙ ap (λ (k : Reply (Unit {0})). here >> k) (borders_alone
+        rest (drop (get_or yard 0 0) (drop lat lats)) (drop (get_or yard 1 0) (drop lon lons)) (drop (5 * get_or yard 2 0) []) [] (drop (get_or yard 3 0) []) [])
 
-    pub check_refused : (r : Border) → passed r ≡ here → (why : Refusal) → r ≡ B.Refused why → passed (B.Refused why) ≡ good_from yards lats lons
-    check_refused r is why e = let no : here ≡ refused why = sym is ∙ ap passed e in sym (step ∙ ap (λ (k : Reply (Unit {0})). k >> later) no) ∙ c.same
+    pub check_refused : (r : Reply (Unit {0})) → r ≡ here → (why : Refusal) → r ≡ refused why → refused why ≡ good_from yards lats lons
+    check_refused r is why e = let no : here ≡ refused why = sym is ∙ e in sym (step ∙ ap (λ (k : Reply (Unit {0})). k >> later) no) ∙ c.same
 
-    pub check_goes : (r : Border) → passed r ≡ here → passed r ≡ given tt → (lat' lon' : ℕ) → lat' ≡ next_part (length lats) lat (get_or yards i 0)
-        → lon' ≡ next_part (length lons) lon (get_or yards (i + 1) 0) → Checking yards lats lons lat' lon' (i + 4)
-    check_goes r is e lat' lon' tall' wide' = let good : here ≡ given tt = sym is ∙ e in
-        let rest : later ≡ good_from yards lats lons = sym (step ∙ ap (λ (k : Reply (Unit {0})). k >> later) good) ∙ c.same in
-        let ys : drop lat' lats ≡ drop (get_or yards i 0) (drop lat lats) = next_is lats lat (get_or yards i 0) lat' tall' in
-        let xs : drop lon' lons ≡ drop (get_or yards (i + 1) 0) (drop lon lons) = next_is lons lon (get_or yards (i + 1) 0) lon' wide' in record {
-          index = omega (arith, more);
-          tall = begins_inside (length lats) lat (get_or yards i 0) c.tall lat' tall';
-          wide = begins_inside (length lons) lon (get_or yards (i + 1) 0) c.wide lon' wide';
-          same = ap (λ (l : List ℤ). good_from (drop (i + 4) yards) l (drop lon' lons)) ys
-              ∙ (ap (λ (l : List ℤ). good_from (drop (i + 4) yards) (drop (get_or yards i 0) (drop lat lats)) l) xs ∙ rest);
+    pub check_goes : (r : Reply (Unit {0})) → r ≡ here → r ≡ given tt → (lat' lon' : ℕ) → lat' ≡ next_part (length lats) lat (get_or yard 0 0)
+        → lon' ≡ next_part (length lons) lon (get_or yard 1 0) → (size' : ℕ) → size' ≡ size → Checking yards lats lons rest size' lat' lon'
+    check_goes r is e lat' lon' tall' wide' size' kept = let good : here ≡ given tt = sym is ∙ e in
+        let onward : later ≡ good_from yards lats lons = sym (step ∙ ap (λ (k : Reply (Unit {0})). k >> later) good) ∙ c.same in
+        let ys : drop lat' lats ≡ drop (get_or yard 0 0) (drop lat lats) = next_is lats lat (get_or yard 0 0) lat' tall' in
+        let xs : drop lon' lons ≡ drop (get_or yard 1 0) (drop lon lons) = next_is lons lon (get_or yard 1 0) lon' wide' in record {
+          four = kept ∙ c.four;
+          tall = begins_inside (length lats) lat (get_or yard 0 0) c.tall lat' tall';
+          wide = begins_inside (length lons) lon (get_or yard 1 0) c.wide lon' wide';
+          same = ap (λ (l : List ℤ). good_from rest l (drop lon' lons)) ys
+              ∙ (ap (λ (l : List ℤ). good_from rest (drop (get_or yard 0 0) (drop lat lats)) l) xs ∙ onward);
         }
 
-  pub check_ends : length yards - i < 4 → given tt ≡ good_from yards lats lons
-  check_ends few = let short : length (drop i yards) < 4 = omega (arith, length-drop i yards, few) in
-      sym (none_left (drop i yards) (drop lat lats) (drop lon lons) short) ∙ c.same
+  pub check_ends : length left < size → given tt ≡ good_from yards lats lons
+  check_ends few = sym (none_left left (drop lat lats) (drop lon lons) (omega (arith, few, c.four))) ∙ c.same

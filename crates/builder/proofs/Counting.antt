@@ -1,6 +1,6 @@
 -- The counts and the texts of a plan as it is lent. Assumes nothing.
-use Rattle.numbers.proofs.Prelude.{ℕ, zero, suc, ◌+◌, ◌-◌, ◌*◌, ◌/◌, ◌≤◌, ◌<◌, min, eq-eqb, ne_eqb, lt-ltb, le-leb, le-ltb, leb-true, lt-leb, eqb-true, eqb, ltb, leb, ℤ, length, take, drop, get_or}
-use Rattle.numbers.proofs.Prelude.{length-drop, length-take, drop-cons, take-add, Bool, true, false, ◌&&◌, List, [], ◌∷◌, ◌++◌, ◌≡◌, refl, sym, ap, ◌∙◌, mul-suc, mul-le-mul_right, arith}
+use Rattle.numbers.proofs.Prelude.{ℕ, zero, suc, ◌+◌, ◌*◌, ◌/◌, ◌≤◌, ◌<◌, min, eq-eqb, ne_eqb, lt-ltb, le-leb, le-ltb, leb-true, lt-leb, eqb-true, eqb, ltb, leb, ℤ, length, take, drop, get_or}
+use Rattle.numbers.proofs.Prelude.{length-take, drop-cons, take-add, Bool, true, false, ◌&&◌, List, [], ◌∷◌, ◌++◌, ◌≡◌, refl, sym, ap, ◌∙◌, mul-suc, mul-le-mul_right, arith}
 use Rattle.numbers.proofs.Tests.{both}
 use Rattle.writer.specs.Writer.{every}
 use Rattle.builder.proofs.Checking.{four_words}
@@ -8,12 +8,13 @@ use Rattle.builder.specs.{File.{is_text, are_texts, counted, readable}, Yards.{T
 use mathlib.Core.Bool.{and-false, and_assoc}
 
 -- ---- a value for each name
-pub record Numbering (names : ℕ) (yards : List ℕ) (i : ℕ) : Type 0 where
-  pub index : i ≤ length yards
-  pub same : every (eqb names) (values_from (drop i yards)) ≡ every (eqb names) (values_from yards)
+-- what is left of the words, cut by so many
+pub record Numbering (names : ℕ) (yards left : List ℕ) (size : ℕ) : Type 0 where
+  pub four : size ≡ 4
+  pub same : every (eqb names) (values_from left) ≡ every (eqb names) (values_from yards)
 
-pub numbers_start : (names : ℕ) (yards : List ℕ) → Numbering names yards 0
-numbers_start names yards = record { index = omega arith; same = refl }
+pub numbers_start : (names : ℕ) (yards left : List ℕ) (size : ℕ) → left ≡ yards → size ≡ 4 → Numbering names yards left size
+numbers_start names yards left size e f = record { four = f; same = ap (λ (ns : List ℕ). every (eqb names) (values_from ns)) e }
 
 none_valued : (names : ℕ) (ns : List ℕ) → length ns < 4 → every (eqb names) (values_from ns) ≡ true
 unfolding values_from every
@@ -23,24 +24,24 @@ none_valued names (a ∷ b ∷ []) h = refl
 none_valued names (a ∷ []) h = refl
 none_valued names [] h = refl
 
-module _ (names : ℕ) (yards : List ℕ) (i : ℕ) (n : Numbering names yards i) where
-  module _ (more : 4 ≤ length yards - i) where
-    value_step : every (eqb names) (values_from (drop i yards)) ≡ (eqb names (get_or yards (i + 3) 0) && every (eqb names) (values_from (drop (i + 4) yards)))
+module _ (names : ℕ) (yards left : List ℕ) (size : ℕ) (n : Numbering names yards left size) where
+  module _ (yard rest : List ℕ) (cut : left ≡ yard ++ rest) (long : length yard ≡ size) where
+    value_step : every (eqb names) (values_from left) ≡ (eqb names (get_or yard 3 0) && every (eqb names) (values_from rest))
     unfolding values_from every
-    value_step = ap (λ (ns : List ℕ). every (eqb names) (values_from ns)) (four_words yards i more)
+    value_step = ap (λ (ns : List ℕ). every (eqb names) (values_from ns)) (cut ∙ four_words yard rest (long ∙ n.four))
 
-    pub number_bad : (names ≡ get_or yards (i + 3) 0 → ⊥) → false ≡ every (eqb names) (values_from yards)
-    number_bad other = let no : eqb names (get_or yards (i + 3) 0) ≡ false = ne_eqb names (get_or yards (i + 3) 0) other in
-        let bad : every (eqb names) (values_from (drop i yards)) ≡ false = value_step ∙ ap (λ (b : Bool). b && every (eqb names) (values_from (drop (i + 4) yards))) no in
+    pub number_bad : (names ≡ get_or yard 3 0 → ⊥) → false ≡ every (eqb names) (values_from yards)
+    number_bad other = let no : eqb names (get_or yard 3 0) ≡ false = ne_eqb names (get_or yard 3 0) other in
+        let bad : every (eqb names) (values_from left) ≡ false = value_step ∙ ap (λ (b : Bool). b && every (eqb names) (values_from rest)) no in
         sym bad ∙ n.same
 
-    pub number_good : names ≡ get_or yards (i + 3) 0 → Numbering names yards (i + 4)
-    number_good e = let is : eqb names (get_or yards (i + 3) 0) ≡ true = eq-eqb names (get_or yards (i + 3) 0) e in
-        let on : every (eqb names) (values_from (drop i yards)) ≡ every (eqb names) (values_from (drop (i + 4) yards)) = value_step
-        ∙ ap (λ (b : Bool). b && every (eqb names) (values_from (drop (i + 4) yards))) is in record { index = omega (arith, more); same = sym on ∙ n.same }
+    pub number_good : names ≡ get_or yard 3 0 → (size' : ℕ) → size' ≡ size → Numbering names yards rest size'
+    number_good e size' kept = let is : eqb names (get_or yard 3 0) ≡ true = eq-eqb names (get_or yard 3 0) e in
+        let on : every (eqb names) (values_from left) ≡ every (eqb names) (values_from rest) = value_step
+        ∙ ap (λ (b : Bool). b && every (eqb names) (values_from rest)) is in record { four = kept ∙ n.four; same = sym on ∙ n.same }
 
-  pub numbers_end : length yards - i < 4 → true ≡ every (eqb names) (values_from yards)
-  numbers_end few = let short : length (drop i yards) < 4 = omega (arith, length-drop i yards, few) in sym (none_valued names (drop i yards) short) ∙ n.same
+  pub numbers_end : length left < size → true ≡ every (eqb names) (values_from yards)
+  numbers_end few = sym (none_valued names left (omega (arith, few, n.four))) ∙ n.same
 
 -- ---- 25
 at_most : (product count : ℕ) → product ≤ 255 * count → count ≤ 4096 → product ≤ 1044480

@@ -3,10 +3,9 @@ use Rattle.numbers.proofs.Prelude.{ℕ, ◌+◌, ◌-◌, ◌≤◌, ◌<◌, eq
 use Rattle.numbers.{proofs.{Prelude.{◌∷◌, ◌++◌, flat_map, ◌≡◌, refl, sym, ap, subst, ◌∙◌, arith}, Refusals.{Listed}, Replies.{NumberedReply, refuses}}, specs.Answer.{if◌then◌else◌}}
 use Rattle.numbers.specs.{Lists.{zeros, padded}, Reply.{Reply, given, refused, refusal, plain, ◌>>◌}, Spelling.{varint_of}}
 use Rattle.writer.{proofs.NumberedWriter.{border_numbers, checks_numbered, border_numbered}, specs.{Moves.{plain_move_bytes, moves_of}, Pieces.{first_pieces, pieces_of}}}
-use Rattle.writer.specs.{Writer.{checks, plain_border, border_of, Replied, replied, fitted}, declared.write.{Piece.{Piece}, Written.{Written}}}
-use Rattle.builder.specs.{Borders.{appended, unwritten_as, Draws, Lends, good_if, passed}, declared.borders.Border.{Border}}
-use Rattle.writer.specs.declared.write.Written.TheVariants as W
-use Rattle.builder.specs.declared.borders.Border.TheVariants as B
+use Rattle.writer.specs.{Writer.{checks, plain_border, border_of, Replied, replied, fitted}, declared.write.Piece.{Piece}}
+use Rattle.numbers.specs.declared.refusal.Refusal.{Refusal}
+use Rattle.builder.specs.Borders.{appended, unwritten_as, Draws, Lends, good_if}
 
 -- ---- a border is never refused with 24: that is the output's
 abbrev Known : {A : Type 0} → Reply A → Type 0
@@ -26,10 +25,10 @@ pub record Got (n : ℕ) (border : Reply (List ℕ)) (size : ℕ) (out : List �
   pub fit : length bytes ≤ n
   pub front : out ≡ padded n bytes
 
-pub got : (n : ℕ) (border : Reply (List ℕ)) (size : ℕ) (out : List ℕ) → replied (W.Wrote size) out ≡ fitted n border → Got n border size out
+pub got : (n : ℕ) (border : Reply (List ℕ)) (size : ℕ) (out : List ℕ) → replied (given size) out ≡ fitted n border → Got n border size out
 unfolding fitted
 got n (given bytes) size out e = go (leb (length bytes) n) refl e where
-  go : (t : Bool) → leb (length bytes) n ≡ t → replied (W.Wrote size) out ≡ (if t then record { reply = given (length bytes); out = padded n bytes } else
+  go : (t : Bool) → leb (length bytes) n ≡ t → replied (given size) out ≡ (if t then record { reply = given (length bytes); out = padded n bytes } else
       record { reply = refused (plain 24); out = zeros n }) → Got n (given bytes) size out
   go true t e = let r : given size ≡ given (length bytes) = ap (λ (x : Replied). x.reply) e in
       record { bytes = bytes; is = refl; size_is = cc; fit = leb-true (length bytes) n t; front = ap (λ (x : Replied). x.out) e }
@@ -40,17 +39,17 @@ got n (refused why) size out e = let r : ◌≡◌ {A = Reply ℕ} (given size) 
 
 -- ---- the ways out
 module _ (n room : ℕ) (sofar out : List ℕ) (cut : Bool) (pieces : ℕ) (border : Reply (List ℕ)) (size : ℕ) (g : Got n border size out) where
-  pub cut_off : cut ≡ true → (r : Border) → r ≡ B.Refused (refusal 23 0 pieces) → Draws (appended room sofar cut pieces border) sofar out r
+  pub cut_off : cut ≡ true → (r : Reply ℕ) → r ≡ refused (refusal 23 0 pieces) → Draws (appended room sofar cut pieces border) sofar out r
   unfolding Draws appended
   cut_off c r e = rw (e, g.is, c) refl
 
-  pub too_long : cut ≡ false → room < length sofar + size → (r : Border) → r ≡ B.Refused (plain 28) → Draws (appended room sofar cut pieces border) sofar out r
+  pub too_long : cut ≡ false → room < length sofar + size → (r : Reply ℕ) → r ≡ refused (plain 28) → Draws (appended room sofar cut pieces border) sofar out r
   unfolding Draws appended
   too_long c h r e =
       let l : leb (length (sofar ++ g.bytes)) room ≡ false = lt-leb (length (sofar ++ g.bytes)) room (omega (arith, length-append sofar g.bytes, g.size_is)) in
       rw (e, g.is, c, l) refl
 
-  pub draws : cut ≡ false → length sofar + size ≤ room → Draws (appended room sofar cut pieces border) sofar out (B.Drawn size)
+  pub draws : cut ≡ false → length sofar + size ≤ room → Draws (appended room sofar cut pieces border) sofar out (given size)
   unfolding Draws appended
   draws c h =
       let l : leb (length (sofar ++ g.bytes)) room ≡ true = le-leb (length (sofar ++ g.bytes)) room (omega (arith, length-append sofar g.bytes, g.size_is)) in
@@ -58,57 +57,57 @@ module _ (n room : ℕ) (sofar out : List ℕ) (cut : Bool) (pieces : ℕ) (bord
       let long : length out ≡ length g.bytes + length (zeros (n - length g.bytes)) = ap length g.front ∙ length-append g.bytes (zeros (n - length g.bytes)) in
       (rw (g.is, c, l) (ap (λ (bs : List ℕ). given (sofar ++ bs)) (sym t)), omega (arith, g.size_is, long))
 
-pub turned_away : (n room : ℕ) (sofar out : List ℕ) (cut : Bool) (pieces : ℕ) (border : Reply (List ℕ)) (number detail : ℕ) → Known border → Lends room sofar border n
-    → replied (W.Refused number detail) out ≡ fitted n border → (r : Border) → r ≡ unwritten_as number detail cut pieces → Draws (appended room sofar cut pieces border) sofar out r
+pub turned_away : (n room : ℕ) (sofar out : List ℕ) (cut : Bool) (pieces : ℕ) (border : Reply (List ℕ)) (why : Refusal) → Known border → Lends room sofar border n
+    → replied (refused why) out ≡ fitted n border → (r : Reply ℕ) → r ≡ refused (unwritten_as why cut pieces) → Draws (appended room sofar cut pieces border) sofar out r
 unfolding fitted Draws appended
-turned_away n room sofar out cut pieces (refused why) number detail (refuses listed) h e r er =
-    let w : ◌≡◌ {A = Reply ℕ} (refused (refusal number 0 detail)) (refused why) = ap (λ (x : Replied). x.reply) e in
-    let same : why ≡ refusal number 0 detail = cc in let ne : eqb number 24 ≡ false = ne_eqb number 24 (not_listed number (rw same at listed)) in
+turned_away n room sofar out cut pieces (refused said) why (refuses listed) h e r er =
+    let w : ◌≡◌ {A = Reply ℕ} (refused why) (refused said) = ap (λ (x : Replied). x.reply) e in
+    let same : said ≡ why = cc in let ne : eqb why.number 24 ≡ false = ne_eqb why.number 24 (not_listed why.number (rw same at listed)) in
     rw (er, ne) (ap (λ y. refused y) same)
-turned_away n room sofar out cut pieces (given bytes) number detail k h e r er = go (leb (length bytes) n) refl e where
-  away : n < length bytes → number ≡ 24 → (c : Bool) → r ≡ unwritten_as number detail c pieces → Draws (appended room sofar c pieces (given bytes)) sofar out r
-  away long is true er = rw (er, eq-eqb number 24 is) refl
+turned_away n room sofar out cut pieces (given bytes) why k h e r er = go (leb (length bytes) n) refl e where
+  away : n < length bytes → why.number ≡ 24 → (c : Bool) → r ≡ refused (unwritten_as why c pieces) → Draws (appended room sofar c pieces (given bytes)) sofar out r
+  away long is true er = rw (er, eq-eqb why.number 24 is) refl
   away long is false er = let l : leb (length (sofar ++ bytes)) room ≡ false = lt-leb (length (sofar ++ bytes)) room (h bytes refl long) in
-      rw (er, eq-eqb number 24 is, l) refl
+      rw (er, eq-eqb why.number 24 is, l) refl
 
-  go : (t : Bool) → leb (length bytes) n ≡ t → replied (W.Refused number detail) out ≡ (if t then record { reply = given (length bytes); out = padded n bytes }
+  go : (t : Bool) → leb (length bytes) n ≡ t → replied (refused why) out ≡ (if t then record { reply = given (length bytes); out = padded n bytes }
       else record { reply = refused (plain 24); out = zeros n }) → Draws (appended room sofar cut pieces (given bytes)) sofar out r
-  go true t e = let w : ◌≡◌ {A = Reply ℕ} (refused (refusal number 0 detail)) (given (length bytes)) = ap (λ (x : Replied). x.reply) e in
+  go true t e = let w : ◌≡◌ {A = Reply ℕ} (refused why) (given (length bytes)) = ap (λ (x : Replied). x.reply) e in
       let z : ◌≡◌ {A = ℕ} 0 1 = cc in absurd (omega arith)
-  go false t e = let w : ◌≡◌ {A = Reply ℕ} (refused (refusal number 0 detail)) (refused (plain 24)) = ap (λ (x : Replied). x.reply) e in
-      let same : refusal number 0 detail ≡ plain 24 = cc in away (leb-false (length bytes) n t) (ap (λ y. y.number) same) cut er
+  go false t e = let w : ◌≡◌ {A = Reply ℕ} (refused why) (refused (plain 24)) = ap (λ (x : Replied). x.reply) e in
+      let same : why ≡ plain 24 = cc in away (leb-false (length bytes) n t) (ap (λ y. y.number) same) cut er
 
 -- ---- by the writer's reply
-module _ (n : ℕ) (border : Reply (List ℕ)) (out : List ℕ) (w : Written) (e : replied w out ≡ fitted n border) where
-  pub got_of : (size : ℕ) → w ≡ W.Wrote size → Got n border size out
-  got_of size is = got n border size out (subst (λ (x : Written). replied x out ≡ fitted n border) is e)
+module _ (n : ℕ) (border : Reply (List ℕ)) (out : List ℕ) (w : Reply ℕ) (e : replied w out ≡ fitted n border) where
+  pub got_of : (size : ℕ) → w ≡ given size → Got n border size out
+  got_of size is = got n border size out (subst (λ (x : Reply ℕ). replied x out ≡ fitted n border) is e)
 
-  pub away_of : (room : ℕ) (sofar : List ℕ) (cut : Bool) (pieces number detail : ℕ) → w ≡ W.Refused number detail → Known border → Lends room sofar border n
-      → (r : Border) → r ≡ unwritten_as number detail cut pieces → Draws (appended room sofar cut pieces border) sofar out r
-  away_of room sofar cut pieces number detail is k h =
-      turned_away n room sofar out cut pieces border number detail k h (subst (λ (x : Written). replied x out ≡ fitted n border) is e)
+  pub away_of : (room : ℕ) (sofar : List ℕ) (cut : Bool) (pieces : ℕ) (why : Refusal) → w ≡ refused why → Known border → Lends room sofar border n
+      → (r : Reply ℕ) → r ≡ refused (unwritten_as why cut pieces) → Draws (appended room sofar cut pieces border) sofar out r
+  away_of room sofar cut pieces why is k h =
+      turned_away n room sofar out cut pieces border why k h (subst (λ (x : Reply ℕ). replied x out ≡ fitted n border) is e)
 
 -- ---- the checks of a border alone: it is written into no room, and a good one has at least a byte
 module _ (out bytes : List ℕ) (some : 0 < length bytes) where
-  never_wrote : (size : ℕ) (c : Reply (Unit {0})) → replied (W.Wrote size) out ≡ fitted 0 (c >> given bytes) → ⊥
+  never_wrote : (size : ℕ) (c : Reply (Unit {0})) → replied (given size) out ≡ fitted 0 (c >> given bytes) → ⊥
   unfolding fitted
   never_wrote size (given tt) e =
-      let f : replied (W.Wrote size) out ≡ record { reply = refused (plain 24); out = zeros 0 } = rw (lt-leb (length bytes) 0 some) at e in
+      let f : replied (given size) out ≡ record { reply = refused (plain 24); out = zeros 0 } = rw (lt-leb (length bytes) 0 some) at e in
       let r : ◌≡◌ {A = Reply ℕ} (given size) (refused (plain 24)) = ap (λ (x : Replied). x.reply) f in let z : ◌≡◌ {A = ℕ} 0 1 = cc in omega arith
   never_wrote size (refused why) e = let r : ◌≡◌ {A = Reply ℕ} (given size) (refused why) = ap (λ (x : Replied). x.reply) e in let z : ◌≡◌ {A = ℕ} 0 1 = cc in
       omega arith
 
-  refused_so : (number detail : ℕ) (c : Reply (Unit {0})) → Known c → replied (W.Refused number detail) out ≡ fitted 0 (c >> given bytes) → passed (good_if number detail) ≡ c
+  refused_so : (why : Refusal) (c : Reply (Unit {0})) → Known c → replied (refused why) out ≡ fitted 0 (c >> given bytes) → good_if why ≡ c
   unfolding fitted
-  refused_so number detail (given tt) k e =
-      let f : replied (W.Refused number detail) out ≡ record { reply = refused (plain 24); out = zeros 0 } = rw (lt-leb (length bytes) 0 some) at e in
-      let r : ◌≡◌ {A = Reply ℕ} (refused (refusal number 0 detail)) (refused (plain 24)) = ap (λ (x : Replied). x.reply) f in
-      let same : refusal number 0 detail ≡ plain 24 = cc in rw (eq-eqb number 24 (ap (λ y. y.number) same)) refl
-  refused_so number detail (refused why) (refuses listed) e =
-      let r : ◌≡◌ {A = Reply ℕ} (refused (refusal number 0 detail)) (refused why) = ap (λ (x : Replied). x.reply) e in
-      let same : why ≡ refusal number 0 detail = cc in rw (ne_eqb number 24 (not_listed number (rw same at listed))) (ap (λ y. refused y) (sym same))
+  refused_so why (given tt) k e =
+      let f : replied (refused why) out ≡ record { reply = refused (plain 24); out = zeros 0 } = rw (lt-leb (length bytes) 0 some) at e in
+      let r : ◌≡◌ {A = Reply ℕ} (refused why) (refused (plain 24)) = ap (λ (x : Replied). x.reply) f in
+      let same : why ≡ plain 24 = cc in rw (eq-eqb why.number 24 (ap (λ y. y.number) same)) refl
+  refused_so why (refused said) (refuses listed) e =
+      let r : ◌≡◌ {A = Reply ℕ} (refused why) (refused said) = ap (λ (x : Replied). x.reply) e in
+      let same : said ≡ why = cc in rw (ne_eqb why.number 24 (not_listed why.number (rw same at listed))) (ap (λ y. refused y) (sym same))
 
-module _ (lats lons : List ℤ) (out : List ℕ) (w : Written) (e : replied w out ≡ fitted 0 (border_of 0 lats lons (pieces_of []) [])) where
+module _ (lats lons : List ℤ) (out : List ℕ) (w : Reply ℕ) (e : replied w out ≡ fitted 0 (border_of 0 lats lons (pieces_of []) [])) where
   abbrev whole : List ℕ
   whole = varint_of (length (moves_of lats lons)) ++ (flat_map plain_move_bytes (moves_of lats lons) ++ (2 ∷ 2 ∷ []))
 
@@ -124,10 +123,10 @@ module _ (lats lons : List ℤ) (out : List ℕ) (w : Written) (e : replied w ou
   unfolding border_of plain_border pieces_of first_pieces
   seen = e
 
-  pub check_never : (size : ℕ) → w ≡ W.Wrote size → ⊥
-  check_never size is = never_wrote out whole two_bytes size (checks 0 lats lons []) (subst (λ (x : Written). replied x out ≡ fitted 0 (checks 0 lats lons [] >> given whole)) is seen)
+  pub check_never : (size : ℕ) → w ≡ given size → ⊥
+  check_never size is = never_wrote out whole two_bytes size (checks 0 lats lons []) (subst (λ (x : Reply ℕ). replied x out ≡ fitted 0 (checks 0 lats lons [] >> given whole)) is seen)
 
-  pub check_says : (number detail : ℕ) → w ≡ W.Refused number detail → (r : Border) → r ≡ good_if number detail → passed r ≡ checks 0 lats lons []
-  check_says number detail is r er =
-      ap passed er ∙ refused_so out whole two_bytes number detail (checks 0 lats lons []) (checks_numbered 0 lats lons [])
-      (subst (λ (x : Written). replied x out ≡ fitted 0 (checks 0 lats lons [] >> given whole)) is seen)
+  pub check_says : (why : Refusal) → w ≡ refused why → (r : Reply (Unit {0})) → r ≡ good_if why → r ≡ checks 0 lats lons []
+  check_says why is r er =
+      er ∙ refused_so out whole two_bytes why (checks 0 lats lons []) (checks_numbered 0 lats lons [])
+      (subst (λ (x : Reply ℕ). replied x out ≡ fitted 0 (checks 0 lats lons [] >> given whole)) is seen)

@@ -3,8 +3,8 @@ use Rattle.std.specs.Prelude.{◌≤◌, ◌<◌, ◌∷◌, ◌++◌, ◌≡◌
 use Rattle.numbers.specs.Prelude.{ℕ, eqb, leb, length, take, Bool, not, List, []}
 use Rattle.numbers.specs.Reply.{Reply, given, refused, refusal, plain, demand, ◌>>=◌, ◌>>◌}
 use Rattle.writer.specs.Writer.{border_of}
-use Rattle.builder.specs.{Yards.{Yard}, declared.borders.Border.{Border}}
-use Rattle.builder.specs.declared.borders.Border.TheVariants as B
+use Rattle.numbers.specs.declared.refusal.Refusal.{Refusal}
+use Rattle.builder.specs.Yards.{Yard}
 
 -- the data with one border more: 23 for pieces that are not there, then 28 for the data so far
 unfoldable pub appended : ℕ → List ℕ → Bool → ℕ → Reply (List ℕ) → Reply (List ℕ)
@@ -34,22 +34,18 @@ drawn_of version room yards = drawn_from version room (0 ∷ []) yards
 
 -- ---- what the inner functions say of each other
 -- a border that was not written: 24 is one that does not fit the output
-abbrev pub unwritten_as : ℕ → ℕ → Bool → ℕ → Border
-unwritten_as number detail cut pieces = if eqb number 24 then (if cut then B.Refused (refusal 23 0 pieces) else B.Refused (plain 28)) else B.Refused (refusal number 0 detail)
+abbrev pub unwritten_as : Refusal → Bool → ℕ → Refusal
+unwritten_as why cut pieces = if eqb why.number 24 then (if cut then refusal 23 0 pieces else plain 28) else why
 
 -- the border stands at the front of the output, or is refused
-unfoldable pub Draws : Reply (List ℕ) → List ℕ → List ℕ → Border → Type 0
-Draws reply earlier out (B.Drawn size) = (reply ≡ given (earlier ++ take size out)) × (size ≤ length out)
-Draws reply earlier out (B.Refused why) = reply ≡ refused why
+unfoldable pub Draws : Reply (List ℕ) → List ℕ → List ℕ → Reply ℕ → Type 0
+Draws reply earlier out (given size) = (reply ≡ given (earlier ++ take size out)) × (size ≤ length out)
+Draws reply earlier out (refused why) = reply ≡ refused why
 
 -- so much is lent that a border that does not fit it does not fit the room either
 abbrev pub Lends : ℕ → List ℕ → Reply (List ℕ) → ℕ → Type 0
 Lends room sofar border lent = (bytes : List ℕ) → border ≡ given bytes → lent < length bytes → room < length (sofar ++ bytes)
 
 -- the checks of a border that is written into no room: 24 is a good one
-abbrev pub good_if : ℕ → ℕ → Border
-good_if number detail = if eqb number 24 then B.Drawn 0 else B.Refused (refusal number 0 detail)
-
-abbrev pub passed : Border → Reply (Unit {0})
-passed (B.Drawn size) = given tt
-passed (B.Refused why) = refused why
+abbrev pub good_if : Refusal → Reply (Unit {0})
+good_if why = if eqb why.number 24 then given tt else refused why

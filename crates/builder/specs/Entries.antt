@@ -17,13 +17,15 @@ best_by best z [] = z
 best_by best z (x ∷ xs) = best_by best (best z x) xs
 
 -- of a list; none is empty, since a border has points
-unfoldable pub lowest_of : List ℤ → ℤ
-lowest_of [] = pos 0
-lowest_of (z ∷ zs) = best_by lesser z zs
+unfoldable pub farthest_of : (ℤ → ℤ → ℤ) → List ℤ → ℤ
+farthest_of best [] = pos 0
+farthest_of best (z ∷ zs) = best_by best z zs
 
-unfoldable pub highest_of : List ℤ → ℤ
-highest_of [] = pos 0
-highest_of (z ∷ zs) = best_by greater z zs
+abbrev pub lowest_of : List ℤ → ℤ
+lowest_of = farthest_of lesser
+
+abbrev pub highest_of : List ℤ → ℤ
+highest_of = farthest_of greater
 
 abbrev pub box_of : List ℤ → List ℤ → Bounds
 box_of lats lons = record { south = lowest_of lats; west = lowest_of lons; north = highest_of lats; east = highest_of lons }

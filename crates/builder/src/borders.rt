@@ -2,64 +2,50 @@
 ghost use mathlib.Core.{Path.{◌≡◌}, List.{[]}};
 ghost use Rattle.std.specs.Prelude.{◌/◌, length};
 ghost use Rattle.writer.specs.{Pieces.{pieces_of}, Writer.{checks, border_of}};
-ghost use Rattle.builder.specs.Borders.{appended, unwritten_as, Draws, Lends, good_if, passed};
+ghost use Rattle.builder.specs.Borders.{appended, unwritten_as, Draws, Lends, good_if};
 
-use numbers::refusal::{BAD_PIECES, NO_ROOM, Refusal, refuse};
-use writer::write::{Written, write_border_words};
-
-// The data or the file does not fit the output, or 1 GiB.
-pub const OUTPUT_FULL: u8 = 28;
-
-#[derive(Clone, Copy)]
-pub enum Border {
-    // How many bytes.
-    Drawn(usize),
-    Refused(Refusal),
-}
-
-fn refused(number: u8, detail: u64) -> Border
-    ensures { result ≡ Border.Refused (record { number = number; cause = 0; detail = detail }) }
-{
-    Border::Refused(refuse(number, 0, detail))
-}
+use numbers::fault::Fault;
+use numbers::refusal::Refusal;
+use writer::write::write_border_words;
 
 // Why a border was not written: one that does not fit the output is too long for the data too, once its pieces are all there.
-fn unwritten(number: u8, detail: u64, cut: bool, count: u64) -> Border
-    ensures { result ≡ unwritten_as number detail cut count }
+fn unwritten(why: Refusal, cut: bool, count: u64) -> Refusal
+    ensures { result ≡ unwritten_as why cut count }
 {
-    if number != NO_ROOM {
-        return refused(number, detail);
+    if why.number != Fault::OutputFull.number() {
+        return why;
     }
     if cut {
-        return refused(BAD_PIECES, count);
+        return Fault::BadPieces.with(count);
     }
-    refused(OUTPUT_FULL, 0)
+    Fault::FileFull.alone()
 }
 
-fn good_if(number: u8, detail: u64) -> Border
-    ensures { result ≡ good_if number detail }
+// Only the room was missing, or the border is refused.
+fn good_if(why: Refusal) -> Result<(), Refusal>
+    ensures { result ≡ good_if why }
 {
-    if number == NO_ROOM {
-        return Border::Drawn(0);
+    if why.number == Fault::OutputFull.number() {
+        return Ok(());
     }
-    refused(number, detail)
+    Err(why)
 }
 
 // 19 to 22 of a yard's border, which is written into no room: a good one has no other fault.
-pub fn check_border(lats: &[i32], lons: &[i32]) -> Border
-    ensures { passed result ≡ checks 0 lats.now lons.now [] }
+pub fn check_border(lats: &[i32], lons: &[i32]) -> Result<(), Refusal>
+    ensures { result ≡ checks 0 lats.now lons.now [] }
 {
     let pieces = [0u32; 0];
     let earlier = [0u8; 0];
     let mut nothing = [0u8; 0];
-    let written = write_border_words(0, lats, lons, &pieces, &earlier, &mut nothing);
-    match written {
-        Written::Wrote(size) => Border::Drawn(size),
-        Written::Refused { number, detail } => good_if(number, detail),
+    match write_border_words(0, lats, lons, &pieces, &earlier, &mut nothing) {
+        Ok(_) => Ok(()),
+        Err(why) => good_if(why),
     }
 }
 
-// A yard's border behind the earlier data, written to the front of the output: 23, also where its list of pieces is cut, then 28 where the data with it has no room.
+// A yard's border behind the earlier data, written to the front of the output, and how many bytes it has: 23, also where its list of pieces is cut,
+// then 28 where the data with it has no room.
 pub fn draw_border(
     version: u8,
     lats: &[i32],
@@ -69,24 +55,23 @@ pub fn draw_border(
     earlier: &[u8],
     room: usize,
     out: &mut [u8],
-) -> Border
+) -> Result<usize, Refusal>
     requires { Lends room earlier.now (border_of version lats.now lons.now (pieces_of pieces.now) earlier.now) (length out.old) }
     ensures { Draws (appended room earlier.now cut (length pieces.now / 5) (border_of version lats.now lons.now (pieces_of pieces.now) earlier.now)) earlier.now out.new result }
 {
     let count = (pieces.len() / 5) as u64;
-    let written = write_border_words(version, lats, lons, pieces, earlier, out);
-    let size = match written {
-        Written::Wrote(size) => size,
-        Written::Refused { number, detail } => return unwritten(number, detail, cut, count),
+    let size = match write_border_words(version, lats, lons, pieces, earlier, out) {
+        Ok(size) => size,
+        Err(why) => return Err(unwritten(why, cut, count)),
     };
     if cut {
-        return refused(BAD_PIECES, count);
+        return Err(Fault::BadPieces.with(count));
     }
     if room < size {
-        return refused(OUTPUT_FULL, 0);
+        return Err(Fault::FileFull.alone());
     }
     if room - size < earlier.len() {
-        return refused(OUTPUT_FULL, 0);
+        return Err(Fault::FileFull.alone());
     }
-    Border::Drawn(size)
+    Ok(size)
 }

@@ -8,13 +8,10 @@ ghost use Rattle.builder.specs.Yards.{values_from, counts_good, lengths_good};
 fn are_numbered(names: u32, yards: &[u32]) -> bool
     ensures { result ≡ every (eqb names) (values_from yards.now) }
 {
-    let mut i = 0;
-    while 4 <= yards.len() - i {
-        let values = yards[i + 3];
-        if names != values {
+    for yard in yards.chunks_exact(4) {
+        if names != yard[3] {
             return false;
         }
-        i += 4;
     }
     true
 }

@@ -34,10 +34,8 @@ pub fn put_bytes(out: &mut [u8], place: usize, bytes: &[u8]) -> usize
     ensures { Stored out.old place bytes.now out.new result }
 {
     let mut next = place;
-    let mut i = 0;
-    while i < bytes.len() {
-        next = put_byte(out, next, bytes[i]);
-        i += 1;
+    for byte in bytes {
+        next = put_byte(out, next, *byte);
     }
     next
 }
@@ -48,10 +46,8 @@ pub(crate) fn put_masked(out: &mut [u8], place: usize, bytes: &[u8]) -> usize
     ensures { Stored out.old place (map unmasked bytes.now) out.new result }
 {
     let mut next = place;
-    let mut i = 0;
-    while i < bytes.len() {
-        next = put_byte(out, next, bytes[i] ^ 0x80);
-        i += 1;
+    for byte in bytes {
+        next = put_byte(out, next, *byte ^ 0x80);
     }
     next
 }

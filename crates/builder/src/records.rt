@@ -30,13 +30,10 @@ pub fn put_records(
 {
     let mut next = place;
     let mut at = 0;
-    let mut i = 0;
-    while i < lengths.len() {
-        let size = lengths[i] as usize;
-        let end = at + size;
+    for (i, length) in lengths.iter().enumerate() {
+        let end = at + *length as usize;
         next = put_field(out, next, records, words[i], &texts[at..end]);
         at = end;
-        i += 1;
     }
     next
 }

@@ -11,19 +11,13 @@ use crate::entry::{Places, put_entry};
 fn number_at(list: &[i32], i: usize) -> i32
     ensures { result ≡ get_or list.now i (pos 0) }
 {
-    if i < list.len() {
-        return list[i];
-    }
-    0
+    list.get(i).copied().unwrap_or(0)
 }
 
 fn word_at(list: &[u32], i: usize) -> u32
     ensures { result ≡ get_or list.now i 0 }
 {
-    if i < list.len() {
-        return list[i];
-    }
-    0
+    list.get(i).copied().unwrap_or(0)
 }
 
 // Four numbers a yard.
@@ -67,14 +61,12 @@ pub fn put_table(
         record: 0,
         border: 0,
     };
-    let mut i = 0;
-    while i < words.len() {
-        let yard = (words[i] % 0x1_0000_0000) as usize;
+    for word in words {
+        let yard = (*word % 0x1_0000_0000) as usize;
         let bounds = bounds_at(boxes, yard);
         let here = places_at(places, yard);
         next = put_entry(out, next, bounds, last, here);
         last = here;
-        i += 1;
     }
     next
 }

@@ -25,9 +25,8 @@ pub fn are_texts(lengths: &[u32], texts: &[u8]) -> bool
     ensures { result ≡ are_texts lengths.now texts.now }
 {
     let mut at = 0;
-    let mut i = 0;
-    while i < lengths.len() {
-        let size = lengths[i] as usize;
+    for length in lengths {
+        let size = *length as usize;
         if texts.len() - at < size {
             return false;
         }
@@ -36,7 +35,6 @@ pub fn are_texts(lengths: &[u32], texts: &[u8]) -> bool
             return false;
         }
         at = end;
-        i += 1;
     }
     true
 }
@@ -48,13 +46,10 @@ pub(crate) fn put_texts(out: &mut [u8], place: usize, lengths: &[u32], texts: &[
 {
     let mut next = place;
     let mut at = 0;
-    let mut i = 0;
-    while i < lengths.len() {
-        let size = lengths[i] as usize;
-        let end = at + size;
+    for length in lengths {
+        let end = at + *length as usize;
         next = put_text(out, next, &texts[at..end]);
         at = end;
-        i += 1;
     }
     next
 }

@@ -2,9 +2,10 @@
 ghost use mathlib.Core.{Path.{◌≡◌}, List.{[]}};
 ghost use Rattle.std.specs.Prelude.{◌≤◌, length, drop};
 ghost use Rattle.writer.specs.Writer.{checks};
-ghost use Rattle.builder.specs.{Borders.{passed}, File.{borders_good}, Yards.{part_of, part_end, next_part, yards_from}};
+ghost use Rattle.builder.specs.{File.{borders_good}, Yards.{part_of, part_end, next_part, yards_from}};
 
-use crate::borders::{Border, check_border};
+use crate::borders::check_border;
+use numbers::refusal::Refusal;
 
 // Where so many items end; a part that is not all there is empty.
 pub fn part_end(size: usize, at: usize, count: usize) -> usize
@@ -36,9 +37,9 @@ fn check_part(
     lons: &[i32],
     lon: usize,
     wide: usize,
-) -> Border
+) -> Result<(), Refusal>
     requires { (lat ≤ length lats.now) × (lon ≤ length lons.now) }
-    ensures { passed result ≡ checks 0 (part_of tall (drop lat lats.now)) (part_of wide (drop lon lons.now)) [] }
+    ensures { result ≡ checks 0 (part_of tall (drop lat lats.now)) (part_of wide (drop lon lons.now)) [] }
 {
     let lat_end = part_end(lats.len(), lat, tall);
     let lon_end = part_end(lons.len(), lon, wide);
@@ -46,23 +47,17 @@ fn check_part(
 }
 
 // 19 to 22, yard by yard.
-pub fn check_yards(yards: &[u32], lats: &[i32], lons: &[i32]) -> Border
-    ensures { passed result ≡ borders_good (yards_from yards.now lats.now lons.now [] []) }
+pub fn check_yards(yards: &[u32], lats: &[i32], lons: &[i32]) -> Result<(), Refusal>
+    ensures { result ≡ borders_good (yards_from yards.now lats.now lons.now [] []) }
 {
     let mut lat = 0;
     let mut lon = 0;
-    let mut i = 0;
-    while 4 <= yards.len() - i {
-        let tall = yards[i] as usize;
-        let wide = yards[i + 1] as usize;
-        let checked = check_part(lats, lat, tall, lons, lon, wide);
-        match checked {
-            Border::Drawn(_) => (),
-            Border::Refused(why) => return Border::Refused(why),
-        }
+    for yard in yards.chunks_exact(4) {
+        let tall = yard[0] as usize;
+        let wide = yard[1] as usize;
+        check_part(lats, lat, tall, lons, lon, wide)?;
         lat = next_part(lats.len(), lat, tall);
         lon = next_part(lons.len(), lon, wide);
-        i += 4;
     }
-    Border::Drawn(0)
+    Ok(())
 }

@@ -6,14 +6,6 @@ ghost use Rattle.layout.specs.inner.{Layout.{next}, Answers.{WordSize, WordsSize
 
 use numbers::write::write_varint;
 
-#[derive(Clone, Copy)]
-pub enum Laid {
-    // The records' length.
-    Records(u64),
-    // None below 2^32 fits.
-    TooLong,
-}
-
 // The bytes of a number's shortest varint.
 pub fn size_of_varint(number: u64) -> usize
     ensures { result ≡ length (varint_of number) }
@@ -38,11 +30,9 @@ fn words_size(words: &[u32], records: u64) -> u64
     requires { records < 2 ^ 32 }
     ensures { WordsSize words.now records result }
 {
-    let mut sum: u64 = 0;
-    let mut i = 0;
-    while i < words.len() {
-        sum += word_size(words[i], records);
-        i += 1;
+    let mut sum = 0;
+    for word in words {
+        sum += word_size(*word, records);
     }
     sum
 }
@@ -55,17 +45,18 @@ fn next_length(inline: u64, words: &[u32], records: u64) -> u64
     inline + words_size(words, records)
 }
 
-// The least length that fits, by stepping: each step stays at or below every length that fits.
-pub fn least_layout(inline: u64, words: &[u32]) -> Laid
+// The least length that fits, none if that is not below 2^32. By stepping: each step stays at or below every length that fits.
+pub fn least_layout(inline: u64, words: &[u32]) -> Option<u64>
     ensures { LaidOut inline words.now result }
 {
+    // Stays a `while`: what the next step is, the last one says.
     let mut records = inline;
     while records < 0x1_0000_0000 {
         let next = next_length(inline, words, records);
         if next == records {
-            return Laid::Records(records);
+            return Some(records);
         }
         records = next;
     }
-    Laid::TooLong
+    None
 }

@@ -1,5 +1,5 @@
 -- The boxes of the yards, one after another. Assumes nothing.
-use Rattle.numbers.proofs.Prelude.{ℕ, suc, ◌+◌, ◌-◌, ◌*◌, ◌≤◌, ◌<◌, ℤ, length, take, drop, get_or, set, length-drop, length-set, sets, length-sets, List, [], ◌∷◌, ◌≡◌, refl, sym, ap, ◌∙◌, arith}
+use Rattle.numbers.proofs.Prelude.{ℕ, suc, ◌+◌, ◌-◌, ◌*◌, ◌≤◌, ◌<◌, ℤ, length, take, drop, get_or, set, length-append, length-set, sets, length-sets, List, [], ◌∷◌, ◌++◌, ◌≡◌, refl, sym, ap, ◌∙◌, arith}
 use Rattle.builder.{proofs.Checking.{four_words, next_is, begins_inside, part_is}, specs.{Entries.{box_of}, Yards.{Text, part_of, part_end, next_part, yards_from}, declared.boxes.Bounds.{Bounds}}}
 use Rattle.build.specs.Entries.Corners.{corners_of}
 
@@ -50,54 +50,67 @@ part_box lats lat tall lons lon wide e f is it r b =
 abbrev corners_from : List ℕ → List ℤ → List ℤ → List ℤ
 corners_from ns ys xs = corners_of (yards_from ns ys xs [] [])
 
--- the loop's invariant, at the words from i on
-pub record Boxing (yards : List ℕ) (lats lons before boxes : List ℤ) (lat lon i : ℕ) : Type 0 where
-  pub index : i ≤ length yards
+-- the loop's invariant: what is left of the words, cut by so many, and how many yards came
+pub record Boxing (yards : List ℕ) (lats lons before boxes : List ℤ) (lat lon : ℕ) (left : List ℕ) (by count : ℕ) : Type 0 where
+  pub four : by ≡ 4
+  pub index : 4 * count + length left ≡ length yards
   pub tall : lat ≤ length lats
   pub wide : lon ≤ length lons
   pub size_is : length boxes ≡ length before
-  pub same : sets boxes i (corners_from (drop i yards) (drop lat lats) (drop lon lons)) ≡ sets before 0 (corners_from yards lats lons)
+  pub same : sets boxes (4 * count) (corners_from left (drop lat lats) (drop lon lons)) ≡ sets before 0 (corners_from yards lats lons)
 
-pub box_starts : (yards : List ℕ) (lats lons before : List ℤ) → Boxing yards lats lons before before 0 0 0
-box_starts yards lats lons before = record { index = omega arith; tall = omega arith; wide = omega arith; size_is = refl; same = refl }
+pub box_starts : (yards : List ℕ) (lats lons before : List ℤ) (left : List ℕ) (by count : ℕ) → left ≡ yards → by ≡ 4 → count ≡ 0 → Boxing yards lats lons before before 0 0 left by count
+box_starts yards lats lons before left by count e f none = let at : 4 * count ≡ 0 = omega (arith, none) in record {
+  four = f;
+  index = omega (arith, none, ap length e);
+  tall = omega arith;
+  wide = omega arith;
+  size_is = refl;
+  same = ap (λ (n : ℕ). sets before n (corners_from left lats lons)) at ∙ ap (λ (ns : List ℕ). sets before 0 (corners_from ns lats lons)) e;
+}
 
-module _ (yards : List ℕ) (lats lons before boxes : List ℤ) (lat lon i : ℕ) (c : Boxing yards lats lons before boxes lat lon i) where
-  module _ (more : 4 ≤ length yards - i) where
-    pub box_room : length yards ≤ length before → i + 4 ≤ length boxes
-    box_room h = omega (arith, more, h, c.size_is)
+module _ (yards : List ℕ) (lats lons before boxes : List ℤ) (lat lon : ℕ) (left : List ℕ) (by count : ℕ) (c : Boxing yards lats lons before boxes lat lon left by count) where
+  module _ (yard rest : List ℕ) (cut : left ≡ yard ++ rest) (long : length yard ≡ by) where
+    size : 4 + length rest ≡ length left
+    size = omega (arith, ap length cut, length-append yard rest, long, c.four)
+
+    pub box_room : length yards ≤ length before → 4 * count + 4 ≤ length boxes
+    box_room h = omega (arith, size, c.index, h, c.size_is)
 
     abbrev here : Bounds
-    here = box_of (part_of (get_or yards i 0) (drop lat lats)) (part_of (get_or yards (i + 1) 0) (drop lon lons))
+    here = box_of (part_of (get_or yard 0 0) (drop lat lats)) (part_of (get_or yard 1 0) (drop lon lons))
 
-    step : corners_from (drop i yards) (drop lat lats) (drop lon lons) ≡ here.south ∷ here.west ∷ here.north ∷ here.east ∷ corners_from (drop (i + 4) yards)
-        (drop (get_or yards i 0) (drop lat lats)) (drop (get_or yards (i + 1) 0) (drop lon lons))
+    step : corners_from left (drop lat lats) (drop lon lons) ≡ here.south ∷ here.west ∷ here.north ∷ here.east ∷ corners_from rest
+        (drop (get_or yard 0 0) (drop lat lats)) (drop (get_or yard 1 0) (drop lon lons))
     unfolding yards_from corners_of
     step =
-        ap (λ (ns : List ℕ). corners_from ns (drop lat lats) (drop lon lons)) (four_words yards i more) ∙ ap (λ (l : List ℤ). here.south ∷ here.west
-        ∷ here.north ∷ here.east ∷ l) (corners_alone (drop (i + 4) yards) (drop (get_or yards i 0) (drop lat lats)) (drop (get_or yards (i + 1) 0) (drop lon lons))
-        (drop (5 * get_or yards (i + 2) 0) []) [] (drop (get_or yards (i + 3) 0) []) [])
+        ap (λ (ns : List ℕ). corners_from ns (drop lat lats) (drop lon lons)) (cut ∙ four_words yard rest (long ∙ c.four)) ∙ ap (λ (l : List ℤ). here.south ∷ here.west
+        ∷ here.north ∷ here.east ∷ l) (corners_alone rest (drop (get_or yard 0 0) (drop lat lats)) (drop (get_or yard 1 0) (drop lon lons))
+        (drop (5 * get_or yard 2 0) []) [] (drop (get_or yard 3 0) []) [])
 
-    pub box_goes : (bounds : Bounds) → bounds ≡ here → (boxes' : List ℤ) → boxes' ≡ sets boxes i (bounds.south ∷ bounds.west ∷ bounds.north ∷ bounds.east ∷ [])
-        → (lat' lon' : ℕ) → lat' ≡ next_part (length lats) lat (get_or yards i 0) → lon' ≡ next_part (length lons) lon (get_or yards (i + 1) 0) → Boxing yards lats lons before boxes' lat' lon' (i + 4)
-    box_goes bounds eb boxes' es lat' lon' el eo =
-        let ys : drop lat' lats ≡ drop (get_or yards i 0) (drop lat lats) = next_is lats lat (get_or yards i 0) lat' el in
-        let xs : drop lon' lons ≡ drop (get_or yards (i + 1) 0) (drop lon lons) = next_is lons lon (get_or yards (i + 1) 0) lon' eo in
-        let rest : List ℤ = corners_from (drop (i + 4) yards) (drop (get_or yards i 0) (drop lat lats)) (drop (get_or yards (i + 1) 0) (drop lon lons)) in
-        let four : i + 4 ≡ suc (suc (suc (suc i))) = omega arith in
-        let at : boxes' ≡ sets boxes i (here.south ∷ here.west ∷ here.north ∷ here.east ∷ []) = es ∙ ap (λ (b : Bounds). sets boxes i (b.south ∷ b.west ∷ b.north ∷ b.east ∷ [])) eb in
+    pub box_goes : (bounds : Bounds) → bounds ≡ here → (boxes' : List ℤ) → boxes' ≡ sets boxes (4 * count) (bounds.south ∷ bounds.west ∷ bounds.north ∷ bounds.east ∷ [])
+        → (lat' lon' : ℕ) → lat' ≡ next_part (length lats) lat (get_or yard 0 0) → lon' ≡ next_part (length lons) lon (get_or yard 1 0) → (by' count' : ℕ) → by' ≡ by → count' ≡ count + 1
+        → Boxing yards lats lons before boxes' lat' lon' rest by' count'
+    box_goes bounds eb boxes' es lat' lon' el eo by' count' kept next =
+        let ys : drop lat' lats ≡ drop (get_or yard 0 0) (drop lat lats) = next_is lats lat (get_or yard 0 0) lat' el in
+        let xs : drop lon' lons ≡ drop (get_or yard 1 0) (drop lon lons) = next_is lons lon (get_or yard 1 0) lon' eo in
+        let later : List ℤ = corners_from rest (drop (get_or yard 0 0) (drop lat lats)) (drop (get_or yard 1 0) (drop lon lons)) in
+        let four : 4 * count' ≡ suc (suc (suc (suc (4 * count)))) = omega (arith, next) in
+        let at : boxes' ≡ sets boxes (4 * count) (here.south ∷ here.west ∷ here.north ∷ here.east ∷ []) = es ∙ ap (λ (b : Bounds). sets boxes (4 * count) (b.south ∷ b.west ∷ b.north ∷ b.east ∷ [])) eb in
         record {
-          index = omega (arith, more);
-          tall = begins_inside (length lats) lat (get_or yards i 0) c.tall lat' el;
-          wide = begins_inside (length lons) lon (get_or yards (i + 1) 0) c.wide lon' eo;
-          size_is = ap length at ∙ (length-sets boxes i (here.south ∷ here.west ∷ here.north ∷ here.east ∷ []) ∙ c.size_is);
+          four = kept ∙ c.four;
+          index = omega (arith, next, size, c.index);
+          tall = begins_inside (length lats) lat (get_or yard 0 0) c.tall lat' el;
+          wide = begins_inside (length lons) lon (get_or yard 1 0) c.wide lon' eo;
+          size_is = ap length at ∙ (length-sets boxes (4 * count) (here.south ∷ here.west ∷ here.north ∷ here.east ∷ []) ∙ c.size_is);
           same =
-              ap (λ (l : List ℤ). sets boxes' (i + 4) (corners_from (drop (i + 4) yards) l (drop lon' lons))) ys
-              ∙ (ap (λ (l : List ℤ). sets boxes' (i + 4) (corners_from (drop (i + 4) yards) (drop (get_or yards i 0) (drop lat lats)) l)) xs
-              ∙ (ap (λ (b : List ℤ). sets b (i + 4) rest) at
-              ∙ (ap (λ (n : ℕ). sets (sets boxes i (here.south ∷ here.west ∷ here.north ∷ here.east ∷ [])) n rest) four
-              ∙ (sym (ap (sets boxes i) step) ∙ c.same))));
+              ap (λ (l : List ℤ). sets boxes' (4 * count') (corners_from rest l (drop lon' lons))) ys
+              ∙ (ap (λ (l : List ℤ). sets boxes' (4 * count') (corners_from rest (drop (get_or yard 0 0) (drop lat lats)) l)) xs
+              ∙ (ap (λ (b : List ℤ). sets b (4 * count') later) at
+              ∙ (ap (λ (n : ℕ). sets (sets boxes (4 * count) (here.south ∷ here.west ∷ here.north ∷ here.east ∷ [])) n later) four
+              ∙ (sym (ap (sets boxes (4 * count)) step) ∙ c.same))));
         }
 
-  pub box_ends : length yards - i < 4 → boxes ≡ sets before 0 (corners_from yards lats lons)
-  box_ends few = let short : length (drop i yards) < 4 = omega (arith, length-drop i yards, few) in
-      sym (ap (sets boxes i) (none_left (drop i yards) (drop lat lats) (drop lon lons) short)) ∙ c.same
+  pub box_ends : length left < by → boxes ≡ sets before 0 (corners_from yards lats lons)
+  box_ends few = let short : length left < 4 = omega (arith, few, c.four) in
+      sym (ap (sets boxes (4 * count)) (none_left left (drop lat lats) (drop lon lons) short)) ∙ c.same

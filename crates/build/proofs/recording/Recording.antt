@@ -1,14 +1,14 @@
 -- From the values of all yards to the layout of the metadata section. Assumes nothing.
-use Rattle.numbers.proofs.Prelude.{ℕ, ◌+◌, ◌*◌, ◌^◌, ◌≤◌, ◌<◌, tag_of, declared, length, take, drop, get_or, length-map, take-append_seam, List, ◌++◌, map, ◌≡◌, sym, ap, subst, ◌∙◌, arith}
+use Rattle.numbers.proofs.Prelude.{ℕ, ◌+◌, ◌*◌, ◌^◌, ◌≤◌, ◌<◌, length, take, drop, get_or, length-map, take-append_seam, List, ◌++◌, map, ◌≡◌, sym, ap, subst, ◌∙◌, arith}
 use lib.Seq.{length_front}
 use Rattle.writer.proofs.Stores.{stored_front, stored_length}
 use Rattle.builder.{proofs.{Counting.{cut_many}, grouping.Meant.{starts_inside}}, specs.{Grouping.{Items.{starts_from, Inside}, Keys.{numbers_from, keys_of, first_of}}, Metadata.{layout_of}}}
 use Rattle.builder.specs.{Yards.{Text, cut_by, sum_of}, inner.Drawing.Section.{spread}}
-use Rattle.layout.specs.{declared.records.Laid.{Laid, TheVariants.{Records, TooLong}}, inner.{Answers.{LaidOut}, Layout.{Least}}}
+use Rattle.std.specs.Prelude.{Option, Some, None}
+use Rattle.layout.specs.{inner.{Answers.{LaidOut}, Layout.{Least}}}
 use Rattle.build.proofs.{metadata.{Begun.{cut_join}, Itemed.{cut_lengths}}, recording.{Fewer.{fields_few, fields_short, layout_few, joined_sum}, Laying.{layout_found, layout_there}}}
 use Rattle.build.proofs.recording.Spreading.{spread_size, spread_again, spread_read, numbered_many}
 use Rattle.build.specs.{Metadata.Kept.{fields_to, joined, Keeps, begin_of, Ready}, inner.{Metadata.Words.{Marked, Wording}, Recording.Recorded.{Short, Shares, Fields, Fielded, Laying, Recorded}}}
-use Rattle.layout.specs.contracts.records.Laid as K
 
 -- ---- a list of which the front was lent
 pub front_same : (d e : List ℕ) (n whole : ℕ) → length e ≡ length (take n d) → length d ≡ whole → length (e ++ drop n d) ≡ whole
@@ -18,19 +18,19 @@ pub front_reach : (d e : List ℕ) (n k : ℕ) → length e ≡ length (take n d
 front_reach d e n k kept h = omega (arith, length_front d e n kept, h)
 
 -- ---- the least length
-pub least_found : (inline : ℕ) (words : List ℕ) (laid : Laid) → LaidOut inline words laid → (records : ℕ) → laid ≡ Records records → Least inline words records
+pub least_found : (inline : ℕ) (words : List ℕ) (laid : Option ℕ) → LaidOut inline words laid → (records : ℕ) → laid ≡ Some records → Least inline words records
 unfolding LaidOut
 least_found inline words laid l records e = (subst (LaidOut inline words) e l).0
 
-pub least_small : (inline : ℕ) (words : List ℕ) (laid : Laid) → LaidOut inline words laid → (records : ℕ) → laid ≡ Records records → records < 2 ^ 32
+pub least_small : (inline : ℕ) (words : List ℕ) (laid : Option ℕ) → LaidOut inline words laid → (records : ℕ) → laid ≡ Some records → records < 2 ^ 32
 unfolding LaidOut
 least_small inline words laid l records e = (subst (LaidOut inline words) e l).1
 
 -- one below 2 ^ 32 is found
-pub least_there : (inline : ℕ) (words : List ℕ) → Short inline words → (laid : Laid) → LaidOut inline words laid → tag_of (declared K.enum) laid ≡ 1 → (records : ℕ) → Least inline words records
+pub least_there : (inline : ℕ) (words : List ℕ) → Short inline words → (laid : Option ℕ) → LaidOut inline words laid → laid ≡ None → (records : ℕ) → Least inline words records
 unfolding LaidOut
-least_there inline words s (Records n) l t records = absurd (omega (arith, t))
-least_there inline words s TooLong l t records = absurd (omega (arith, l s.records s.is.fits, s.small))
+least_there inline words s (Some n) l t records = let z : ◌≡◌ {A = ℕ} 0 1 = cc in absurd (omega arith)
+least_there inline words s None l t records = absurd (omega (arith, l s.records s.is.fits, s.small))
 
 -- ---- the records that yards share
 pub share_inside : (names count : ℕ) (lengths texts : List ℕ) (starts spare places : ℕ) → Shares names count lengths texts starts spare places → (begins : List ℕ) →

@@ -38,15 +38,12 @@ pub(crate) fn box_yards(yards: &[u32], lats: &[i32], lons: &[i32], boxes: &mut [
 {
     let mut lat = 0;
     let mut lon = 0;
-    let mut i = 0;
-    while 4 <= yards.len() - i {
-        let next = i + 4;
-        let tall = yards[i] as usize;
-        let wide = yards[i + 1] as usize;
+    for (count, yard) in yards.chunks_exact(4).enumerate() {
+        let tall = yard[0] as usize;
+        let wide = yard[1] as usize;
         let bounds = box_part(lats, lat, tall, lons, lon, wide);
-        put_corners(boxes, i, bounds);
+        put_corners(boxes, 4 * count, bounds);
         lat = next_part(lats.len(), lat, tall);
         lon = next_part(lons.len(), lon, wide);
-        i = next;
     }
 }

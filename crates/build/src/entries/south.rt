@@ -17,10 +17,8 @@ pub fn put_yard_words(boxes: &[i32], keys: &mut [u64])
     requires { (4 * length keys.old ≤ length boxes.now) × (length keys.old ≤ 4096) }
     ensures { keys.new ≡ map (word_of_yard boxes.now) (numbers_from 0 (length keys.old)) }
 {
-    let mut yard = 0;
-    while yard < keys.len() {
+    for yard in 0..keys.len() {
         let up = from_south(boxes[4 * yard]);
         keys[yard] = up * 0x1_0000_0000 + yard as u64;
-        yard += 1;
     }
 }

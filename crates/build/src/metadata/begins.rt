@@ -33,10 +33,7 @@ pub(crate) fn place_records(
 {
     let mut begin = 0;
     let mut field = 0;
-    let mut yard = 0;
-    while yard < count {
-        let here = yard;
-        yard += 1;
+    for here in 0..count {
         let first = places[2 * here] as usize;
         if first == here {
             places[2 * here] = begin as u32;

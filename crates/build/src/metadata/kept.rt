@@ -33,10 +33,8 @@ pub fn put_words(list: &mut [u32], place: usize, words: &[u32]) -> usize
     ensures { Stored list.old place words.now list.new result }
 {
     let mut next = place;
-    let mut i = 0;
-    while i < words.len() {
-        next = put_word(list, next, words[i]);
-        i += 1;
+    for word in words {
+        next = put_word(list, next, *word);
     }
     next
 }
@@ -59,10 +57,7 @@ pub(crate) fn keep_records(
         lengths: 0,
         bytes: 0,
     };
-    let mut yard = 0;
-    while yard < keys.len() {
-        let here = yard;
-        yard += 1;
+    for here in 0..keys.len() {
         let first = first_of(starts, texts, names, keys, here);
         places[2 * here] = first as u32;
         if first == here {

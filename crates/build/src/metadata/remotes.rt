@@ -20,13 +20,10 @@ pub(crate) fn put_remotes(
 {
     let mut next = place;
     let mut at = 0;
-    let mut i = 0;
-    while i < lengths.len() {
+    for (i, length) in lengths.iter().enumerate() {
         let here = at;
-        let size = lengths[i] as usize;
-        at += size;
+        at += *length as usize;
         let word = words[i] as usize;
-        i += 1;
         if word == next - place + 1 {
             next = put_text(out, next, &texts[here..at]);
         }

@@ -85,12 +85,10 @@ pub(crate) fn mark_words(
         inline: 0,
         remote: 0,
     };
-    let mut i = 0;
-    while i < lengths.len() {
+    for (i, length) in lengths.iter().enumerate() {
         let word = word_of(lengths, texts, starts, keys, words, sums.remote, i);
         words[i] = word;
-        sums = with_field(sums, word, inlined_size(lengths[i]));
-        i += 1;
+        sums = with_field(sums, word, inlined_size(*length));
     }
     sums
 }

@@ -10,7 +10,7 @@ use crate::metadata::kept::{Sizes, keep_records};
 use crate::metadata::words::mark_words;
 use builder::grouping::items::mark_starts;
 use builder::grouping::keys::sort_keys;
-use layout::records::{Laid, least_layout};
+use layout::records::least_layout;
 
 // The bytes of the records, and of the texts behind them.
 #[derive(Clone, Copy)]
@@ -34,8 +34,8 @@ fn least_length(inline: u32, words: &[u32]) -> u32
     ensures { Least inline words.now result }
 {
     match least_layout(inline as u64, words) {
-        Laid::Records(records) => records as u32,
-        Laid::TooLong => 0,
+        Some(records) => records as u32,
+        None => 0,
     }
 }
 

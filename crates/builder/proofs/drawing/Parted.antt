@@ -1,10 +1,9 @@
 -- A yard's parts of the lent lists, and its border. Assumes nothing.
 use Rattle.numbers.proofs.Prelude.{ℕ, zero, suc, ◌+◌, ◌-◌, ◌/◌, ◌≤◌, ◌<◌, leb-false, ltb, leb, ℤ, length, take, drop, length-append, length-drop, length-take, take_all, take-append-le, Bool, true}
-use Rattle.numbers.{proofs.Prelude.{false, List, [], ◌∷◌, ◌++◌, ◌≡◌, refl, sym, ap, subst, ◌∙◌, add-one, arith}, specs.{Answer.{if◌then◌else◌}, Reply.{Reply, given}}}
+use Rattle.numbers.{proofs.Prelude.{false, List, [], ◌∷◌, ◌++◌, ◌≡◌, refl, sym, ap, subst, ◌∙◌, add-one, arith}, specs.{Answer.{if◌then◌else◌}, Reply.{Reply, given, refused}}}
 use Rattle.writer.specs.{Pieces.{piece_at, first_pieces, pieces_of}, Writer.{border_of}}
 use Rattle.builder.proofs.Checking.{part_is}
-use Rattle.builder.specs.{Borders.{appended, Draws}, Yards.{part_of, part_end, next_part}, declared.borders.Border.{Border}, inner.Drawing.Section.{yard_appended}}
-use Rattle.builder.specs.declared.borders.Border.TheVariants as B
+use Rattle.builder.specs.{Borders.{appended, Draws}, Yards.{part_of, part_end, next_part}, inner.Drawing.Section.{yard_appended}}
 
 first_many : (n : ℕ) (words : List ℕ) → length (first_pieces n words) ≡ n
 unfolding first_pieces
@@ -37,15 +36,15 @@ part_few l size at count r e = go (leb count (size - at)) e where
   go false e = let is : r ≡ at = e in omega (arith, is, length-take (r - at) l)
 
 -- what stands at the front of a part stands at the front of all
-draws_longer : (reply : Reply (List ℕ)) (earlier part rest : List ℕ) (r : Border) → Draws reply earlier part r → Draws reply earlier (part ++ rest) r
+draws_longer : (reply : Reply (List ℕ)) (earlier part rest : List ℕ) (r : Reply ℕ) → Draws reply earlier part r → Draws reply earlier (part ++ rest) r
 unfolding Draws
-draws_longer reply earlier part rest (B.Drawn size) d =
+draws_longer reply earlier part rest (given size) d =
     (d.0 ∙ ap (λ (bs : List ℕ). given (earlier ++ bs)) (sym (take-append-le size part rest d.1)), omega (arith, d.1, length-append part rest))
-draws_longer reply earlier part rest (B.Refused why) d = d
+draws_longer reply earlier part rest (refused why) d = d
 
 module _ (version room : ℕ) (earlier : List ℕ) (lats lons : List ℤ) (pieces : List ℕ) (lat tall lon wide piece words : ℕ) (deep : piece ≤ length pieces) where
   pub yard_drawn : (lat' lon' piece' : ℕ) → lat' ≡ part_end (length lats) lat tall → lon' ≡ part_end (length lons) lon wide → piece' ≡ next_part (length pieces) piece words
-      → (cut : Bool) → cut ≡ ltb (length pieces - piece) words → (part rest : List ℕ) (r : Border)
+      → (cut : Bool) → cut ≡ ltb (length pieces - piece) words → (part rest : List ℕ) (r : Reply ℕ)
       → Draws (appended room earlier cut (length (take (piece' - piece) (drop piece pieces)) / 5)
       (border_of version (take (lat' - lat) (drop lat lats)) (take (lon' - lon) (drop lon lons)) (pieces_of (take (piece' - piece) (drop piece pieces))) earlier)) earlier part r
       → Draws (yard_appended version room earlier (drop lat lats) tall (drop lon lons) wide (drop piece pieces) words) earlier (part ++ rest) r

@@ -1,12 +1,11 @@
 -- The data section, yard by yard. Assumes nothing.
-use Rattle.numbers.proofs.Prelude.{ℕ, suc, ◌+◌, ◌-◌, ◌*◌, ◌/◌, ◌^◌, ◌≤◌, ◌<◌, leb-true, ltb, leb, ℤ, length, take, drop, get_or, set, length-append, length-drop, length-set, length-take-le, take_at}
+use Rattle.numbers.proofs.Prelude.{ℕ, suc, ◌+◌, ◌*◌, ◌^◌, ◌≤◌, ◌<◌, leb-true, ltb, leb, ℤ, length, take, drop, get_or, set, length-append, length-set, length-take-le, take_at}
 use Rattle.numbers.proofs.Prelude.{length-sets, sets-eq, Bool, not, List, [], ◌∷◌, ◌++◌, append_assoc, append-nil, ◌≡◌, refl, sym, ap, subst, ◌∙◌, arith}
 use Rattle.numbers.specs.{Reply.{Reply, given, refused, refusal, plain, demand, ◌>>=◌, ◌>>◌}, declared.refusal.Refusal.{Refusal}}
 use Rattle.writer.specs.{Pieces.{pieces_of}, Writer.{border_of}, inner.Stored.{Stored}}
 use Rattle.builder.proofs.{Checking.{four_words, next_is, begins_inside}, drawing.Lending.{never_given, past, demanded, given_same}}
-use Rattle.builder.specs.{Borders.{Drawn, appended, with_border, drawn_from, drawn_of, Draws}, Yards.{Text, part_of, next_part, yards_from}, declared.borders.Border.{Border}}
+use Rattle.builder.specs.{Borders.{Drawn, appended, with_border, drawn_from, drawn_of, Draws}, Yards.{Text, part_of, next_part, yards_from}}
 use Rattle.builder.specs.inner.Drawing.Section.{yard_appended, spread, DrawsAll}
-use Rattle.builder.specs.declared.borders.Border.TheVariants as B
 
 -- ---- an answer, with the places so far before its own
 abbrev carried : List ℕ → Reply Drawn → Reply Drawn
@@ -70,16 +69,17 @@ none_left version room sofar (a ∷ []) ys xs w h = refl
 none_left version room sofar [] ys xs w h = refl
 
 module _ (version room : ℕ) (yards : List ℕ) (lats lons : List ℤ) (pieces before : List ℕ) (long : ℕ) where
-  abbrev from : List ℕ → ℕ → ℕ → ℕ → ℕ → Reply Drawn
-  from sofar i lat lon piece = drawn_from version room sofar (yards_from (drop i yards) (drop lat lats) (drop lon lons) (drop piece pieces) [])
+  -- from what is left of the words
+  abbrev from : List ℕ → List ℕ → ℕ → ℕ → ℕ → Reply Drawn
+  from sofar left lat lon piece = drawn_from version room sofar (yards_from left (drop lat lats) (drop lon lons) (drop piece pieces) [])
 
   abbrev whole : Reply Drawn
   whole = drawn_of version room (yards_from yards lats lons pieces [])
 
-  pub record Section (places bytes : List ℕ) (size lat lon piece i : ℕ) : Type 0 where
+  pub record Section (places bytes : List ℕ) (size lat lon piece : ℕ) (left : List ℕ) (cut count : ℕ) : Type 0 where
     pub done : List ℕ
-    pub count : i ≡ 4 * length done
-    pub index : i ≤ length yards
+    pub four : cut ≡ 4
+    pub counted : count ≡ length done
     pub tall : lat ≤ length lats
     pub wide : lon ≤ length lons
     pub deep : piece ≤ length pieces
@@ -88,18 +88,19 @@ module _ (version room : ℕ) (yards : List ℕ) (lats lons : List ℤ) (pieces 
     pub size_is : length bytes ≡ long
     pub stored : places ≡ spread 1 done before
     pub places_size : length places ≡ length before
-    pub same : carried done (from (take size bytes) i lat lon piece) ≡ whole
+    pub same : carried done (from (take size bytes) left lat lon piece) ≡ whole
 
   first_byte : (bytes : List ℕ) → 0 < length bytes → get_or bytes 0 0 ≡ 0 → take 1 bytes ≡ 0 ∷ []
   first_byte [] h e = absurd (omega arith)
   first_byte (b ∷ bytes) h e = ap (λ (n : ℕ). n ∷ []) e
 
-  pub section_starts : (bytes : List ℕ) → 0 < room → room ≤ length bytes → length bytes ≡ long → get_or bytes 0 0 ≡ 0 → Section before bytes 1 0 0 0 0
+  pub section_starts : (bytes : List ℕ) → 0 < room → room ≤ length bytes → length bytes ≡ long → get_or bytes 0 0 ≡ 0 → (left : List ℕ) (cut count : ℕ) → left ≡ yards → cut ≡ 4
+      → count ≡ 0 → Section before bytes 1 0 0 0 left cut count
   unfolding spread drawn_of
-  section_starts bytes some fits is zero' = record {
+  section_starts bytes some fits is zero' left cut count all by none = record {
     done = [];
-    count = refl;
-    index = omega arith;
+    four = by;
+    counted = none;
     tall = omega arith;
     wide = omega arith;
     deep = omega arith;
@@ -108,48 +109,48 @@ module _ (version room : ℕ) (yards : List ℕ) (lats lons : List ℤ) (pieces 
     size_is = is;
     stored = refl;
     places_size = refl;
-    same = carried_none (from (take 1 bytes) 0 0 0 0) ∙ ap (λ (s : List ℕ). from s 0 0 0 0) (first_byte bytes (omega (arith, some, fits)) zero');
+    same = carried_none (from (take 1 bytes) left 0 0 0) ∙ ap (λ (ns : List ℕ). from (take 1 bytes) ns 0 0 0) all ∙ ap (λ (s : List ℕ). from s yards 0 0 0) (first_byte bytes (omega (arith, some, fits)) zero');
   }
 
-  module _ (places bytes : List ℕ) (size lat lon piece i : ℕ) (c : Section places bytes size lat lon piece i) where
-    module _ (more : 4 ≤ length yards - i) where
+  module _ (places bytes : List ℕ) (size lat lon piece : ℕ) (left : List ℕ) (by count : ℕ) (c : Section places bytes size lat lon piece left by count) where
+    module _ (yard rest : List ℕ) (cut : left ≡ yard ++ rest) (four : length yard ≡ by) where
       abbrev a : ℕ
-      a = get_or yards i 0
+      a = get_or yard 0 0
 
       abbrev b : ℕ
-      b = get_or yards (i + 1) 0
+      b = get_or yard 1 0
 
       abbrev w : ℕ
-      w = 5 * get_or yards (i + 2) 0
+      w = 5 * get_or yard 2 0
 
       abbrev here : Reply (List ℕ)
       here = yard_appended version room (take size bytes) (drop lat lats) a (drop lon lons) b (drop piece pieces) w
 
       abbrev later : List ℕ → Reply Drawn
-      later all = drawn_from version room all (yards_from (drop (i + 4) yards) (drop a (drop lat lats)) (drop b (drop lon lons)) (drop w (drop piece pieces)) [])
+      later all = drawn_from version room all (yards_from rest (drop a (drop lat lats)) (drop b (drop lon lons)) (drop w (drop piece pieces)) [])
 
-      goes : (r : Reply (List ℕ)) → (texts : List Text) → (r >>= λ all. placed_at (length (take size bytes)) (drawn_from version room all (yards_from (drop (i + 4) yards)
+      goes : (r : Reply (List ℕ)) → (texts : List Text) → (r >>= λ all. placed_at (length (take size bytes)) (drawn_from version room all (yards_from rest
           (drop a (drop lat lats)) (drop b (drop lon lons)) (drop w (drop piece pieces)) texts))) ≡ (r >>= λ all. placed_at (length (take size bytes)) (later all))
       goes (given all) texts =
-          ap (placed_at (length (take size bytes))) (drawn_alone version room all (drop (i + 4) yards) (drop a (drop lat lats)) (drop b (drop lon lons)) (drop w (drop piece pieces)) texts [])
+          ap (placed_at (length (take size bytes))) (drawn_alone version room all rest (drop a (drop lat lats)) (drop b (drop lon lons)) (drop w (drop piece pieces)) texts [])
       goes (refused why) texts = refl
 
-      step : from (take size bytes) i lat lon piece ≡ (here >>= λ all. placed_at (length (take size bytes)) (later all))
+      step : from (take size bytes) left lat lon piece ≡ (here >>= λ all. placed_at (length (take size bytes)) (later all))
       unfolding yards_from drawn_from with_border
       step =
-          ap (λ (ns : List ℕ). drawn_from version room (take size bytes) (yards_from ns (drop lat lats) (drop lon lons) (drop piece pieces) [])) (four_words yards i more)
-          ∙ goes here (drop (get_or yards (i + 3) 0) [])
+          ap (λ (ns : List ℕ). drawn_from version room (take size bytes) (yards_from ns (drop lat lats) (drop lon lons) (drop piece pieces) [])) (cut ∙ four_words yard rest (four ∙ c.four))
+          ∙ goes here (drop (get_or yard 3 0) [])
 
       -- a border that is refused refuses all
-      pub section_refused : (out : List ℕ) (r : Border) → Draws here (take size bytes) out r → (why : Refusal) → r ≡ B.Refused why → DrawsAll whole before places bytes (B.Refused why)
+      pub section_refused : (out : List ℕ) (r : Reply ℕ) → Draws here (take size bytes) out r → (why : Refusal) → r ≡ refused why → (last : Reply ℕ) → last ≡ refused why → DrawsAll whole before places bytes last
       unfolding Draws DrawsAll
-      section_refused out r d why e = let no' : here ≡ refused why = subst (λ (x : Border). Draws here (take size bytes) out x) e d in
-          sym c.same ∙ (ap (carried c.done) (step ∙ ap (λ (k : Reply (List ℕ)). k >>= λ all. placed_at (length (take size bytes)) (later all)) no'))
+      section_refused out r d why e last is = let no' : here ≡ refused why = subst (λ (x : Reply ℕ). Draws here (take size bytes) out x) e d in
+          rw is (sym c.same ∙ ap (carried c.done) (step ∙ ap (λ (k : Reply (List ℕ)). k >>= λ all. placed_at (length (take size bytes)) (later all)) no'))
 
-      module _ (out : List ℕ) (r : Border) (d : Draws here (take size bytes) out r) (n : ℕ) (e : r ≡ B.Drawn n) where
+      module _ (out : List ℕ) (r : Reply ℕ) (d : Draws here (take size bytes) out r) (n : ℕ) (e : r ≡ given n) where
         drawn : (here ≡ given (take size bytes ++ take n out)) × (n ≤ length out)
         unfolding Draws
-        drawn = subst (λ (x : Border). Draws here (take size bytes) out x) e d
+        drawn = subst (λ (x : Reply ℕ). Draws here (take size bytes) out x) e d
 
         pub border_inside : n ≤ length out
         border_inside = drawn.1
@@ -166,10 +167,10 @@ module _ (version room : ℕ) (yards : List ℕ) (lats lons : List ℤ) (pieces 
         pub border_put : room ≤ 1073741824 → size + length (take n out) < 2 ^ 62
         border_put most = omega (arith, border_fits, length-take-le n out drawn.1, most)
 
-        pub section_goes : (places' : List ℕ) → places' ≡ set places (i / 2 + 1) size → (bytes' : List ℕ) (size' : ℕ) → Stored bytes size (take n out) bytes' size'
+        pub section_goes : (places' : List ℕ) → places' ≡ set places (2 * count + 1) size → (bytes' : List ℕ) (size' : ℕ) → Stored bytes size (take n out) bytes' size'
             → (lat' lon' piece' : ℕ) → lat' ≡ next_part (length lats) lat a → lon' ≡ next_part (length lons) lon b → piece' ≡ next_part (length pieces) piece w
-            → Section places' bytes' size' lat' lon' piece' (i + 4)
-        section_goes places' ep bytes' size' s lat' lon' piece' el eo ec =
+            → (by' count' : ℕ) → by' ≡ by → count' ≡ count + 1 → Section places' bytes' size' lat' lon' piece' rest by' count'
+        section_goes places' ep bytes' size' s lat' lon' piece' el eo ec by' count' kept next' =
             let many : length (take n out) ≡ n = length-take-le n out drawn.1 in
             let next : size' ≡ size + length (take n out) = s.place_after in
             let room' : size + length (take n out) ≤ length bytes = omega (arith, many, border_fits, c.room_in) in
@@ -177,7 +178,7 @@ module _ (version room : ℕ) (yards : List ℕ) (lats lons : List ℤ) (pieces 
             let front : take size' bytes' ≡ take size bytes ++ take n out =
             ap (take size') lay ∙
             take_at (take size bytes ++ take n out) (drop (size + length (take n out)) bytes) size' (length-append (take size bytes) (take n out) ∙ omega (arith, before_size, next)) in
-            let at : i / 2 + 1 ≡ 1 + 2 * length c.done = omega (arith, c.count) in
+            let at : 2 * count + 1 ≡ 1 + 2 * length c.done = omega (arith, c.counted) in
             let whole' : carried c.done (placed_at size (later (take size bytes ++ take n out))) ≡ whole =
             sym (ap (carried c.done)
             (step ∙ (ap (λ (k : Reply (List ℕ)). k >>= λ all. placed_at (length (take size bytes)) (later all)) drawn.0 ∙
@@ -185,11 +186,11 @@ module _ (version room : ℕ) (yards : List ℕ) (lats lons : List ℤ) (pieces 
             let ys : drop lat' lats ≡ drop a (drop lat lats) = next_is lats lat a lat' el in
             let xs : drop lon' lons ≡ drop b (drop lon lons) = next_is lons lon b lon' eo in
             let ws : drop piece' pieces ≡ drop w (drop piece pieces) = next_is pieces piece w piece' ec in
-            let there : from (take size' bytes') (i + 4) lat' lon' piece' ≡ later (take size bytes ++ take n out) = rw (front, ys, xs, ws) in
+            let there : from (take size' bytes') rest lat' lon' piece' ≡ later (take size bytes ++ take n out) = rw (front, ys, xs, ws) in
             record {
               done = c.done ++ (size ∷ []);
-              count = omega (arith, c.count, length-append c.done (size ∷ []));
-              index = omega (arith, more);
+              four = kept ∙ c.four;
+              counted = omega (arith, next', c.counted, length-append c.done (size ∷ []));
               tall = begins_inside (length lats) lat a c.tall lat' el;
               wide = begins_inside (length lons) lon b c.wide lon' eo;
               deep = begins_inside (length pieces) piece w c.deep piece' ec;
@@ -197,16 +198,16 @@ module _ (version room : ℕ) (yards : List ℕ) (lats lons : List ℤ) (pieces 
               room_in = omega (arith, c.room_in, ap length s.stored, length-sets bytes size (take n out));
               size_is = ap length s.stored ∙ (length-sets bytes size (take n out) ∙ c.size_is);
               stored = ep ∙ (ap (λ (k : ℕ). set places k size) at ∙ (ap (λ (l : List ℕ). set l (1 + 2 * length c.done) size) c.stored ∙ sym (spread_more 1 c.done size before)));
-              places_size = ap length ep ∙ (length-set places (i / 2 + 1) size ∙ c.places_size);
+              places_size = ap length ep ∙ (length-set places (2 * count + 1) size ∙ c.places_size);
               same = ap (carried (c.done ++ (size ∷ []))) there ∙ (sym (carried_more c.done size (later (take size bytes ++ take n out))) ∙ whole');
             }
 
-    pub section_ends : length yards - i < 4 → DrawsAll whole before places bytes (B.Drawn size)
+    pub section_ends : length left < by → DrawsAll whole before places bytes (given size)
     unfolding DrawsAll
     section_ends few =
-        let short : length (drop i yards) < 4 = omega (arith, length-drop i yards, few) in
+        let short : length left < 4 = omega (arith, few, c.four) in
         let end : whole ≡ given (record { bytes = take size bytes; places = c.done ++ [] }) =
-        sym c.same ∙ ap (carried c.done) (none_left version room (take size bytes) (drop i yards) (drop lat lats) (drop lon lons) (drop piece pieces) short) in
+        sym c.same ∙ ap (carried c.done) (none_left version room (take size bytes) left (drop lat lats) (drop lon lons) (drop piece pieces) short) in
         record {
           drawn = record { bytes = take size bytes; places = c.done };
           is = end ∙ ap (λ (ps : List ℕ). given (record { bytes = take size bytes; places = ps })) (append-nil c.done);

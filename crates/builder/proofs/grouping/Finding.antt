@@ -1,54 +1,54 @@
 -- The first of equal items and how many there are, found from where their hash begins. Assumes nothing.
-use Rattle.numbers.proofs.Prelude.{ℕ, zero, suc, ◌+◌, ◌^◌, ◌≤◌, ◌<◌, length, drop, get_or, length-map, drop-cons, drop-length, Bool, true, false, List, [], ◌∷◌, map, ◌≡◌, refl, sym, ap, ◌∙◌, add-one}
+use Rattle.numbers.proofs.Prelude.{ℕ, zero, suc, ◌+◌, ◌-◌, ◌^◌, ◌≤◌, ◌<◌, length, take, take_all, drop, get_or, get_or-drop, length-map, length-drop, drop-cons, drop-length, ltb, ltb-true, ltb-false, Bool, true, false, List, [], ◌∷◌, map, ◌≡◌, refl, sym, ap, ◌∙◌, add-one}
 use Rattle.numbers.{proofs.{Prelude.{arith}, Tests.{fails}}, specs.Answer.{if◌then◌else◌}}
+use Rattle.std.{specs.List.Sorted.{IsPartitionedBy, IsPartitionPoint}, proofs.lemmas.List.Sorted.{IsPartitionedBy-ltb}}
 use Rattle.builder.proofs.{Groups.{first_sorted}, grouping.Keyed.{order_of, items_are, alike_hash}}
 use Rattle.builder.specs.{Grouping.Keys.{numbers_from, item_of, hash_of, alike, keys_of, first_of, Lower, Members}, Sharing.{first_with}}
 use Rattle.layout.specs.Order.{key_of, sorted_by, Under, Rising}
 
 -- ---- keys that never fall, by places
-under_at : (k : ℕ) (xs : List ℕ) → Under key_of k xs → (i : ℕ) → i < length xs → k ≤ key_of (get_or xs i 0)
+under_at : (k : ℕ) (xs : List ℕ) → Under key_of k xs → (i d : ℕ) → i < length xs → k ≤ key_of (get_or xs i d)
 unfolding Under
-under_at k [] u i h = absurd (omega arith)
-under_at k (x ∷ xs) u zero h = u.0
-under_at k (x ∷ xs) u (suc i) h = under_at k xs u.1 i (omega arith)
+under_at k [] u i d h = absurd (omega arith)
+under_at k (x ∷ xs) u zero d h = u.0
+under_at k (x ∷ xs) u (suc i) d h = under_at k xs u.1 i d (omega arith)
 
-pub rising_at : (xs : List ℕ) → Rising key_of xs → (i j : ℕ) → i ≤ j → j < length xs → key_of (get_or xs i 0) ≤ key_of (get_or xs j 0)
+pub rising_at : (xs : List ℕ) → Rising key_of xs → (i j d : ℕ) → i ≤ j → j < length xs → key_of (get_or xs i d) ≤ key_of (get_or xs j d)
 unfolding Rising
-rising_at [] r i j le h = absurd (omega arith)
-rising_at (x ∷ xs) r zero zero le h = omega arith
-rising_at (x ∷ xs) r zero (suc j) le h = under_at (key_of x) xs r.0 j (omega arith)
-rising_at (x ∷ xs) r (suc i) zero le h = absurd (omega arith)
-rising_at (x ∷ xs) r (suc i) (suc j) le h = rising_at xs r.1 i j (omega arith) (omega arith)
+rising_at [] r i j d le h = absurd (omega arith)
+rising_at (x ∷ xs) r zero zero d le h = omega arith
+rising_at (x ∷ xs) r zero (suc j) d le h = under_at (key_of x) xs r.0 j d (omega arith)
+rising_at (x ∷ xs) r (suc i) zero d le h = absurd (omega arith)
+rising_at (x ∷ xs) r (suc i) (suc j) d le h = rising_at xs r.1 i j d (omega arith) (omega arith)
 
--- ---- where a key begins, by halves
-pub record Halving (keys : List ℕ) (key low high : ℕ) : Type 0 where
-  pub order : low ≤ high
-  pub inside : high ≤ length keys
-  pub lower : (i : ℕ) → i < low → key_of (get_or keys i 0) < key
-  pub upper : (i : ℕ) → high ≤ i → i < length keys → key ≤ key_of (get_or keys i 0)
+-- ---- where a key begins
+pub part_keys : (keys : List ℕ) (key : ℕ) → Rising key_of keys → IsPartitionedBy (λ word. ltb (key_of word) key) keys
+part_keys keys key rises = IsPartitionedBy-ltb key_of keys key (λ i j d le h. rising_at keys rises i j d le h)
 
-pub halving_starts : (keys : List ℕ) (key : ℕ) → Halving keys key 0 (length keys)
-halving_starts keys key = record { order = omega arith; inside = omega arith; lower = λ i h. absurd (omega arith); upper = λ i h k. absurd (omega arith) }
+pub part_lower : (keys : List ℕ) (key place : ℕ) → place ≤ length keys → IsPartitionPoint (λ word. ltb (key_of word) key ≡ true) (λ word. ltb (key_of word) key ≡ false) keys place
+    → Lower keys key place
+part_lower keys key place inside p =
+    record { inside = inside; lower = λ i h. ltb-true _ _ (p.0 i 0 (omega arith) h); upper = λ i h k. ltb-false _ _ (p.1 i 0 h k) }
 
-module _ (keys : List ℕ) (rises : Rising key_of keys) (key low high middle : ℕ) (c : Halving keys key low high) (a : low ≤ middle) (b : middle < high) where
-  pub halving_right : (k : ℕ) → k ≡ key_of (get_or keys middle 0) → k < key → Halving keys key (middle + 1) high
-  halving_right k e h = record {
-    order = omega (arith, b);
-    inside = c.inside;
-    lower = λ i j. let l : key_of (get_or keys i 0) ≤ key_of (get_or keys middle 0) = rising_at keys rises i middle (omega arith) (omega (arith, b, c.inside)) in omega (arith, l, h, e);
-    upper = c.upper;
-  }
+-- ---- the words from a place on
+module _ (keys : List ℕ) (run : ℕ) where
+  abbrev pub tail_of : List ℕ
+  tail_of = take (length keys - run) (drop run keys)
 
-  pub halving_left : (k : ℕ) → k ≡ key_of (get_or keys middle 0) → key ≤ k → Halving keys key low middle
-  halving_left k e h = record {
-    order = a;
-    inside = omega (arith, b, c.inside);
-    lower = c.lower;
-    upper = λ i from j. let l : key_of (get_or keys middle 0) ≤ key_of (get_or keys i 0) = rising_at keys rises middle i from j in omega (arith, l, h, e);
-  }
+  tail_is : tail_of ≡ drop run keys
+  tail_is = take_all (length keys - run) (drop run keys) (omega (arith, length-drop run keys))
 
-pub halving_ends : (keys : List ℕ) (key low high : ℕ) → Halving keys key low high → high ≤ low → Lower keys key low
-halving_ends keys key low high c h = record { inside = omega (arith, c.order, c.inside); lower = c.lower; upper = λ i k j. c.upper i (omega arith) j }
+  pub tail_more : (k : ℕ) → k < length tail_of → run + k < length keys
+  tail_more k h = omega (arith, h, ap length tail_is, length-drop run keys)
+
+  pub tail_none : (k : ℕ) → length tail_of ≤ k → length keys ≤ run + k
+  tail_none k h = omega (arith, h, ap length tail_is, length-drop run keys)
+
+  pub tail_at : (k : ℕ) → item_of (get_or tail_of k 0) ≡ item_of (get_or keys (run + k) 0)
+  tail_at k = ap (λ (xs : List ℕ). item_of (get_or xs k 0)) tail_is ∙ ap item_of (get_or-drop run keys k 0)
+
+  pub tail_key : (k : ℕ) → key_of (get_or tail_of k 0) ≡ key_of (get_or keys (run + k) 0)
+  tail_key k = ap (λ (xs : List ℕ). key_of (get_or xs k 0)) tail_is ∙ ap key_of (get_or-drop run keys k 0)
 
 -- ---- the first, from a place on
 module _ (good : ℕ → Bool) (other : ℕ) where
@@ -80,8 +80,8 @@ module _ (good : ℕ → Bool) (other : ℕ) where
     scan_ends h = let e : i ≡ length items = omega (arith, c.index) in
         let z : first_with good other (drop i items) ≡ other = ap (first_with good other) (ap (λ (n : ℕ). drop n items) e ∙ drop-length items) in sym z ∙ c.same
 
-  pub scan_starts : (items : List ℕ) (run : ℕ) → run ≤ length items → Scanning items run run
-  scan_starts items run h = record { from = omega arith; index = h; same = refl }
+  pub scan_starts : (items : List ℕ) (run i : ℕ) → run ≤ length items → i ≡ run → Scanning items run i
+  scan_starts items run i h e = rw e (record { from = omega arith; index = h; same = refl })
 
 map_drop : (f : ℕ → ℕ) (n : ℕ) (xs : List ℕ) → map f (drop n xs) ≡ drop n (map f xs)
 map_drop f zero xs = refl

@@ -44,8 +44,8 @@ module _ (same : ℕ → ℕ → Bool) (a : ℕ) where
     pub few : found ≤ 1
     pub sum : found + times_in same a (drop i items) ≡ times_in same a (drop run items)
 
-  pub count_starts : (items : List ℕ) (run : ℕ) → run ≤ length items → Counting items run 0 run
-  count_starts items run h = record { index = h; from = omega arith; few = omega arith; sum = omega arith }
+  pub count_starts : (items : List ℕ) (run i : ℕ) → run ≤ length items → i ≡ run → Counting items run 0 i
+  count_starts items run i h e = rw e (record { index = h; from = omega arith; few = omega arith; sum = omega arith })
 
   module _ (items : List ℕ) (run found i : ℕ) (c : Counting items run found i) where
     module _ (h : i < length items) where
@@ -112,7 +112,7 @@ module _ (starts texts : List ℕ) (keys : List ℕ) (m : Members starts texts 1
       let past : (j : ℕ) → j < length (drop i (map item_of keys)) → good item (get_or (drop i (map item_of keys)) j 0) ≡ false =
       λ j k.
       let size : i + j < length keys = omega (arith, k, length-drop i (map item_of keys), length-map keys item_of) in
-      let more : key_of (get_or keys i 0) ≤ key_of (get_or keys (i + j) 0) = rising_at keys rises i (i + j) (omega arith) size in
+      let more : key_of (get_or keys i 0) ≤ key_of (get_or keys (i + j) 0) = rising_at keys rises i (i + j) 0 (omega arith) size in
       ap (good item) (get_or-drop i (map item_of keys) j 0 ∙ item_is keys (i + j)) ∙ other_hash starts texts 1 keys m item key run is l (i + j) size (λ e. omega (arith, above, n, more, e)) in
       count_none good item (map item_of keys) run found i c past ∙ ap (λ (xs : List ℕ). leb 2 (times_in good item xs)) (sym (drop_items run keys))
 

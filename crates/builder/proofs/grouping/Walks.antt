@@ -1,64 +1,17 @@
 -- Hashes and comparisons, byte by byte and text by text. Assumes nothing.
-use Rattle.numbers.proofs.Prelude.{ℕ, suc, ◌+◌, ◌-◌, ◌*◌, ◌≤◌, ◌<◌, eq-eqb, ne_eqb, eqb, length, drop, get_or, drop-cons, drop-length, Bool, true, false, ◌&&◌, List, [], ◌∷◌}
-use Rattle.numbers.proofs.Prelude.{◌≡◌, refl, sym, ap, ◌∙◌, suc-mul, mul-le-mul_right, add-one, arith}
-use Rattle.builder.specs.{Grouping.Items.{hash_byte, hash_text, hash_texts, text_at, item_at, Inside}, Sharing.{same_by, same_text, same_texts}}
-
--- ---- a text's hash
-pub record Hashing (seed : ℕ) (text : List ℕ) (hash i : ℕ) : Type 0 where
-  pub index : i ≤ length text
-  pub same : hash_text hash (drop i text) ≡ hash_text seed text
-
-pub hash_starts : (seed : ℕ) (text : List ℕ) → Hashing seed text seed 0
-hash_starts seed text = record { index = omega arith; same = refl }
-
-module _ (seed : ℕ) (text : List ℕ) (hash i : ℕ) (c : Hashing seed text hash i) where
-  pub hash_goes : i < length text → (later : ℕ) → later ≡ hash_byte hash (get_or text i 0) → Hashing seed text later (i + 1)
-  unfolding hash_text
-  hash_goes h later e = record { index = omega arith; same = rw (e, add-one i) (sym (ap (hash_text hash) (drop-cons text i 0 h)) ∙ c.same) }
-
-  pub hash_ends : length text ≤ i → hash ≡ hash_text seed text
-  unfolding hash_text
-  hash_ends h = let e : i ≡ length text = omega (arith, c.index) in sym (ap (hash_text hash) (ap (λ (n : ℕ). drop n text) e ∙ drop-length text)) ∙ c.same
+use Rattle.numbers.proofs.Prelude.{ℕ, suc, ◌+◌, ◌-◌, ◌*◌, ◌≤◌, ◌<◌, Bool, true, false, ◌&&◌, List, [], ◌∷◌}
+use Rattle.numbers.proofs.Prelude.{◌≡◌, refl, sym, ap, ◌∙◌, suc-mul, mul-le-mul_right, arith}
+use Rattle.std.proofs.Common.{nat_eq}
+use lib.Pointwise.{pointwise}
+use Rattle.builder.specs.{Grouping.Items.{hash_text, hash_texts, text_at, item_at, Inside}, Sharing.{same_by, same_text, same_texts}}
 
 -- ---- two texts
-same_longer : (a b : List ℕ) → (length a ≡ length b → ⊥) → false ≡ same_text a b
+pub same_pairs : (a b : List ℕ) → pointwise nat_eq a b ≡ same_text a b
 unfolding same_by
-same_longer [] [] h = absurd (h refl)
-same_longer [] (y ∷ b) h = refl
-same_longer (x ∷ a) [] h = refl
-same_longer (x ∷ a) (y ∷ b) h = go (eqb x y) (same_longer a b (λ e. h (ap suc e))) where
-  go : (t : Bool) → false ≡ same_text a b → false ≡ (t && same_text a b)
-  go true more = more
-  go false more = refl
-
-pub other_size : (a b : List ℕ) → (length a ≡ length b → ⊥) → false ≡ same_text a b
-other_size = same_longer
-
-pub record Comparing (a b : List ℕ) (i : ℕ) : Type 0 where
-  pub index : i ≤ length a
-  pub size : length a ≡ length b
-  pub same : same_text (drop i a) (drop i b) ≡ same_text a b
-
-pub compare_starts : (a b : List ℕ) → length a ≡ length b → Comparing a b 0
-compare_starts a b e = record { index = omega arith; size = e; same = refl }
-
-module _ (a b : List ℕ) (i : ℕ) (c : Comparing a b i) where
-  module _ (h : i < length a) where
-    cut : same_text (drop i a) (drop i b) ≡ (eqb (get_or a i 0) (get_or b i 0) && same_text (drop (suc i) a) (drop (suc i) b))
-    unfolding same_by
-    cut = rw (drop-cons a i 0 h, drop-cons b i 0 (omega (arith, c.size)))
-
-    pub compare_differs : (get_or a i 0 ≡ get_or b i 0 → ⊥) → false ≡ same_text a b
-    compare_differs n = sym (cut ∙ rw (ne_eqb (get_or a i 0) (get_or b i 0) n)) ∙ c.same
-
-    pub compare_goes : get_or a i 0 ≡ get_or b i 0 → Comparing a b (i + 1)
-    compare_goes e = rw (add-one i) (record { index = omega arith; size = c.size; same = sym (cut ∙ rw (eq-eqb (get_or a i 0) (get_or b i 0) e)) ∙ c.same })
-
-  pub compare_ends : length a ≤ i → true ≡ same_text a b
-  unfolding same_by
-  compare_ends h = let e : i ≡ length a = omega (arith, c.index) in let f : i ≡ length b = omega (arith, c.index, c.size) in
-      let x : drop i a ≡ [] = ap (λ (n : ℕ). drop n a) e ∙ drop-length a in let y : drop i b ≡ [] = ap (λ (n : ℕ). drop n b) f ∙ drop-length b in
-      let z : same_text (drop i a) (drop i b) ≡ true = rw (x, y) in sym z ∙ c.same
+same_pairs [] [] = refl
+same_pairs [] (y ∷ b) = refl
+same_pairs (x ∷ a) [] = refl
+same_pairs (x ∷ a) (y ∷ b) = ap (λ (t : Bool). nat_eq x y && t) (same_pairs a b)
 
 -- ---- items
 -- an item's texts are among those of so many items

@@ -1,5 +1,5 @@
 -- Items: so many texts in a row, by where each text of a list begins. A text alone is an item of one, a record one of as many as there are names.
-use Rattle.std.specs.Prelude.{◌+◌, ◌-◌, ◌*◌, ◌%◌, ◌^◌, ◌≤◌, ◌<◌, ◌∷◌}
+use Rattle.std.specs.Prelude.{fold, ◌+◌, ◌-◌, ◌*◌, ◌%◌, ◌^◌, ◌≤◌, ◌<◌, ◌∷◌}
 use Rattle.numbers.specs.Prelude.{ℕ, zero, suc, length, take, drop, get_or, List, []}
 use Rattle.builder.specs.Yards.{Text}
 
@@ -7,9 +7,8 @@ use Rattle.builder.specs.Yards.{Text}
 unfoldable pub hash_byte : ℕ → ℕ → ℕ
 hash_byte hash byte = (hash * 16777619 + byte) % 2 ^ 32
 
-unfoldable pub hash_text : ℕ → Text → ℕ
-hash_text hash [] = hash
-hash_text hash (byte ∷ text) = hash_text (hash_byte hash byte) text
+abbrev pub hash_text : ℕ → Text → ℕ
+hash_text = fold (λ hash byte. hash_byte hash byte)
 
 unfoldable pub hash_texts : ℕ → List Text → ℕ
 hash_texts hash [] = hash

@@ -4,10 +4,10 @@ ghost use Rattle.std.specs.Prelude.{◌+◌, ◌≤◌, ◌<◌, length, set, ge
 ghost use Rattle.builder.specs.{Borders.{drawn_of}, Yards.{yards_from}};
 ghost use Rattle.builder.specs.inner.Drawing.Section.{DrawsAll};
 
-use crate::borders::Border;
 use crate::drawing::yard::draw_yard;
 use crate::put::put_bytes;
 use crate::yards::next_part;
+use numbers::refusal::Refusal;
 
 // A word at a place, if the list has it.
 fn store(list: &mut [u32], place: usize, word: u32)
@@ -18,7 +18,7 @@ fn store(list: &mut [u32], place: usize, word: u32)
     }
 }
 
-// All borders into a list whose first byte is zero; each border's place goes to every second word from the first on. The output is working room.
+// All borders into a list whose first byte is zero, and how long the data then is; each border's place goes to every second word from the first on. The output is working room.
 pub fn draw_yards(
     version: u8,
     yards: &[u32],
@@ -29,7 +29,7 @@ pub fn draw_yards(
     places: &mut [u32],
     bytes: &mut [u8],
     out: &mut [u8],
-) -> Border
+) -> Result<usize, Refusal>
     requires { (0 < room) × (room ≤ length bytes.old) × (room ≤ length out.old) × (room ≤ 1073741824) × (get_or bytes.old 0 0 ≡ 0) }
     ensures { DrawsAll (drawn_of version room (yards_from yards.now lats.now lons.now pieces.now [])) places.old places.new bytes.new result }
 {
@@ -37,13 +37,11 @@ pub fn draw_yards(
     let mut lat = 0;
     let mut lon = 0;
     let mut piece = 0;
-    let mut i = 0;
-    while 4 <= yards.len() - i {
-        let next = i + 4;
-        let tall = yards[i] as usize;
-        let wide = yards[i + 1] as usize;
-        let words = 5 * (yards[i + 2] as usize);
-        let border = draw_yard(
+    for (count, yard) in yards.chunks_exact(4).enumerate() {
+        let tall = yard[0] as usize;
+        let wide = yard[1] as usize;
+        let words = 5 * (yard[2] as usize);
+        let drawn = draw_yard(
             version,
             lats,
             lat,
@@ -57,17 +55,12 @@ pub fn draw_yards(
             &bytes[..size],
             room,
             out,
-        );
-        let drawn = match border {
-            Border::Drawn(drawn) => drawn,
-            Border::Refused(why) => return Border::Refused(why),
-        };
-        store(places, i / 2 + 1, size as u32);
+        )?;
+        store(places, 2 * count + 1, size as u32);
         size = put_bytes(bytes, size, &out[..drawn]);
         lat = next_part(lats.len(), lat, tall);
         lon = next_part(lons.len(), lon, wide);
         piece = next_part(pieces.len(), piece, words);
-        i = next;
     }
-    Border::Drawn(size)
+    Ok(size)
 }

@@ -3,19 +3,16 @@ ghost use Rattle.std.specs.Prelude.{◌*◌, ◌≤◌, ◌<◌, ◌^◌, length
 ghost use Rattle.builder.specs.Borders.{Draws};
 ghost use Rattle.builder.specs.inner.Drawing.Section.{yard_appended, LentFor};
 
-use crate::borders::{Border, draw_border};
+use crate::borders::draw_border;
 use crate::yards::{next_part, part_end};
+use numbers::refusal::Refusal;
 
 // No more of the output than a border of so many points can take: all that is lent is zeroed first.
 pub fn lent_for(points: usize, room: usize) -> usize
     requires { points < 2 ^ 32 }
     ensures { LentFor points room result }
 {
-    let most = 170 * points + 400;
-    if most < room {
-        return most;
-    }
-    room
+    (170 * points + 400).min(room)
 }
 
 // The border behind the earlier data, at the front of the output: 23, then 28.
@@ -33,7 +30,7 @@ pub fn draw_yard(
     earlier: &[u8],
     room: usize,
     out: &mut [u8],
-) -> Border
+) -> Result<usize, Refusal>
     requires { (lat ≤ length lats.now) × (lon ≤ length lons.now) × (piece ≤ length pieces.now) × (tall < 2 ^ 32) × (room ≤ length out.old) }
     ensures { Draws (yard_appended version room earlier.now (drop lat lats.now) tall (drop lon lons.now) wide (drop piece pieces.now) words) earlier.now out.new result }
 {

@@ -7,12 +7,7 @@ ghost use Rattle.layout.specs.Order.{key_of, Rising};
 ghost use Rattle.builder.specs.Grouping.{Items.{Inside}, Keys.{item_of, hash_of, alike, keys_of, first_of, numbers_from, Lower, Members}};
 
 use crate::grouping::items::{hash_item, same_item};
-
-fn key_of(word: u64) -> u64
-    ensures { result ≡ key_of word }
-{
-    word / 0x1_0000_0000
-}
+use layout::order::key_of;
 
 fn item_of(word: u64) -> usize
     ensures { result ≡ item_of word }
@@ -20,22 +15,12 @@ fn item_of(word: u64) -> usize
     (word % 0x1_0000_0000) as usize
 }
 
-// Where a key begins, or would, by halves.
+// Where a key begins, or would.
 fn run_of(keys: &[u64], key: u64) -> usize
     requires { Rising key_of keys.now }
     ensures { Lower keys.now key result }
 {
-    let mut low = 0;
-    let mut high = keys.len();
-    while low < high {
-        let middle = low + (high - low) / 2;
-        if key_of(keys[middle]) < key {
-            low = middle + 1;
-        } else {
-            high = middle;
-        }
-    }
-    low
+    keys.partition_point(|word| key_of(*word) < key)
 }
 
 // Whether an item and that of the ith word are the same.
@@ -65,13 +50,11 @@ fn first_from(
     requires { Members starts.now texts.now width keys.now × (item < length keys.now) × (run ≤ length keys.now) }
     ensures { result ≡ first_with (alike starts.now texts.now width item) item (map item_of (drop run keys.now)) }
 {
-    let mut i = run;
-    while i < keys.len() {
-        let other = item_of(keys[i]);
+    for word in &keys[run..] {
+        let other = item_of(*word);
         if is_alike(starts, texts, width, keys, item, other) {
             return other;
         }
-        i += 1;
     }
     item
 }
@@ -92,14 +75,11 @@ fn twice_from(starts: &[u32], texts: &[u8], keys: &[u64], run: usize, key: u64, 
     ensures { result ≡ leb 2 (times_in (alike starts.now texts.now 1) item (map item_of (drop run keys.now))) }
 {
     let mut found: u64 = 0;
-    let mut i = run;
-    while i < keys.len() {
-        let word = keys[i];
-        if key_of(word) != key {
+    for word in &keys[run..] {
+        if key_of(*word) != key {
             return false;
         }
-        i += 1;
-        if is_alike(starts, texts, 1, keys, item, item_of(word)) {
+        if is_alike(starts, texts, 1, keys, item, item_of(*word)) {
             found += 1;
             if found == 2 {
                 return true;

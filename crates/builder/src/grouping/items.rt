@@ -11,13 +11,11 @@ pub fn mark_starts(lengths: &[u32], starts: &mut [u32])
     ensures { starts.new ≡ starts_from 0 lengths.now }
 {
     let mut at = 0;
-    let mut i = 0;
-    while i < lengths.len() {
+    for (i, length) in lengths.iter().enumerate() {
         starts[i] = at;
-        at += lengths[i];
-        i += 1;
+        at += *length;
     }
-    starts[i] = at;
+    starts[lengths.len()] = at;
 }
 
 // A text's hash, behind another one's.
@@ -36,10 +34,8 @@ pub(crate) fn hash_item(starts: &[u32], texts: &[u8], at: usize, width: usize) -
     ensures { result ≡ hash_texts 0 (item_at starts.now texts.now at width) }
 {
     let mut hash = 0;
-    let mut i = 0;
-    while i < width {
+    for i in 0..width {
         hash = hash_at(starts, texts, hash, at + i);
-        i += 1;
     }
     hash
 }
@@ -60,12 +56,10 @@ pub(crate) fn same_item(starts: &[u32], texts: &[u8], a: usize, b: usize, width:
     requires { Inside starts.now texts.now (a + width) × Inside starts.now texts.now (b + width) }
     ensures { result ≡ same_texts (item_at starts.now texts.now a width) (item_at starts.now texts.now b width) }
 {
-    let mut i = 0;
-    while i < width {
+    for i in 0..width {
         if !same_at(starts, texts, a + i, b + i) {
             return false;
         }
-        i += 1;
     }
     true
 }

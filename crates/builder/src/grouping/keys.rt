@@ -11,11 +11,9 @@ fn put_keys(starts: &[u32], texts: &[u8], width: usize, keys: &mut [u64])
     requires { Inside starts.now texts.now (length keys.old * width) × (length keys.old ≤ 2 ^ 32) }
     ensures { keys.new ≡ map (key_word starts.now texts.now width) (numbers_from 0 (length keys.old)) }
 {
-    let mut item = 0;
-    while item < keys.len() {
+    for item in 0..keys.len() {
         let hash = hash_item(starts, texts, item * width, width);
         keys[item] = hash as u64 * 0x1_0000_0000 + item as u64;
-        item += 1;
     }
 }
 

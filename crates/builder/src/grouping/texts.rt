@@ -13,27 +13,11 @@ fn hash_byte(hash: u32, byte: u8) -> u32
 pub fn hash_text(seed: u32, text: &[u8]) -> u32
     ensures { result ≡ hash_text seed text.now }
 {
-    let mut hash = seed;
-    let mut i = 0;
-    while i < text.len() {
-        hash = hash_byte(hash, text[i]);
-        i += 1;
-    }
-    hash
+    text.iter().fold(seed, |hash, byte| hash_byte(hash, *byte))
 }
 
 pub fn same_text(a: &[u8], b: &[u8]) -> bool
     ensures { result ≡ same_text a.now b.now }
 {
-    if a.len() != b.len() {
-        return false;
-    }
-    let mut i = 0;
-    while i < a.len() {
-        if a[i] != b[i] {
-            return false;
-        }
-        i += 1;
-    }
-    true
+    a == b
 }

@@ -5,7 +5,7 @@ use Rattle.writer.specs.Writer.{every, sized, near, checks, plain_border, packed
 use Rattle.border.specs.Place.{is_still}
 use Rattle.layout.specs.Order.{insert_by, sorted_by}
 use Rattle.header.specs.Utf8.{characters, started_by, begun_by, followed, goes_on, is_utf8}
-use Rattle.builder.specs.{Borders.{appended, with_border, drawn_from, drawn_of}, Entries.{lesser, greater, best_by, lowest_of, highest_of, box_bytes, entry_bytes, table_from, from_south, table_of}}
+use Rattle.builder.specs.{Borders.{appended, with_border, drawn_from, drawn_of}, Entries.{lesser, greater, best_by, farthest_of, box_bytes, entry_bytes, table_from, from_south, table_of}}
 use Rattle.builder.specs.{File.{head_from, head_of, is_text, are_texts, readable, known}, Metadata.{inlined, fields_of, is_remote, remotes, offset_of, written, fits, first_from, layout_of, start_of}}
 use Rattle.builder.specs.{Metadata.{metadata_of}, Sharing.{same_by, is_in, times_in, firsts_after, size_before, good_ones}, Yards.{Plan, cut_by, sum_of}}
 use Rattle.draft.specs.Held.{Builder.{Builder, Offered, summed, fitting, begin, joined, add, drop_last}, Calls.{add_yard, drop_yard, called, after, ran}, Space.{Space}}
@@ -27,7 +27,7 @@ begun = summed plan 64
 pub begins : begin plan 64 space ≡ given begun
 unfolding plain_move_bytes packed_number packed_move_bytes move_to moves_from points_of moves_of good_pieces packed_from first_pieces pieces_of is_still every sized near
     checks plain_border packed_border border_of insert_by sorted_by digits_of varint_of signed_form interleaved characters started_by begun_by followed goes_on is_utf8
-    appended with_border drawn_from drawn_of lesser greater best_by lowest_of highest_of box_bytes entry_bytes table_from from_south table_of head_from head_of is_text
+    appended with_border drawn_from drawn_of lesser greater best_by farthest_of box_bytes entry_bytes table_from from_south table_of head_from head_of is_text
     are_texts readable known inlined fields_of is_remote remotes offset_of written fits first_from layout_of start_of metadata_of same_by is_in times_in firsts_after
     size_before good_ones cut_by sum_of flat_map zip_with drawn_or data_of totals_for totals_of file_size summed fitting begin joined add drop_last called after ran
 begins = refl
@@ -35,7 +35,7 @@ begins = refl
 pub one_yard : (ran begun (add_yard yard space ∷ [])).totals ≡ record { table = 6; metadata = 0; bytes = 12; yards = 1; greatest = pos 6 }
 unfolding plain_move_bytes packed_number packed_move_bytes move_to moves_from points_of moves_of good_pieces packed_from first_pieces pieces_of is_still every sized near
     checks plain_border packed_border border_of insert_by sorted_by digits_of varint_of signed_form interleaved characters started_by begun_by followed goes_on is_utf8
-    appended with_border drawn_from drawn_of lesser greater best_by lowest_of highest_of box_bytes entry_bytes table_from from_south table_of head_from head_of is_text
+    appended with_border drawn_from drawn_of lesser greater best_by farthest_of box_bytes entry_bytes table_from from_south table_of head_from head_of is_text
     are_texts readable known inlined fields_of is_remote remotes offset_of written fits first_from layout_of start_of metadata_of same_by is_in times_in firsts_after
     size_before good_ones cut_by sum_of flat_map zip_with drawn_or data_of totals_for totals_of file_size summed fitting begin joined add drop_last called after ran
 one_yard = refl
@@ -43,7 +43,7 @@ one_yard = refl
 pub one_dropped : ran begun (add_yard yard space ∷ drop_yard space ∷ []) ≡ begun
 unfolding plain_move_bytes packed_number packed_move_bytes move_to moves_from points_of moves_of good_pieces packed_from first_pieces pieces_of is_still every sized near
     checks plain_border packed_border border_of insert_by sorted_by digits_of varint_of signed_form interleaved characters started_by begun_by followed goes_on is_utf8
-    appended with_border drawn_from drawn_of lesser greater best_by lowest_of highest_of box_bytes entry_bytes table_from from_south table_of head_from head_of is_text
+    appended with_border drawn_from drawn_of lesser greater best_by farthest_of box_bytes entry_bytes table_from from_south table_of head_from head_of is_text
     are_texts readable known inlined fields_of is_remote remotes offset_of written fits first_from layout_of start_of metadata_of same_by is_in times_in firsts_after
     size_before good_ones cut_by sum_of flat_map zip_with drawn_or data_of totals_for totals_of file_size summed fitting begin joined add drop_last called after ran
 one_dropped = refl
@@ -52,7 +52,7 @@ one_dropped = refl
 pub just_fits : (ran (summed plan 29) (add_yard yard space ∷ [])).totals.yards ≡ 1
 unfolding plain_move_bytes packed_number packed_move_bytes move_to moves_from points_of moves_of good_pieces packed_from first_pieces pieces_of is_still every sized near
     checks plain_border packed_border border_of insert_by sorted_by digits_of varint_of signed_form interleaved characters started_by begun_by followed goes_on is_utf8
-    appended with_border drawn_from drawn_of lesser greater best_by lowest_of highest_of box_bytes entry_bytes table_from from_south table_of head_from head_of is_text
+    appended with_border drawn_from drawn_of lesser greater best_by farthest_of box_bytes entry_bytes table_from from_south table_of head_from head_of is_text
     are_texts readable known inlined fields_of is_remote remotes offset_of written fits first_from layout_of start_of metadata_of same_by is_in times_in firsts_after
     size_before good_ones cut_by sum_of flat_map zip_with drawn_or data_of totals_for totals_of file_size summed fitting begin joined add drop_last called after ran
 just_fits = refl
@@ -60,7 +60,7 @@ just_fits = refl
 pub too_long : called (summed plan 28) (add_yard yard space) ≡ refused (plain 28)
 unfolding plain_move_bytes packed_number packed_move_bytes move_to moves_from points_of moves_of good_pieces packed_from first_pieces pieces_of is_still every sized near
     checks plain_border packed_border border_of insert_by sorted_by digits_of varint_of signed_form interleaved characters started_by begun_by followed goes_on is_utf8
-    appended with_border drawn_from drawn_of lesser greater best_by lowest_of highest_of box_bytes entry_bytes table_from from_south table_of head_from head_of is_text
+    appended with_border drawn_from drawn_of lesser greater best_by farthest_of box_bytes entry_bytes table_from from_south table_of head_from head_of is_text
     are_texts readable known inlined fields_of is_remote remotes offset_of written fits first_from layout_of start_of metadata_of same_by is_in times_in firsts_after
     size_before good_ones cut_by sum_of flat_map zip_with drawn_or data_of totals_for totals_of file_size summed fitting begin joined add drop_last called after ran
 too_long = refl
@@ -68,7 +68,7 @@ too_long = refl
 pub none_to_drop : called begun (drop_yard space) ≡ refused (plain 29)
 unfolding plain_move_bytes packed_number packed_move_bytes move_to moves_from points_of moves_of good_pieces packed_from first_pieces pieces_of is_still every sized near
     checks plain_border packed_border border_of insert_by sorted_by digits_of varint_of signed_form interleaved characters started_by begun_by followed goes_on is_utf8
-    appended with_border drawn_from drawn_of lesser greater best_by lowest_of highest_of box_bytes entry_bytes table_from from_south table_of head_from head_of is_text
+    appended with_border drawn_from drawn_of lesser greater best_by farthest_of box_bytes entry_bytes table_from from_south table_of head_from head_of is_text
     are_texts readable known inlined fields_of is_remote remotes offset_of written fits first_from layout_of start_of metadata_of same_by is_in times_in firsts_after
     size_before good_ones cut_by sum_of flat_map zip_with drawn_or data_of totals_for totals_of file_size summed fitting begin joined add drop_last called after ran
 none_to_drop = refl

@@ -9,7 +9,7 @@ use Rattle.build.specs.Metadata.Kept.{begin_of, values_to}
 use Rattle.draft.proofs.held.Valued.{souths_from, held_all, held_boxes, held_values, held_whole}
 use Rattle.draft.specs.{Held.{State.{Stands}, Totals.{totals_for}}, inner.Summed.Sums.{Arranged, SumsUp, begins_of, souths_of}}
 use Rattle.layout.specs.Order.{key_of, sorted_by}
-use Rattle.draft.specs.declared.summed.sums.Summed.TheVariants as S
+use Rattle.std.specs.Prelude.{Some, None}
 
 module _ (yards : List Yard) (drawn : Drawn) (names count : ℕ) (boxes : List ℤ) (borders lengths texts : List ℕ) (s : Stands yards drawn names count boxes borders lengths texts) where
   own_whole : length texts ≡ sum_of lengths
@@ -52,15 +52,15 @@ module _ (yards : List Yard) (drawn : Drawn) (names count : ℕ) (boxes : List �
 
     pub sums_are : 2 * count ≤ length before → (table metadata : ℕ) (greatest : ℤ) (laid : ℕ) → table ≡ length (table_from 0 0 (map (entry_of_word boxes places) (take count keys)))
         → metadata ≡ records + remote → greatest ≡ highest_of (souths_of boxes count) → laid ≡ records
-        → SumsUp yards drawn places (S.Sums (record { table = table; metadata = metadata; greatest = greatest; records = laid }))
+        → SumsUp yards drawn places (Some (record { table = table; metadata = metadata; greatest = greatest; records = laid }))
     unfolding totals_for
     sums_are room table metadata greatest laid et em eg el = let whole : ℕ = length (table_of (zip_with (entry_of yards) yards drawn.places)) in
         let texts_too : ℕ = length (metadata_of (records_of yards)) in record {
           sums =
-              ap (λ (n : ℕ). S.Sums (record { table = n; metadata = metadata; greatest = greatest; records = laid })) (et ∙ ap length (held_table room))
-              ∙ (ap (λ (n : ℕ). S.Sums (record { table = whole; metadata = n; greatest = greatest; records = laid })) (em ∙ sym held_metadata)
-              ∙ (ap (λ (z : ℤ). S.Sums (record { table = whole; metadata = texts_too; greatest = z; records = laid })) (eg ∙ held_greatest)
-              ∙ ap (λ (n : ℕ). S.Sums (record { table = whole; metadata = texts_too; greatest = highest_of (map (λ (y : Yard). lowest_of y.lats) yards); records = n })) (el ∙ held_records)));
+              ap (λ (n : ℕ). Some (record { table = n; metadata = metadata; greatest = greatest; records = laid })) (et ∙ ap length (held_table room))
+              ∙ (ap (λ (n : ℕ). Some (record { table = whole; metadata = n; greatest = greatest; records = laid })) (em ∙ sym held_metadata)
+              ∙ (ap (λ (z : ℤ). Some (record { table = whole; metadata = texts_too; greatest = z; records = laid })) (eg ∙ held_greatest)
+              ∙ ap (λ (n : ℕ). Some (record { table = whole; metadata = texts_too; greatest = highest_of (map (λ (y : Yard). lowest_of y.lats) yards); records = n })) (el ∙ held_records)));
           begins = held_begins room;
         }
 
@@ -68,8 +68,8 @@ module _ (yards : List Yard) (drawn : Drawn) (names count : ℕ) (boxes : List �
   held_small named = omega (arith, own_whole, s.short, held_all yards drawn names count boxes borders lengths texts s, mul_comm count names, lengths_room names count named s.few)
 
   -- ---- so nothing is broken
-  pub never_long : names ≤ 255 → 536870912 < length texts → (places : List ℕ) → SumsUp yards drawn places S.Broken
+  pub never_long : names ≤ 255 → 536870912 < length texts → (places : List ℕ) → SumsUp yards drawn places None
   never_long named h places = absurd (omega (arith, h, held_small named))
 
-  pub never_other : (b : Bool) → b ≡ eqb (sum_of lengths) (length texts) → b ≡ false → (places : List ℕ) → SumsUp yards drawn places S.Broken
+  pub never_other : (b : Bool) → b ≡ eqb (sum_of lengths) (length texts) → b ≡ false → (places : List ℕ) → SumsUp yards drawn places None
   never_other b e n places = absurd (eqb-false (sum_of lengths) (length texts) (sym e ∙ n) (sym own_whole))

@@ -1,7 +1,7 @@
 -- The lower latitudes of the yards, of their boxes. Assumes nothing.
 use Rattle.numbers.proofs.Prelude.{ℕ, zero, suc, ◌+◌, ◌*◌, ◌≤◌, ◌<◌, ℤ, pos, length, get_or, length-map, lt_z, true, false, List, map, ◌≡◌, refl, sym, ap, subst, ◌∙◌, w32, SFits, of_z, to_z, arith}
 use mir.Facts.{to_z-of_z}
-use Rattle.builder.{proofs.{Bests.{Choosing, highest_none, highest_starts, read_back, choose_goes, choose_ends}, grouping.Listed.{numbers_many}}, specs.Entries.{greater, highest_of}}
+use Rattle.builder.{proofs.{Bests.{Choosing, farthest_none, farthest_starts, read_back, choose_goes, choose_ends}, grouping.Listed.{numbers_many}}, specs.Entries.{greater, highest_of}}
 use Rattle.builder.specs.Grouping.Keys.{numbers_from}
 use Rattle.draft.specs.inner.Summed.Sums.{souths_of}
 
@@ -29,12 +29,12 @@ module _ (boxes : List ℤ) (count : ℕ) where
   Seeking so yard = Choosing greater (highest_of (souths_of boxes count)) (souths_of boxes count) so yard
 
   pub none_greatest : count ≡ 0 → pos 0 ≡ highest_of (souths_of boxes count)
-  none_greatest e = highest_none (souths_of boxes count) (souths_many boxes count ∙ e)
+  none_greatest e = farthest_none greater (souths_of boxes count) (souths_many boxes count ∙ e)
 
   pub seek_starts : (count ≡ 0 → ⊥) → SFits w32 (get_or boxes 0 (pos 0)) → Seeking (to_z w32 (of_z w32 (get_or boxes 0 (pos 0)))) 1
   seek_starts some h = let first : get_or boxes 0 (pos 0) ≡ get_or (souths_of boxes count) 0 (pos 0) = south_stands boxes count 0 (more some) in
       read_back greater (highest_of (souths_of boxes count)) (souths_of boxes count) (get_or boxes 0 (pos 0)) 1 h
-      (subst (λ (z : ℤ). Seeking z 1) (sym first) (highest_starts (souths_of boxes count) (λ e. some (sym (souths_many boxes count) ∙ e)))) where
+      (subst (λ (z : ℤ). Seeking z 1) (sym first) (farthest_starts greater (souths_of boxes count) (λ e. some (sym (souths_many boxes count) ∙ e)))) where
         more : (count ≡ 0 → ⊥) → 0 < count
         more some = omega (arith, some)
 

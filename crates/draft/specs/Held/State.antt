@@ -4,8 +4,7 @@ use Rattle.numbers.specs.{Lists.{zeros}, Prelude.{ℕ, eqb, ℤ, pos, length, ta
 use Rattle.writer.specs.Writer.{every}
 use Rattle.builder.specs.{Borders.{Drawn}, File.{head_of}, Metadata.{fields_of}, Yards.{Text, Plan, Yard, sum_of}}
 use Rattle.build.specs.{Entries.Corners.{corners_of}, Metadata.Kept.{joined}}
-use Rattle.draft.specs.{Held.{Builder.{Builder}, Sound.{Sound}, Totals.{Totals, data_of, totals_of}}, declared.held.{room.Rooms.{Rooms}, state.{Changed.{Changed}, Held.{Held}}}}
-use Rattle.draft.specs.declared.held.state.Changed.TheVariants as C
+use Rattle.draft.specs.{Held.{Builder.{Builder}, Sound.{Sound}, Totals.{Totals, data_of, totals_of}}, declared.held.{room.Rooms.{Rooms}, state.Held.{Held}}}
 
 -- a list begins so, and has this item everywhere behind
 pub record Front {A : Type 0} (none : A) (front list : List A) : Type 0 where
@@ -111,9 +110,9 @@ pub record SameRooms (before after : Lists) : Type 0 where
   pub bytes : length after.bytes ≡ length before.bytes
 
 -- a call leaves the builder that its definition gives, numbers and lists; or it is refused as that is, and changes no list
-unfoldable pub Answers : Reply Builder → Lists → Lists → Changed → Type 0
-Answers reply before after (C.Into held) = (b : Builder) × ((reply ≡ given b) × (Holds b held after × SameRooms before after))
-Answers reply before after (C.Refused why) = (reply ≡ refused why) × (after ≡ before)
+unfoldable pub Answers : Reply Builder → Lists → Lists → Reply Held → Type 0
+Answers reply before after (given held) = (b : Builder) × ((reply ≡ given b) × (Holds b held after × SameRooms before after))
+Answers reply before after (refused why) = (reply ≡ refused why) × (after ≡ before)
 
 -- the lists that a call is lent to work in
 pub record Works : Type 0 where

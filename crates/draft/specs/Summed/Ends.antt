@@ -1,25 +1,24 @@
 -- The end of a builder.
 use Rattle.std.specs.Prelude.{◌+◌, ◌-◌, ◌*◌, ◌^◌, ◌≤◌, ◌&&◌, ◌≡◌}
-use Rattle.numbers.specs.{Lists.{zeros}, Prelude.{ℕ, eqb, leb, length, take, drop, Bool, true, false, List}, Reply.{Reply, plain}}
+use Rattle.numbers.specs.{Lists.{zeros}, Prelude.{ℕ, eqb, leb, length, take, drop, Bool, true, false, List}, Reply.{Reply, refused, plain}}
 use Rattle.numbers.specs.declared.refusal.Refusal.{Refusal}
 use Rattle.builder.specs.{File.{fitted}, Yards.{sum_of}}
-use Rattle.build.specs.{Room.{enough}, Whole.{told_built}, declared.{file.Built.{Built}, room.Work.{Work}}}
+use Rattle.build.specs.{Room.{enough}, declared.room.Work.{Work}}
 use Rattle.draft.specs.{Held.{Builder.{Builder, finish}, Space.{Space, long_enough, standing}, State.{Holds, Lists}}, declared.held.{room.Rooms.{Rooms}, state.Held.{Held}}}
-use Rattle.build.specs.declared.file.Built.TheVariants as W
 
 -- what is asked of the lists that are lent with a builder
 abbrev pub space_of : Held → Rooms → Space
 space_of held r = record { bytes = r.bytes; lists = long_enough r held.names held.yards held.front held.strings }
 
 -- the reply and the output
-unfoldable pub Finishes : Reply (List ℕ) → ℕ → List ℕ → Built → Type 0
-Finishes reply room out r = record { reply = told_built r; out = out } ≡ fitted room reply
+unfoldable pub Finishes : Reply (List ℕ) → ℕ → List ℕ → Reply ℕ → Type 0
+Finishes reply room out r = record { reply = r; out = out } ≡ fitted room reply
 
 -- the file of a builder that calls have made, in an output of this length; where its numbers do not fit its lists, 28; a refusal leaves zeros, whatever the state
-pub record Files (held : Held) (rooms : Rooms) (lists : Lists) (room : ℕ) (out : List ℕ) (built : Built) : Type 0 where
+pub record Files (held : Held) (rooms : Rooms) (lists : Lists) (room : ℕ) (out : List ℕ) (built : Reply ℕ) : Type 0 where
   pub answers : (b : Builder) → Holds b held lists → Finishes (finish b room (space_of held rooms)) room out built
-  pub broken : standing held rooms ≡ false → built ≡ W.Refused (plain 28)
-  pub emptied : (why : Refusal) → built ≡ W.Refused why → out ≡ zeros room
+  pub broken : standing held rooms ≡ false → built ≡ refused (plain 28)
+  pub emptied : (why : Refusal) → built ≡ refused why → out ≡ zeros room
 
 -- ---- what the inner functions say of each other
 -- the numbers of a builder fit these lengths

@@ -1,6 +1,4 @@
 // A builder's numbers. What it holds lies in the lists that are lent with it.
-use numbers::refusal::Refusal;
-
 #[derive(Clone, Copy)]
 pub struct Held {
     // What the file to come is like.
@@ -20,11 +18,4 @@ pub struct Held {
     pub bytes: usize,
     pub yards: usize,
     pub greatest: i32,
-}
-
-// What a call makes of a builder.
-#[derive(Clone, Copy)]
-pub enum Changed {
-    Into(Held),
-    Refused(Refusal),
 }

@@ -17,10 +17,8 @@ fn spread_borders(borders: &[u32], places: &mut [u32])
     requires { 2 * length borders.now ≤ length places.old }
     ensures { places.new ≡ spread 1 borders.now places.old }
 {
-    let mut i = 0;
-    while i < borders.len() {
-        places[2 * i + 1] = borders[i];
-        i += 1;
+    for (i, border) in borders.iter().enumerate() {
+        places[2 * i + 1] = *border;
     }
 }
 

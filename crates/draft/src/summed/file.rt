@@ -3,10 +3,11 @@ ghost use Rattle.std.specs.Prelude.{◌≡◌, length};
 ghost use Rattle.writer.specs.inner.Stored.{Stored};
 ghost use Rattle.builder.specs.File.{file_of};
 ghost use Rattle.build.specs.Room.{work_of};
-ghost use Rattle.draft.specs.Held.{Builder.{Builder}, State.{Holds, lists_as}, Totals.{data_of}};
+ghost use Rattle.draft.specs.Held.{Builder.{Builder}, State.{Holds}, Totals.{data_of}};
 ghost use Rattle.numbers.specs.Lists.{zeros};
-ghost use Rattle.draft.specs.Summed.Ends.{texts_whole, Texts, Putting};
+ghost use Rattle.draft.specs.{Summed.Ends.{texts_whole, Texts, Putting}, inner.Summed.Sums.{lists_in}};
 
+use crate::held::own::Own;
 use crate::held::state::Held;
 use crate::summed::arrange::lay_out;
 use crate::summed::sums::is_sum;
@@ -32,11 +33,7 @@ pub(crate) fn are_whole(builder: Held, lengths: &[u32]) -> bool
 
 pub(crate) fn put_file(
     builder: Held,
-    boxes: &[i32],
-    borders: &[u32],
-    lengths: &[u32],
-    texts: &[u8],
-    bytes: &[u8],
+    own: Own,
     starts: &mut [u32],
     keys: &mut [u64],
     spare: &mut [u64],
@@ -46,8 +43,8 @@ pub(crate) fn put_file(
     places: &mut [u32],
     out: &mut [u8],
 ) -> usize
-    requires { Putting builder lengths.now (length texts.now) (length borders.now) (length bytes.now) (work_of (length starts.old) (length keys.old) (length spare.old) (length kept.old) (length held.old) (length words.old) (length places.old) (length boxes.now)) }
-    ensures { (b : Builder) → Holds b builder (lists_as boxes.now borders.now lengths.now texts.now bytes.now)
+    requires { Putting builder own.lengths.now (length own.texts.now) (length own.borders.now) (length own.bytes.now) (work_of (length starts.old) (length keys.old) (length spare.old) (length kept.old) (length held.old) (length words.old) (length places.old) (length own.boxes.now)) }
+    ensures { (b : Builder) → Holds b builder (lists_in own.entry)
         → Stored (zeros (length out.old)) 0 (file_of b.plan (data_of b.plan)) out.new result }
 {
     let names = builder.names as usize;
@@ -60,10 +57,10 @@ pub(crate) fn put_file(
     let section = lay_out(
         names,
         count,
-        boxes,
-        borders,
-        &lengths[front..all],
-        &texts[behind..sum],
+        own.boxes,
+        own.borders,
+        &own.lengths[front..all],
+        &own.texts[behind..sum],
         starts,
         keys,
         spare,
@@ -84,17 +81,17 @@ pub(crate) fn put_file(
     let metadata = records as u64 + section.remote as u64;
     write_file(
         form,
-        &lengths[..front],
-        &texts[..behind],
+        &own.lengths[..front],
+        &own.texts[..behind],
         &keys[..count],
-        boxes,
+        own.boxes,
         places,
         records,
         metadata,
         &words[..n],
         &kept[..n],
         &held[..m],
-        &bytes[..size],
+        &own.bytes[..size],
         out,
     )
 }

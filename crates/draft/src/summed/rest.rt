@@ -3,10 +3,6 @@ ghost use Rattle.std.specs.Prelude.{◌≡◌, length};
 ghost use Rattle.numbers.specs.Lists.{zeros};
 ghost use Rattle.draft.specs.Held.State.{Idle, works_as};
 
-use build::zero::zero_longs;
-use header::field::zero;
-use header::zero::zero_words;
-
 // All but the output.
 pub fn rest_work(
     starts: &mut [u32],
@@ -20,13 +16,13 @@ pub fn rest_work(
     ensures { Idle (works_as starts.old keys.old spare.old kept.old held.old words.old places.old)
         (works_as starts.new keys.new spare.new kept.new held.new words.new places.new) }
 {
-    zero_words(starts);
-    zero_longs(keys);
-    zero_longs(spare);
-    zero_words(kept);
-    zero(held);
-    zero_words(words);
-    zero_words(places);
+    starts.fill(0);
+    keys.fill(0);
+    spare.fill(0);
+    kept.fill(0);
+    held.fill(0);
+    words.fill(0);
+    places.fill(0);
 }
 
 // The output too.
@@ -45,5 +41,5 @@ pub fn rest(
         × (out.new ≡ zeros (length out.old)) }
 {
     rest_work(starts, keys, spare, kept, held, words, places);
-    zero(out);
+    out.fill(0);
 }

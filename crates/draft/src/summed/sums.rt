@@ -21,13 +21,6 @@ pub struct Sums {
     pub records: u32,
 }
 
-#[derive(Clone, Copy)]
-pub enum Summed {
-    Sums(Sums),
-    // The lengths are not those of the texts.
-    Broken,
-}
-
 // The greatest of the lower latitudes, which stand at every fourth place; 0 of none.
 fn greatest_of(boxes: &[i32], count: usize) -> i32
     requires { (4 * count ≤ length boxes.now) × (count ≤ 4096) }
@@ -37,10 +30,8 @@ fn greatest_of(boxes: &[i32], count: usize) -> i32
         return 0;
     }
     let mut greatest = boxes[0];
-    let mut yard = 1;
-    while yard < count {
+    for yard in 1..count {
         let south = boxes[4 * yard];
-        yard += 1;
         if greatest < south {
             greatest = south;
         }
@@ -53,18 +44,17 @@ pub fn is_sum(lengths: &[u32], sum: usize) -> bool
     ensures { result ≡ eqb (sum_of lengths.now) sum }
 {
     let mut left = sum;
-    let mut i = 0;
-    while i < lengths.len() {
-        let length = lengths[i] as usize;
+    for length in lengths {
+        let length = *length as usize;
         if left < length {
             return false;
         }
         left -= length;
-        i += 1;
     }
     left == 0
 }
 
+// None if the lengths are not those of the texts.
 pub fn sum_up(
     names: usize,
     count: usize,
@@ -79,28 +69,27 @@ pub fn sum_up(
     held: &mut [u8],
     words: &mut [u32],
     places: &mut [u32],
-) -> Summed
+) -> Option<Sums>
     requires { Summing names count (length lengths.now) (length borders.now) (length texts.now) (work_of (length starts.old) (length keys.old) (length spare.old) (length kept.old) (length held.old) (length words.old) (length places.old) (length boxes.now)) }
     ensures { (yards : List Yard) (drawn : Drawn) → Stands yards drawn names count boxes.now borders.now lengths.now texts.now → SumsUp yards drawn places.new result }
 {
     // So many texts of 255 bytes are shorter.
     if 0x2000_0000 < texts.len() {
-        return Summed::Broken;
+        return None;
     }
     if !is_sum(lengths, texts.len()) {
-        return Summed::Broken;
+        return None;
     }
     let section = lay_out(
         names, count, boxes, borders, lengths, texts, starts, keys, spare, kept, held, words,
         places,
     );
-    let sums = Sums {
+    Some(Sums {
         table: table_size(&keys[..count], boxes, places),
         metadata: section.records as usize + section.remote as usize,
         greatest: greatest_of(boxes, count),
         records: section.records,
-    };
-    Summed::Sums(sums)
+    })
 }
 
 // Whether a file of these sections fits, behind a head of this length. None of them may be over 1 GiB, so no sum is too large.

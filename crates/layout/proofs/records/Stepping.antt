@@ -1,7 +1,8 @@
 -- Stepping towards the least length that fits: each step rises, and stays at or below every length that fits. Assumes nothing.
+use Rattle.std.specs.Prelude.{Some, None}
 use Rattle.numbers.proofs.Prelude.{ℕ, ◌^◌, ◌≤◌, ◌<◌, List, ◌≡◌, le_refl, arith}
 use Rattle.layout.proofs.Steps.{next_rises, next_under, inline_first, inline_under}
-use Rattle.layout.specs.{declared.records.Laid.TheVariants.{Records, TooLong}, inner.{Answers.{LaidOut}, Layout.{next, Fits}}}
+use Rattle.layout.specs.{inner.{Answers.{LaidOut}, Layout.{next, Fits}}}
 
 -- the loop's invariant
 pub record Rising (inline : ℕ) (words : List ℕ) (records : ℕ) : Type 0 where
@@ -25,10 +26,10 @@ module _ (inline : ℕ) (words : List ℕ) (records : ℕ) (r : Rising inline wo
   grows step e other = omega (arith, r.rises)
 
   -- the two ways out
-  pub fits : (step : ℕ) → step ≡ next inline words records → step ≡ records → records < 2 ^ 32 → LaidOut inline words (Records records)
+  pub fits : (step : ℕ) → step ≡ next inline words records → step ≡ records → records < 2 ^ 32 → LaidOut inline words (Some records)
   unfolding LaidOut Fits
   fits step e same h = (record { fits = omega arith; least = r.under }, h)
 
-  pub too_long : 2 ^ 32 ≤ records → LaidOut inline words TooLong
+  pub too_long : 2 ^ 32 ≤ records → LaidOut inline words None
   unfolding LaidOut
   too_long h other f = omega (arith, r.under other f)

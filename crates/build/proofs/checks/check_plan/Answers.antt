@@ -1,17 +1,17 @@
 -- `build::checks::check_plan` meets its contract.
-use Rattle.numbers.proofs.Prelude.{rules, length-take-le, sym, ◌∙◌, arith}
+use Rattle.numbers.proofs.Prelude.{ap, length-take-le, sym, ◌∙◌, arith}
 use Rattle.build.proofs.{Planned.{few_names, few_yards, all_lengths, border_bad, counts_bad, texts_bad, form_bad, all_good}}
-use Rattle.builder.proofs.{Checking.{drawn_tag}, Counting.{lengths_room}}
+use Rattle.numbers.{proofs.Replies.{passed_on}, specs.Reply.{refused}}
+use Rattle.builder.proofs.Counting.{lengths_room}
 use Rattle.build.proofs.checks.check_plan.Goals as goal
 
-pub returns-in-Refused : goal.returns-in-Refused
-returns-in-Refused c =
-    λ pieces. border_bad _ _ _ _ _ _ _ _ _ pieces c.check_yards-bordered.result c.check_yards-bordered.ensures _ c.in-Refused.is
+pub returns-in_err-check_yards : goal.returns-in_err-check_yards
+returns-in_err-check_yards c =
+    passed_on _ c.from_residual.ensures.1 ∙ border_bad _ _ _ _ _ _ _ _ _ c.args.plan.pieces.now c.check_yards.result c.check_yards.ensures _ c.in_err-check_yards.was
 
 pub returns-then-not-are_counted : goal.returns-then-not-are_counted
 returns-then-not-are_counted c =
-    λ pieces. counts_bad _ _ _ _ _ _ _ _ _ pieces c.check_yards-bordered.result c.check_yards-bordered.ensures (drawn_tag c.check_yards-bordered.result ((search
-    rules))) _ c.are_counted.ensures c.if-not-are_counted.true _ c.refused.ensures
+    counts_bad _ _ _ _ _ _ _ _ _ c.args.plan.pieces.now c.check_yards.result c.check_yards.ensures c.in_ok-check_yards.was _ c.are_counted.ensures c.if-not-are_counted.true _ (ap refused c.alone.ensures)
 
 pub overflow_mul-all : goal.overflow_mul-all
 overflow_mul-all c =
@@ -32,16 +32,13 @@ slice_bounds-are_texts-end c =
 
 pub returns-then-not-are_texts : goal.returns-then-not-are_texts
 returns-then-not-are_texts c =
-    λ pieces. texts_bad _ _ _ _ _ _ _ _ _ pieces c.check_yards-bordered.result c.check_yards-bordered.ensures (drawn_tag c.check_yards-bordered.result ((search
-    rules))) _ c.are_counted.ensures c.if-not-are_counted.false _ c.are_texts.ensures c.if-not-are_texts.true _ c.refused-then-not-are_texts.ensures
+    texts_bad _ _ _ _ _ _ _ _ _ c.args.plan.pieces.now c.check_yards.result c.check_yards.ensures c.in_ok-check_yards.was _ c.are_counted.ensures c.if-not-are_counted.false _ c.are_texts.ensures c.if-not-are_texts.true _ (ap refused c.alone-then-not-are_texts.ensures)
 
 pub returns-then-not-is_known : goal.returns-then-not-is_known
 returns-then-not-is_known c =
-    λ pieces. form_bad _ _ _ _ _ _ _ _ _ pieces c.check_yards-bordered.result c.check_yards-bordered.ensures (drawn_tag c.check_yards-bordered.result ((search
-    rules))) _ c.are_counted.ensures c.if-not-are_counted.false _ c.are_texts.ensures c.if-not-are_texts.false _ c.is_known.ensures c.if-not-is_known.true _
-    c.refused-then-not-is_known.ensures
+    form_bad _ _ _ _ _ _ _ _ _ c.args.plan.pieces.now c.check_yards.result c.check_yards.ensures c.in_ok-check_yards.was _ c.are_counted.ensures c.if-not-are_counted.false _ c.are_texts.ensures c.if-not-are_texts.false _ c.is_known.ensures c.if-not-is_known.true _
+    (ap refused c.alone-then-not-is_known.ensures)
 
 pub returns : goal.returns
 returns c =
-    λ pieces. all_good _ _ _ _ _ _ _ _ _ pieces c.check_yards-bordered.result c.check_yards-bordered.ensures (drawn_tag c.check_yards-bordered.result ((search
-    rules))) _ c.are_counted.ensures c.if-not-are_counted.false _ c.are_texts.ensures c.if-not-are_texts.false _ c.is_known.ensures c.if-not-is_known.false
+    all_good _ _ _ _ _ _ _ _ _ c.args.plan.pieces.now c.check_yards.result c.check_yards.ensures c.in_ok-check_yards.was _ c.are_counted.ensures c.if-not-are_counted.false _ c.are_texts.ensures c.if-not-are_texts.false _ c.is_known.ensures c.if-not-is_known.false

@@ -5,7 +5,7 @@ use Rattle.build.proofs.file.build.Goals as goal
 
 pub fill_all-built-requires : goal.fill_all-built-requires
 fill_all-built-requires c =
-    zero_first (length c.args.bytes.now) _ c.zero.ensures
+    zero_first (length c.args.bytes.now) _ (c.fill.ensures.after (λ y h. h))
 
 pub shape_of-bytes : goal.shape_of-bytes
 shape_of-bytes c =

@@ -4,14 +4,14 @@ use Rattle.build.proofs.file.clear.Goals as goal
 pub returns : goal.returns
 returns c =
     record {
-      starts_zero = c.zero_words.ensures;
-      keys_zero = c.zero_longs.ensures;
-      spare_zero = c.zero_longs-2.ensures;
-      kept_zero = c.zero_words-2.ensures;
-      held_zero = c.zero.ensures;
-      words_zero = c.zero_words-3.ensures;
-      places_zero = c.zero_words-4.ensures;
-      boxes_zero = c.zero_numbers.ensures;
+      starts_zero = c.fill.ensures.after (λ y h. h);
+      keys_zero = c.fill-2.ensures.after (λ y h. h);
+      spare_zero = c.fill-3.ensures.after (λ y h. h);
+      kept_zero = c.fill-4.ensures.after (λ y h. h);
+      held_zero = c.fill-5.ensures.after (λ y h. h);
+      words_zero = c.fill-6.ensures.after (λ y h. h);
+      places_zero = c.fill-7.ensures.after (λ y h. h);
+      boxes_zero = c.fill-8.ensures.after (λ y h. h);
       bytes_zero =
-          c.zero-2.ensures;
+          c.fill-9.ensures.after (λ y h. h);
     }

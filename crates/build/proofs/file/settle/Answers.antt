@@ -1,11 +1,12 @@
 -- `build::file::settle` meets its contract.
-use Rattle.build.proofs.{Needed.{settle_length, settle_refused}}
+use Rattle.numbers.proofs.Prelude.{sym, ◌∙◌}
+use Rattle.build.proofs.{Needed.{settle_given, settle_refused}}
 use Rattle.build.proofs.file.settle.Goals as goal
 
-pub returns-in-Length : goal.returns-in-Length
-returns-in-Length c =
-    settle_length _ _ c.in-Length.is _
+pub returns-then-is_err : goal.returns-then-is_err
+returns-then-is_err c =
+    settle_refused _ (sym c.is_err.ensures.value ∙ c.if-is_err.true) _ _ (c.fill.ensures.after (λ y h. h))
 
-pub returns-in-Refused : goal.returns-in-Refused
-returns-in-Refused c =
-    settle_refused _ _ c.in-Refused.is _ _ c.zero.ensures
+pub returns-else-is_err : goal.returns-else-is_err
+returns-else-is_err c =
+    settle_given _ (sym c.is_err.ensures.value ∙ c.if-is_err.false) _

@@ -17,4 +17,4 @@ put_sections-requires c = (
 
 pub returns : goal.returns
 returns c =
-    file_stored _ _ _ _ _ _ c.zero.ensures c.put_head-head.ensures c.table_size-table.ensures c.requires.2.size_is c.put_sizes-sizes.ensures c.put_sections.ensures
+    file_stored _ _ _ _ _ _ (c.fill.ensures.after (λ y h. h)) c.put_head-head.ensures c.table_size-table.ensures c.requires.2.size_is c.put_sizes-sizes.ensures c.put_sections.ensures

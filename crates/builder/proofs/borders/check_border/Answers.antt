@@ -2,10 +2,10 @@
 use Rattle.builder.proofs.{Draws.{check_never, check_says}}
 use Rattle.builder.proofs.borders.check_border.Goals as goal
 
-pub returns-in-Wrote : goal.returns-in-Wrote
-returns-in-Wrote c =
-    absurd (check_never _ _ _ _ c.write_border_words-written.ensures _ c.in-Wrote.is)
+pub returns-in-Ok : goal.returns-in-Ok
+returns-in-Ok c =
+    absurd (check_never _ _ _ _ c.write_border_words.ensures _ c.in-Ok.is)
 
-pub returns-in-Refused : goal.returns-in-Refused
-returns-in-Refused c =
-    check_says _ _ _ _ c.write_border_words-written.ensures _ _ c.in-Refused.is _ c.good_if.ensures
+pub returns-in-Err : goal.returns-in-Err
+returns-in-Err c =
+    check_says _ _ _ _ c.write_border_words.ensures _ c.in-Err.is _ c.good_if.ensures

@@ -2,22 +2,18 @@
 use Rattle.builder.proofs.{Counting.{numbers_start, number_bad, number_good, numbers_end}}
 use Rattle.builder.proofs.counts.are_numbered.Goals as goal
 
-pub loop-i-init : goal.loop-i-init
-loop-i-init c =
-    numbers_start _ _
+pub loop-yard-init : goal.loop-yard-init
+loop-yard-init c =
+    rw (c.into_iter-yard-iterator.ensures.into_iter_gives) (numbers_start _ _ _ _ c.chunks_exact-yard-items.ensures.rest c.chunks_exact-yard-items.ensures.size)
 
-pub overflow_sub-yards : goal.overflow_sub-yards
-overflow_sub-yards c =
-    c.loop-i.invariant.index
+pub returns-then-names-yard : goal.returns-then-names-yard
+returns-then-names-yard c =
+    number_bad c.args.names c.args.yards.now _ _ c.loop-yard.invariant _ _ c.in-Some.ensures.steps.1.0 c.in-Some.ensures.steps.1.1 c.if-names-yard.true
 
-pub returns-then-names-values : goal.returns-then-names-values
-returns-then-names-values c =
-    number_bad c.args.names c.args.yards.now c.loop-i.i c.loop-i.invariant c.loop-i-test.true c.if-names-values.true
-
-pub loop-i-preserved : goal.loop-i-preserved
-loop-i-preserved c =
-    number_good c.args.names c.args.yards.now c.loop-i.i c.loop-i.invariant c.loop-i-test.true c.if-names-values.false
+pub loop-yard-preserved : goal.loop-yard-preserved
+loop-yard-preserved c =
+    number_good c.args.names c.args.yards.now _ _ c.loop-yard.invariant _ _ c.in-Some.ensures.steps.1.0 c.in-Some.ensures.steps.1.1 c.if-names-yard.false _ c.in-Some.ensures.steps.0
 
 pub returns : goal.returns
 returns c =
-    numbers_end c.args.names c.args.yards.now c.loop-i.i c.loop-i.invariant c.loop-i-test.false
+    numbers_end c.args.names c.args.yards.now _ _ c.loop-yard.invariant c.in-None.ensures.steps.1.0

@@ -3,22 +3,22 @@ use Rattle.numbers.proofs.Prelude.{arith}
 use Rattle.builder.proofs.{Puts.{put_starts, put_goes, put_ends_plain}}
 use Rattle.builder.proofs.put.put_bytes.Goals as goal
 
-pub loop-i-init : goal.loop-i-init
-loop-i-init c =
+pub loop-byte-init : goal.loop-byte-init
+loop-byte-init c =
     put_starts _ _ _ _
 
 pub put_byte-next-requires : goal.put_byte-next-requires
 put_byte-next-requires c =
-    omega (arith, c.loop-i.invariant.next_is, c.loop-i.invariant.index, c.requires)
+    omega (arith, c.loop-byte.invariant.next_is, c.loop-byte.invariant.index, c.requires)
 
-pub loop-i-preserved : goal.loop-i-preserved
-loop-i-preserved c =
-    put_goes _ _ _ _ _ _ _ _ _ c.loop-i.invariant c.loop-i-test.true c.put_byte-next.ensures
+pub loop-byte-preserved : goal.loop-byte-preserved
+loop-byte-preserved c =
+    put_goes _ _ _ _ _ _ _ _ _ c.loop-byte.invariant c.loop-byte-test.true c.put_byte-next.ensures
 
 pub shape_of-out : goal.shape_of-out
 shape_of-out c =
-    c.loop-i.invariant.left.size
+    c.loop-byte.invariant.left.size
 
 pub returns : goal.returns
 returns c =
-    put_ends_plain _ _ _ _ _ _ c.loop-i.invariant c.loop-i-test.false
+    put_ends_plain _ _ _ _ _ _ c.loop-byte.invariant c.loop-byte-test.false

@@ -1,11 +1,7 @@
 -- `builder::put::put_masked` meets its contract.
-use Rattle.numbers.proofs.Prelude.{◌-◌, length}
 use Rattle.builder.proofs.{Puts.{Putting}}
 use Rattle.header.specs.Utf8.{unmasked}
 use Rattle.builder.proofs.put.put_masked.Given as goal
 
-abbrev pub invariant-loop-i : goal.invariant-loop-i
-invariant-loop-i l = Putting unmasked l.initial.out l.place l.bytes l.out l.next l.i
-
-abbrev pub decreases-loop-i : goal.decreases-loop-i
-decreases-loop-i l = length l.bytes - l.i
+abbrev pub invariant-loop-byte : goal.invariant-loop-byte
+invariant-loop-byte l = Putting unmasked l.initial.out l.place l.bytes l.out l.next l.byte-index

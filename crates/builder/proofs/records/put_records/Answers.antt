@@ -8,10 +8,6 @@ pub loop-i-init : goal.loop-i-init
 loop-i-init c =
     inlines_start (field_bytes c.args.records c.args.words.now) _ _ _ _ c.requires.1 c.requires.2
 
-pub overflow_cast-size : goal.overflow_cast-size
-overflow_cast-size c =
-    omega (arith, c.type_inv.lengths c.loop-i.i)
-
 pub overflow_add-end : goal.overflow_add-end
 overflow_add-end c =
     omega (

@@ -1,47 +1,35 @@
 -- `builder::yards::check_yards` meets its contract.
-use Rattle.numbers.proofs.Prelude.{◌+◌, rules, arith}
-use Rattle.builder.proofs.{Checking.{check_starts, check_refused, check_goes, check_ends, drawn_tag}}
+use Rattle.numbers.proofs.{Prelude.{◌∙◌}, Replies.{passed_on}}
+use Rattle.builder.proofs.{Checking.{check_starts, check_refused, check_goes, check_ends}}
 use Rattle.builder.proofs.yards.check_yards.Goals as goal
 
-pub loop-i-init : goal.loop-i-init
-loop-i-init c =
-    check_starts _ _ _
+pub loop-yard-init : goal.loop-yard-init
+loop-yard-init c =
+    rw (c.into_iter-yard-iterator.ensures.into_iter_gives) (check_starts _ _ _ _ _ c.chunks_exact-yard-items.ensures.rest c.chunks_exact-yard-items.ensures.size)
 
-pub overflow_sub-yards : goal.overflow_sub-yards
-overflow_sub-yards c =
-    c.loop-i.invariant.index
+pub check_part-requires : goal.check_part-requires
+check_part-requires c =
+    (c.loop-yard.invariant.tall, c.loop-yard.invariant.wide)
 
-pub overflow_cast-tall : goal.overflow_cast-tall
-overflow_cast-tall c =
-    omega (arith, c.type_inv.yards c.loop-i.i)
-
-pub overflow_cast-wide : goal.overflow_cast-wide
-overflow_cast-wide c =
-    omega (arith, c.type_inv.yards (c.loop-i.i + 1))
-
-pub check_part-checked-requires : goal.check_part-checked-requires
-check_part-checked-requires c =
-    (c.loop-i.invariant.tall, c.loop-i.invariant.wide)
-
-pub returns-in-Refused : goal.returns-in-Refused
-returns-in-Refused c =
-    check_refused c.args.yards.now c.args.lats.now c.args.lons.now c.loop-i.lat c.loop-i.lon c.loop-i.i c.loop-i.invariant c.loop-i-test.true _
-    c.check_part-checked.ensures _ c.in-Refused.is
+pub returns-in_err-check_part : goal.returns-in_err-check_part
+returns-in_err-check_part c =
+    passed_on _ c.from_residual.ensures.1 ∙ check_refused c.args.yards.now c.args.lats.now c.args.lons.now _ _ c.loop-yard.lat c.loop-yard.lon c.loop-yard.invariant _ _
+    c.in-Some.ensures.steps.1.0 c.in-Some.ensures.steps.1.1 _ c.check_part.ensures _ c.in_err-check_part.was
 
 pub next_part-lat-requires : goal.next_part-lat-requires
 next_part-lat-requires c =
-    c.loop-i.invariant.tall
+    c.loop-yard.invariant.tall
 
 pub next_part-lon-requires : goal.next_part-lon-requires
 next_part-lon-requires c =
-    c.loop-i.invariant.wide
+    c.loop-yard.invariant.wide
 
-pub loop-i-preserved : goal.loop-i-preserved
-loop-i-preserved c =
-    check_goes c.args.yards.now c.args.lats.now c.args.lons.now c.loop-i.lat c.loop-i.lon c.loop-i.i c.loop-i.invariant c.loop-i-test.true
-    c.check_part-checked.result c.check_part-checked.ensures (drawn_tag c.check_part-checked.result ((search rules))) _ _ c.next_part-lat.ensures
-    c.next_part-lon.ensures
+pub loop-yard-preserved : goal.loop-yard-preserved
+loop-yard-preserved c =
+    check_goes c.args.yards.now c.args.lats.now c.args.lons.now _ _ c.loop-yard.lat c.loop-yard.lon c.loop-yard.invariant _ _
+    c.in-Some.ensures.steps.1.0 c.in-Some.ensures.steps.1.1 c.check_part.result c.check_part.ensures c.in_ok-check_part.was _ _ c.next_part-lat.ensures c.next_part-lon.ensures _
+    c.in-Some.ensures.steps.0
 
 pub returns : goal.returns
 returns c =
-    check_ends c.args.yards.now c.args.lats.now c.args.lons.now c.loop-i.lat c.loop-i.lon c.loop-i.i c.loop-i.invariant c.loop-i-test.false
+    check_ends c.args.yards.now c.args.lats.now c.args.lons.now _ _ c.loop-yard.lat c.loop-yard.lon c.loop-yard.invariant c.in-None.ensures.steps.1.0

@@ -1,10 +1,6 @@
 -- `builder::yards::check_yards` meets its contract.
-use Rattle.numbers.proofs.Prelude.{◌-◌, length}
 use Rattle.builder.proofs.{Checking.{Checking}}
 use Rattle.builder.proofs.yards.check_yards.Given as goal
 
-abbrev pub invariant-loop-i : goal.invariant-loop-i
-invariant-loop-i l = Checking l.yards l.lats l.lons l.lat l.lon l.i
-
-abbrev pub decreases-loop-i : goal.decreases-loop-i
-decreases-loop-i l = length l.yards - l.i
+abbrev pub invariant-loop-yard : goal.invariant-loop-yard
+invariant-loop-yard l = Checking l.yards l.lats l.lons l.yard-iterator.rest.now l.yard-iterator.size l.lat l.lon

@@ -2,8 +2,7 @@
 use Rattle.std.specs.Prelude.{◌+◌, ◌*◌, ◌≤◌, ◌∷◌, ◌≡◌}
 use Rattle.numbers.specs.{Prelude.{ℕ, min, ltb, ℤ, length, take, set, List, []}, Reply.{Reply, given, refused}}
 use Rattle.writer.specs.{Pieces.{pieces_of}, Writer.{border_of}}
-use Rattle.builder.specs.{Borders.{Drawn, appended}, Yards.{part_of}, declared.borders.Border.{Border}}
-use Rattle.builder.specs.declared.borders.Border.TheVariants as B
+use Rattle.builder.specs.{Borders.{Drawn, appended}, Yards.{part_of}}
 
 -- so much is lent for a border of so many points
 pub record LentFor (points room lent : ℕ) : Type 0 where
@@ -27,6 +26,6 @@ pub record Whole (reply : Reply Drawn) (before places bytes : List ℕ) (size : 
   pub front : drawn.bytes ≡ take size bytes
   pub stored : places ≡ spread 1 drawn.places before
 
-unfoldable pub DrawsAll : Reply Drawn → List ℕ → List ℕ → List ℕ → Border → Type 0
-DrawsAll reply before places bytes (B.Drawn size) = Whole reply before places bytes size
-DrawsAll reply before places bytes (B.Refused why) = reply ≡ refused why
+unfoldable pub DrawsAll : Reply Drawn → List ℕ → List ℕ → List ℕ → Reply ℕ → Type 0
+DrawsAll reply before places bytes (given size) = Whole reply before places bytes size
+DrawsAll reply before places bytes (refused why) = reply ≡ refused why

@@ -1,12 +1,15 @@
 -- What the functions that sum up the held yards say of each other.
-use Rattle.std.specs.Prelude.{◌*◌, ◌^◌, ◌≤◌, ◌≡◌}
+use Rattle.std.specs.Prelude.{Option, Some, ◌*◌, ◌^◌, ◌≤◌, ◌≡◌}
 use Rattle.numbers.specs.Prelude.{ℕ, ℤ, pos, length, take, get_or, true, List, map}
 use Rattle.builder.specs.{Borders.{Drawn}, Entries.{word_of_yard}, Grouping.Keys.{numbers_from}, Metadata.{fields_of, layout_of, records_of, start_of}, Yards.{Yard, sum_of}}
 use Rattle.builder.specs.inner.Drawing.Section.{spread}
 use Rattle.build.specs.{Room.{enough}, declared.room.Work.{Work}, inner.Recording.Recorded.{Recorded}}
-use Rattle.draft.specs.{Held.Totals.{Totals, totals_for}, declared.summed.sums.{Summed.{Summed}, Sums.{Sums}}}
+use Rattle.draft.specs.{Held.{State.{Lists, lists_as}, Totals.{Totals, totals_for}}, declared.{held.own.Own.{Own}, summed.sums.Sums.{Sums}}}
 use Rattle.layout.specs.Order.{key_of, sorted_by}
-use Rattle.draft.specs.declared.summed.sums.Summed.TheVariants as S
+
+-- a builder's lists, lent together
+abbrev pub lists_in : Own → Lists
+lists_in own = lists_as own.boxes.now own.borders.now own.lengths.now own.texts.now own.bytes.now
 
 -- so many names and yards, lengths, borders and bytes of texts, and lists that are long enough for them
 pub record Summing (names count lengths borders texts : ℕ) (work : Work) : Type 0 where
@@ -42,8 +45,8 @@ abbrev pub begins_of : List Yard → List ℕ
 begins_of yards = map (λ y. start_of (records_of yards) y.values) yards
 
 -- the sums of some yards; where their records begin stands at every second place of a list
-pub record SumsUp (yards : List Yard) (drawn : Drawn) (places : List ℕ) (r : Summed) : Type 0 where
-  pub sums : r ≡ S.Sums (sums_of yards drawn)
+pub record SumsUp (yards : List Yard) (drawn : Drawn) (places : List ℕ) (r : Option Sums) : Type 0 where
+  pub sums : r ≡ Some (sums_of yards drawn)
   pub begins : map (λ yard. get_or places (2 * yard) 0) (numbers_from 0 (length yards)) ≡ begins_of yards
 
 -- totals with these sizes

@@ -2,14 +2,14 @@
 use Rattle.layout.proofs.records.{Summing.{starts, goes_on, ends}}
 use Rattle.layout.proofs.records.words_size.Goals as goal
 
-pub loop-i-init : goal.loop-i-init
-loop-i-init c =
+pub loop-word-init : goal.loop-word-init
+loop-word-init c =
     starts _ _
 
-pub loop-i-preserved : goal.loop-i-preserved
-loop-i-preserved c =
-    goes_on _ _ _ _ _ c.loop-i.invariant c.loop-i-test.true c.word_size-sum.ensures
+pub loop-word-preserved : goal.loop-word-preserved
+loop-word-preserved c =
+    goes_on _ _ _ _ _ c.loop-word.invariant c.loop-word-test.true c.word_size-sum.ensures
 
 pub returns : goal.returns
 returns c =
-    ends _ _ _ _ c.loop-i.invariant c.loop-i-test.false
+    ends _ _ _ _ c.loop-word.invariant c.loop-word-test.false

@@ -1,10 +1,6 @@
 -- `build::entries::corners::box_yards` meets its contract.
-use Rattle.numbers.proofs.Prelude.{◌-◌, length}
 use Rattle.build.proofs.entries.{Cornered.{Boxing}}
 use Rattle.build.proofs.entries.corners.box_yards.Given as goal
 
-abbrev pub invariant-loop-i : goal.invariant-loop-i
-invariant-loop-i l = Boxing l.yards l.lats l.lons l.initial.boxes l.boxes l.lat l.lon l.i
-
-abbrev pub decreases-loop-i : goal.decreases-loop-i
-decreases-loop-i l = length l.yards - l.i
+abbrev pub invariant-loop-count : goal.invariant-loop-count
+invariant-loop-count l = Boxing l.yards l.lats l.lons l.initial.boxes l.boxes l.lat l.lon l.count-iterator.iter.rest.now l.count-iterator.iter.size l.count-iterator.count

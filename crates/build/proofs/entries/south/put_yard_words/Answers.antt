@@ -40,15 +40,11 @@ overflow_add-keys c =
           ∙ ap from_south (to_z-of_z h)),
     )
 
-pub loop-yard-smaller : goal.loop-yard-smaller
-loop-yard-smaller c =
-    omega (arith, c.loop-yard-test.true, c.loop-yard.invariant.left.size)
-
 pub loop-yard-preserved : goal.loop-yard-preserved
 loop-yard-preserved c =
     let z = get_or c.args.boxes.now (4 * c.loop-yard.yard) (pos 0) in
     let h : SFits w32 z = record { sfits = c.from_south-arg-1.given } in
-    list_goes _ _ _ _ c.loop-yard.invariant c.loop-yard-test.true _ (yard_word c.args.boxes.now _ _ (omega (
+    list_goes _ _ _ _ c.loop-yard.invariant (omega (arith, c.loop-yard-test.true, c.loop-yard.invariant.left.size)) _ (yard_word c.args.boxes.now _ _ (omega (
       arith,
       c.loop-yard-test.true,
       c.loop-yard.invariant.left.size,
@@ -61,4 +57,4 @@ shape_of-keys c =
 
 pub returns : goal.returns
 returns c =
-    list_ends _ _ _ _ c.loop-yard.invariant c.loop-yard-test.false
+    list_ends _ _ _ _ c.loop-yard.invariant (omega (arith, c.loop-yard-test.false, c.loop-yard.invariant.left.size))

@@ -1,11 +1,8 @@
 -- `build::metadata::kept::keep_records` meets its contract.
-use Rattle.numbers.proofs.Prelude.{◌-◌, length}
+use Rattle.numbers.proofs.Prelude.{length}
 use Rattle.build.proofs.metadata.Keeping.{Keeping}
 use Rattle.build.proofs.metadata.kept.keep_records.Given as goal
 
-abbrev pub invariant-loop-yard : goal.invariant-loop-yard
-invariant-loop-yard l =
-    Keeping l.names (length l.keys) l.lengths l.texts l.initial.places l.initial.kept l.initial.held l.places l.kept l.held l.sums.lengths l.sums.bytes l.yard
-
-abbrev pub decreases-loop-yard : goal.decreases-loop-yard
-decreases-loop-yard l = length l.keys - l.yard
+abbrev pub invariant-loop-here : goal.invariant-loop-here
+invariant-loop-here l =
+    Keeping l.names (length l.keys) l.lengths l.texts l.initial.places l.initial.kept l.initial.held l.places l.kept l.held l.sums.lengths l.sums.bytes l.here

@@ -3,14 +3,11 @@ use Rattle.numbers.proofs.Prelude.{refl, arith}
 use Rattle.build.proofs.metadata.{Remoted.{place_starts, text_end, text_fits, next_behind, next_small, place_new, place_old, place_ends}}
 use Rattle.writer.proofs.Stores.{stored_length}
 use Rattle.build.proofs.metadata.remotes.put_remotes.Goals as goal
+use Rattle.build.proofs.metadata.remotes.put_remotes.Goals.{then-word-next, else-word-next}
 
 pub loop-i-init : goal.loop-i-init
 loop-i-init c =
     place_starts _ _ _ c.requires.1 c.requires.3 _ _ c.requires.2
-
-pub overflow_cast-size : goal.overflow_cast-size
-overflow_cast-size c =
-    omega (arith, c.type_inv.lengths c.loop-i.i)
 
 pub overflow_add-at : goal.overflow_add-at
 overflow_add-at c =
@@ -40,13 +37,12 @@ pub put_text-next-requires : goal.put_text-next-requires
 put_text-next-requires c =
     text_fits _ _ _ c.requires.1 c.requires.3 _ _ _ _ _ _ c.loop-i.invariant c.loop-i-test.true
 
-pub loop-i-preserved-then-word-next : goal.loop-i-preserved-then-word-next
-loop-i-preserved-then-word-next c =
-    place_new _ _ _ c.requires.1 c.requires.3 _ _ _ _ _ _ c.loop-i.invariant c.loop-i-test.true _ refl c.if-word-next.true _ _ c.put_text-next.ensures
-
 pub loop-i-preserved : goal.loop-i-preserved
-loop-i-preserved c =
-    place_old _ _ _ c.requires.1 c.requires.3 _ _ _ _ _ _ c.loop-i.invariant c.loop-i-test.true _ refl c.if-word-next.false
+loop-i-preserved c = elim c.if-word-next.branch [
+  | then-word-next w ↦ rw (w.out-is, w.next-is) (place_new _ _ _ c.requires.1 c.requires.3 _ _ _ _ _ _ c.loop-i.invariant c.loop-i-test.true _ refl w.if-word-next.true _ _
+      w.put_text-next.ensures)
+  | else-word-next w ↦ rw (w.out-is, w.next-is) (place_old _ _ _ c.requires.1 c.requires.3 _ _ _ _ _ _ c.loop-i.invariant c.loop-i-test.true _ refl w.if-word-next.false)
+]
 
 pub shape_of-out : goal.shape_of-out
 shape_of-out c =

@@ -1,37 +1,42 @@
 -- `builder::grouping::first::twice_from` meets its contract.
-use Rattle.numbers.proofs.Prelude.{length-map, arith}
+use Rattle.numbers.proofs.Prelude.{◌+◌, ◌≡◌, length-map, ◌∙◌, arith}
 use Rattle.builder.specs.Grouping.Keys.{item_of}
-use Rattle.builder.proofs.grouping.{Finding.{among_item}, Twice.{count_starts, count_past, twice_in, once_in, other_in, none_in}}
+use Rattle.builder.proofs.grouping.{Finding.{among_item, tail_more, tail_none, tail_at, tail_key}, Twice.{count_starts, count_past, twice_in, once_in, other_in, none_in}}
 use Rattle.builder.proofs.grouping.first.twice_from.Goals as goal
+use Rattle.builder.proofs.grouping.first.twice_from.Goals.{then-is_alike+else-found-eq2, else-is_alike}
 
-pub loop-i-init : goal.loop-i-init
-loop-i-init c =
-    count_starts _ _ _ _ (omega (arith, c.requires.3.inside, length-map c.args.keys.now item_of))
+pub loop-word-init : goal.loop-word-init
+loop-word-init c =
+    count_starts _ _ _ _ _ (omega (arith, c.requires.3.inside, length-map c.args.keys.now item_of)) (omega arith)
 
 pub returns-then-key_of-key : goal.returns-then-key_of-key
 returns-then-key_of-key c =
-    count_past _ _ _ c.requires.0 _ _ _ c.requires.4 c.requires.3 c.requires.1 _ _ c.loop-i.invariant c.loop-i-test.true _ c.key_of.ensures c.if-key_of-key.true
+    count_past _ _ _ c.requires.0 _ _ _ c.requires.4 c.requires.3 c.requires.1 _ _ c.loop-word.invariant (tail_more _ _ _ c.loop-word-test.true) _
+    (c.key_of.ensures ∙ tail_key c.args.keys.now c.args.run c.loop-word.word-index) c.if-key_of-key.true
 
 pub is_alike-requires : goal.is_alike-requires
 is_alike-requires c =
-    (c.requires.0.inside, c.requires.2, among_item _ _ _ _ c.requires.0 _ c.loop-i-test.true _ c.item_of.ensures)
+    (c.requires.0.inside, c.requires.2, among_item _ _ _ _ c.requires.0 _ (tail_more _ _ _ c.loop-word-test.true) _ (c.item_of.ensures ∙ tail_at c.args.keys.now c.args.run c.loop-word.word-index))
 
 pub overflow_add-found : goal.overflow_add-found
 overflow_add-found c =
-    omega (arith, c.loop-i.invariant.few)
+    omega (arith, c.loop-word.invariant.few)
 
 pub returns-then-found-eq2 : goal.returns-then-found-eq2
 returns-then-found-eq2 c =
-    twice_in _ _ c.args.keys.now _ _ _ c.loop-i.invariant c.loop-i-test.true _ c.item_of.ensures _ c.is_alike.ensures c.if-is_alike.true c.if-found-eq2.true
+    twice_in _ _ c.args.keys.now _ _ _ c.loop-word.invariant (tail_more _ _ _ c.loop-word-test.true) _ (c.item_of.ensures ∙ tail_at c.args.keys.now c.args.run c.loop-word.word-index) _ c.is_alike.ensures c.if-is_alike.true
+    c.if-found-eq2.true
 
-pub loop-i-preserved-else-found-eq2 : goal.loop-i-preserved-else-found-eq2
-loop-i-preserved-else-found-eq2 c =
-    once_in _ _ c.args.keys.now _ _ _ c.loop-i.invariant c.loop-i-test.true _ c.item_of.ensures _ c.is_alike.ensures c.if-is_alike.true c.if-found-eq2.false
-
-pub loop-i-preserved : goal.loop-i-preserved
-loop-i-preserved c =
-    other_in _ _ c.args.keys.now _ _ _ c.loop-i.invariant c.loop-i-test.true _ c.item_of.ensures _ c.is_alike.ensures c.if-is_alike.false
+pub loop-word-preserved : goal.loop-word-preserved
+loop-word-preserved c =
+    let e : c.args.run + (c.loop-word.word-index + 1) ≡ c.args.run + c.loop-word.word-index + 1 = omega arith in
+    let more = tail_more _ _ _ c.loop-word-test.true in
+    let is = c.item_of.ensures ∙ tail_at c.args.keys.now c.args.run c.loop-word.word-index in
+    elim c.if-is_alike.branch [
+      | then-is_alike+else-found-eq2 w ↦ rw (w.found-is, e) (once_in _ _ c.args.keys.now _ _ _ c.loop-word.invariant more _ is _ c.is_alike.ensures w.if-is_alike.true w.if-found-eq2.false)
+      | else-is_alike w ↦ rw (w.found-is, e) (other_in _ _ c.args.keys.now _ _ _ c.loop-word.invariant more _ is _ c.is_alike.ensures w.if-is_alike.false)
+    ]
 
 pub returns : goal.returns
 returns c =
-    none_in _ _ c.args.keys.now _ _ _ c.loop-i.invariant c.loop-i-test.false
+    none_in _ _ c.args.keys.now _ _ _ c.loop-word.invariant (tail_none _ _ _ c.loop-word-test.false)

@@ -1,10 +1,6 @@
 -- `builder::grouping::items::hash_item` meets its contract.
-use Rattle.numbers.proofs.Prelude.{◌-◌}
 use Rattle.builder.proofs.grouping.{Walks.{ItemHash}}
 use Rattle.builder.proofs.grouping.items.hash_item.Given as goal
 
 abbrev pub invariant-loop-i : goal.invariant-loop-i
 invariant-loop-i l = ItemHash l.starts l.texts l.at l.width l.hash l.i
-
-abbrev pub decreases-loop-i : goal.decreases-loop-i
-decreases-loop-i l = l.width - l.i

@@ -1,10 +1,6 @@
 -- `builder::grouping::items::same_item` meets its contract.
-use Rattle.numbers.proofs.Prelude.{◌-◌}
 use Rattle.builder.proofs.grouping.{Walks.{ItemSame}}
 use Rattle.builder.proofs.grouping.items.same_item.Given as goal
 
 abbrev pub invariant-loop-i : goal.invariant-loop-i
 invariant-loop-i l = ItemSame l.starts l.texts l.a l.b l.width l.i
-
-abbrev pub decreases-loop-i : goal.decreases-loop-i
-decreases-loop-i l = l.width - l.i

@@ -29,7 +29,7 @@ loop-item-smaller c =
 
 pub loop-item-preserved : goal.loop-item-preserved
 loop-item-preserved c =
-    list_goes _ _ _ _ c.loop-item.invariant c.loop-item-test.true _ (word_is _ _ _ _ _ c.hash_item-hash.ensures (omega (
+    list_goes _ _ _ _ c.loop-item.invariant (omega (arith, c.loop-item-test.true, c.loop-item.invariant.left.size)) _ (word_is _ _ _ _ _ c.hash_item-hash.ensures (omega (
       arith,
       c.loop-item-test.true,
       c.loop-item.invariant.left.size,
@@ -42,4 +42,4 @@ shape_of-keys c =
 
 pub returns : goal.returns
 returns c =
-    list_ends _ _ _ _ c.loop-item.invariant c.loop-item-test.false
+    list_ends _ _ _ _ c.loop-item.invariant (omega (arith, c.loop-item-test.false, c.loop-item.invariant.left.size))

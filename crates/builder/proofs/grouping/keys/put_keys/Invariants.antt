@@ -1,11 +1,7 @@
 -- `builder::grouping::keys::put_keys` meets its contract.
-use Rattle.numbers.proofs.Prelude.{◌-◌, length}
 use Rattle.builder.specs.Grouping.Keys.{key_word}
 use Rattle.builder.proofs.grouping.{Listed.{Listing}}
 use Rattle.builder.proofs.grouping.keys.put_keys.Given as goal
 
 abbrev pub invariant-loop-item : goal.invariant-loop-item
 invariant-loop-item l = Listing (key_word l.starts l.texts l.width) l.initial.keys l.keys l.item
-
-abbrev pub decreases-loop-item : goal.decreases-loop-item
-decreases-loop-item l = length l.initial.keys - l.item

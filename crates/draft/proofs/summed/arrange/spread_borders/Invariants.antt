@@ -1,10 +1,6 @@
 -- `draft::summed::arrange::spread_borders` meets its contract.
-use Rattle.numbers.proofs.Prelude.{◌-◌, length}
 use Rattle.draft.proofs.summed.{Spreads.{Spreading}}
 use Rattle.draft.proofs.summed.arrange.spread_borders.Given as goal
 
 abbrev pub invariant-loop-i : goal.invariant-loop-i
 invariant-loop-i l = Spreading l.borders l.initial.places l.places l.i
-
-abbrev pub decreases-loop-i : goal.decreases-loop-i
-decreases-loop-i l = length l.borders - l.i

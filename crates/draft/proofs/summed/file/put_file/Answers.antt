@@ -14,19 +14,19 @@ overflow_cast-form c =
 
 pub slice_bounds-write_file-end : goal.slice_bounds-write_file-end
 slice_bounds-write_file-end c =
-    sym (length-take-le _ _ (inside_lengths c.args.builder c.args.lengths.now c.args.texts.now _ _ _ c.requires))
+    sym (length-take-le _ _ (inside_lengths c.args.builder c.args.own.lengths.now c.args.own.texts.now _ _ _ c.requires))
 
 pub slice_bounds-write_file-end-2 : goal.slice_bounds-write_file-end-2
 slice_bounds-write_file-end-2 c =
-    sym (length-take-le _ _ (inside_texts c.args.builder c.args.lengths.now c.args.texts.now _ _ _ c.requires))
+    sym (length-take-le _ _ (inside_texts c.args.builder c.args.own.lengths.now c.args.own.texts.now _ _ _ c.requires))
 
 pub slice_bounds-write_file-end-3 : goal.slice_bounds-write_file-end-3
 slice_bounds-write_file-end-3 c =
-    under _ _ _ (putting_reach c.args.builder c.args.lengths.now c.args.texts.now _ _ _ c.requires).keys_count c.keys-1.given
+    under _ _ _ (putting_reach c.args.builder c.args.own.lengths.now c.args.own.texts.now _ _ _ c.requires).keys_count c.keys-1.given
 
 pub slice_bounds-write_file-end-4 : goal.slice_bounds-write_file-end-4
 slice_bounds-write_file-end-4 c =
-    sym (length-take-le _ _ (under _ _ _ (putting_reach c.args.builder c.args.lengths.now c.args.texts.now _ _ _ c.requires).keys_count c.keys-1.given))
+    sym (length-take-le _ _ (under _ _ _ (putting_reach c.args.builder c.args.own.lengths.now c.args.own.texts.now _ _ _ c.requires).keys_count c.keys-1.given))
 
 pub slice_bounds-write_file-end-6 : goal.slice_bounds-write_file-end-6
 slice_bounds-write_file-end-6 c =
@@ -55,5 +55,5 @@ write_file-requires c = (
 
 pub returns : goal.returns
 returns c =
-    λ b h. stored_same _ _ (file_is b _ _ h _ _ _ _ _ _ _ _ _ _ c.lay_out-section.ensures (putting_reach c.args.builder c.args.lengths.now c.args.texts.now _ _ _
+    λ b h. stored_same _ _ (file_is b _ _ h _ _ _ _ _ _ _ _ _ _ c.lay_out-section.ensures (putting_reach c.args.builder c.args.own.lengths.now c.args.own.texts.now _ _ _
     c.requires).places) c.write_file.ensures

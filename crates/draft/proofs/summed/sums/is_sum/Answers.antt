@@ -3,22 +3,22 @@ use Rattle.numbers.proofs.Prelude.{arith}
 use Rattle.draft.proofs.summed.{Taken.{take_starts, take_goes, take_stops, take_ends}}
 use Rattle.draft.proofs.summed.sums.is_sum.Goals as goal
 
-pub loop-i-init : goal.loop-i-init
-loop-i-init c =
+pub loop-length-init : goal.loop-length-init
+loop-length-init c =
     take_starts _ _
 
 pub overflow_cast-length : goal.overflow_cast-length
 overflow_cast-length c =
-    omega (arith, c.type_inv.lengths c.loop-i.i)
+    omega (arith, c.type_inv.lengths c.loop-length.length-index)
 
 pub returns-then-left-length : goal.returns-then-left-length
 returns-then-left-length c =
-    take_stops _ _ _ _ c.loop-i.invariant c.loop-i-test.true c.if-left-length.true
+    take_stops _ _ _ _ c.loop-length.invariant c.loop-length-test.true c.if-left-length.true
 
-pub loop-i-preserved : goal.loop-i-preserved
-loop-i-preserved c =
-    take_goes _ _ _ _ c.loop-i.invariant c.loop-i-test.true c.if-left-length.false
+pub loop-length-preserved : goal.loop-length-preserved
+loop-length-preserved c =
+    take_goes _ _ _ _ c.loop-length.invariant c.loop-length-test.true c.if-left-length.false
 
 pub returns : goal.returns
 returns c =
-    take_ends _ _ _ _ c.loop-i.invariant c.loop-i-test.false
+    take_ends _ _ _ _ c.loop-length.invariant c.loop-length-test.false
