@@ -1,9 +1,9 @@
 -- A builder's numbers in fourteen words, and back; and how a change of it goes over to C. Assumes nothing.
+use Rattle.numbers.specs.Reply.{Reply, given, refused}
 use Rattle.numbers.proofs.Prelude.{ℕ, ◌*◌, ◌%◌, ◌^◌, ◌<◌, ℤ, pos, negsuc, get_or, List, [], ◌∷◌, ◌≡◌, sym, ap, subst, ◌∙◌, w32, SFits, of_z, arith}
 use Rattle.numbers.{proofs.Coordinates.{read_back, twice_read}, specs.{Point.{read_i32, signed_of}, declared.refusal.Refusal.{Refusal}}}
-use Rattle.draft.specs.declared.held.state.{Changed.{Changed}, Held.{Held}}
+use Rattle.draft.specs.declared.held.state.Held.{Held}
 use Rattle.office.specs.{Draft.{held_of, words_of, Kept}}
-use Rattle.draft.specs.declared.held.state.Changed.TheVariants as C
 
 pub greatest_read : (word : ℕ) (greatest : ℤ) → greatest ≡ signed_of (2 * (word % 2 ^ 32)) → greatest ≡ read_i32 (word % 2 ^ 32)
 greatest_read word greatest is = is ∙ twice_read (word % 2 ^ 32) (omega arith)
@@ -64,11 +64,11 @@ module _ (held : Held) (noted : ℕ) (kind_low : held.kind < 2 ^ 8) (version_low
   words_made bits is = let same : made bits ≡ words_of held noted = ap made is in (same, ap held_of same ∙ words_back)
 
 -- ---- a changed builder is kept, a refused one as it was
-module _ (noted : ℕ) (before after : List ℕ) {changed : Changed} where
-  pub kept_into : {held : Held} → changed ≡ C.Into held → (after ≡ words_of held noted) × (held_of after ≡ held) → Kept noted before after changed
+module _ (noted : ℕ) (before after : List ℕ) {changed : Reply Held} where
+  pub kept_into : {held : Held} → changed ≡ given held → (after ≡ words_of held noted) × (held_of after ≡ held) → Kept noted before after changed
   unfolding Kept
   kept_into is words = subst (Kept noted before after) (sym is) words
 
-  pub kept_refused : {why : Refusal} → changed ≡ C.Refused why → after ≡ before → Kept noted before after changed
+  pub kept_refused : {why : Refusal} → changed ≡ refused why → after ≡ before → Kept noted before after changed
   unfolding Kept
   kept_refused is same = subst (Kept noted before after) (sym is) same

@@ -10,11 +10,10 @@ use Rattle.draft.proofs.held.{Adds.{add_given}, Ends.{finish_builds}, Wider.{hol
 use Rattle.writer.specs.Writer.{every}
 use Rattle.draft.specs.Held.{Builder.{Builder, Offered, add, begin, changed_at, clear, drop_last, fitting, holding, joined, replace, summed, with_value, yard_of}, Space.{Space, standing}}
 use Rattle.draft.specs.{Held.{Sound.{room_for}, State.{Answers, Lists, held_as}, Totals.{data_of, drawn_or, file_size, totals_for, totals_of}}, Summed.Ends.{Files, Finishes, space_of}}
-use Rattle.draft.specs.declared.held.{room.Rooms.{Rooms}, state.{Changed.{Changed}, Held.{Held}}}
+use Rattle.draft.specs.declared.held.{room.Rooms.{Rooms}, state.Held.{Held}}
 use Rattle.office.proofs.{NotedDrafts.{Lasts, LastsOn, add_lasts, kept_lasts, noted_back}, NumberedDrafts.{add_zero, begin_zero, drop_zero, replace_zero}}
 use Rattle.office.specs.Calls.{Called, Made, Shelf, TotalsIn, adds, begun, called, clears, drops, grown, replaces, yards_after}
-use Rattle.office.specs.Draft.{Ends, Kept, Speaks, Spoke, held_of, noted_in, told_changed, totals_values, words_of}
-use Rattle.draft.specs.declared.held.state.Changed.TheVariants as C
+use Rattle.office.specs.Draft.{Ends, Kept, Speaks, Spoke, held_of, noted_in, totals_values, words_of}
 use Rattle.edit.specs.Replacing.Replaced as Replacing
 
 -- ---- what the definition's calls give, where they give a builder
@@ -45,11 +44,11 @@ begin_gives plan room space b e = let one = demanded (leb (length plan.names) 25
 abbrev Worded : List ℕ → Type 0
 Worded state = state ≡ words_of (held_of state) (noted_in state)
 
-words_stay : (noted : ℕ) (before after : List ℕ) (changed : Changed) → Kept noted before after changed → Worded before → Worded after
+words_stay : (noted : ℕ) (before after : List ℕ) (changed : Reply Held) → Kept noted before after changed → Worded before → Worded after
 unfolding Kept
-words_stay noted before after (C.Into held) (words, back) worded =
+words_stay noted before after (given held) (words, back) worded =
     words ∙ (ap (λ (h : Held). words_of h noted) (sym back) ∙ ap (λ (n : ℕ). words_of (held_of after) n) (sym (noted_back held noted after words)))
-words_stay noted before after (C.Refused why) same worded = subst Worded (sym same) worded
+words_stay noted before after (refused why) same worded = subst Worded (sym same) worded
 
 shelf_one : (one other : Shelf) → one.state ≡ other.state → one.lists ≡ other.lists → one.notes ≡ other.notes → one ≡ other
 shelf_one one other state lists notes =
@@ -104,13 +103,13 @@ module _ (b : Builder) (found left : Shelf) (number : ℕ) (change : List Yard �
   never_both : {reply : Reply Builder} {why : Refusal} → reply ≡ refused why → Answered reply → ⊥
   never_both is answered = never_given _ _ (sym is ∙ answered.1)
 
-  changed_outcome : (reply : Reply Builder) (changed : Changed) → Answers reply found.lists left.lists changed → Kept 0 found.state left.state changed → (number ≡ 0) ↔ Answered reply
+  changed_outcome : (reply : Reply Builder) (changed : Reply Held) → Answers reply found.lists left.lists changed → Kept 0 found.state left.state changed → (number ≡ 0) ↔ Answered reply
       → ((next : Builder) → reply ≡ given next → Alike next.plan b.plan × (next.plan.yards ≡ change b.plan.yards)) → left.notes ≡ found.notes
       → Outcome b found left number change
   unfolding Answers Kept
-  changed_outcome reply (C.Into held) (next, (is, (holds, rooms))) kept zero gives notes =
+  changed_outcome reply (given held) (next, (is, (holds, rooms))) kept zero gives notes =
       into next (zero.1 (next, is)) (kept_lasts next found.state left.state left.lists left.notes held kept holds) (gives next is).0 (gives next is).1
-  changed_outcome reply (C.Refused why) (is, lists) kept zero gives notes = stays (λ z. never_both is (zero.0 z)) (shelf_one left found kept lists notes)
+  changed_outcome reply (refused why) (is, lists) kept zero gives notes = stays (λ z. never_both is (zero.0 z)) (shelf_one left found kept lists notes)
 
 add_outcome : (b : Builder) (o : Offered) (rooms : Rooms) (lent : NoteRooms) (out : ℕ) (found left : Shelf) (number : ℕ)
     → (number ≡ 0) ↔ Answered (add b o (space_for (held_of found.state) rooms lent o out))
@@ -121,11 +120,11 @@ add_outcome b o rooms lent out found left number zero (inl (next, (is, on))) =
     into next (zero.1 (next, is)) on (alike_made next (joined b.plan o) b.plan b.room made (joined_alike b.plan o)) (ap (λ (x : Builder). x.plan.yards) made)
 add_outcome b o rooms lent out found left number zero (inr (why, (is, (state, (lists, notes))))) = stays (λ z. never_given _ _ (sym is ∙ (zero.0 z).1)) (shelf_one left found state lists notes)
 
-clear_zero : (b : Builder) (words : List ℕ) (number : ℕ) (lists lists' : Lists) (changed : Changed) → Answers (given (clear b)) lists lists' changed
-    → record { number = number; words = words } ≡ said_of totals_values (told_changed changed) → (number ≡ 0) ↔ Answered (given (clear b))
-unfolding Answers told_changed said_of
-clear_zero b words number lists lists' (C.Into held) answers said = ((λ z. (clear b, refl)), (λ answered. ap (λ (x : Said). x.number) said))
-clear_zero b words number lists lists' (C.Refused why) (is, same) said = absurd (never_given why (clear b) (sym is))
+clear_zero : (b : Builder) (words : List ℕ) (number : ℕ) (lists lists' : Lists) (changed : Reply Held) → Answers (given (clear b)) lists lists' changed
+    → record { number = number; words = words } ≡ said_of totals_values changed → (number ≡ 0) ↔ Answered (given (clear b))
+unfolding Answers said_of
+clear_zero b words number lists lists' (given held) answers said = ((λ z. (clear b, refl)), (λ answered. ap (λ (x : Said). x.number) said))
+clear_zero b words number lists lists' (refused why) (is, same) said = absurd (never_given why (clear b) (sym is))
 
 module _ (b : Builder) (found left : Shelf) (number : ℕ) (lasts : Lasts b found.state found.lists found.notes) where
   outcome : (change : List Yard → List Yard) → Called found left number change → Outcome b found left number change
@@ -167,10 +166,10 @@ whole_read : (plan : Plan) → readable plan ≡ true → plan.whole ≡ true
 unfolding readable
 whole_read plan e = (both plan.whole (every is_text plan.names && (is_text plan.notice && every (λ y. every is_text y.values) plan.yards)) e).0
 
-begun_reached : (plan : Plan) (room : ℕ) (space : Space) (before : Lists) (s : Shelf) (changed : Changed) → Begins plan room space before s.lists changed
+begun_reached : (plan : Plan) (room : ℕ) (space : Space) (before : Lists) (s : Shelf) (changed : Reply Held) → Begins plan room space before s.lists changed
     → Kept 0 (zeros 14) s.state changed → Answered (begin plan room space) → Reached plan [] s
 unfolding Begins Kept summed
-begun_reached plan room space before s (C.Into held) (b, (is, (holds, rooms))) kept answered = let made = begin_gives plan room space b is in record {
+begun_reached plan room space before s (given held) (b, (is, (holds, rooms))) kept answered = let made = begin_gives plan room space b is in record {
   b = b;
   lasts = kept_lasts b (zeros 14) s.state s.lists s.notes held kept holds;
   worded_is = kept.0 ∙ (ap (λ (h : Held). words_of h 0) (sym kept.1) ∙ ap (λ (n : ℕ). words_of (held_of s.state) n) (sym (noted_back held 0 s.state kept.0)));
@@ -179,7 +178,7 @@ begun_reached plan room space before s (C.Into held) (b, (is, (holds, rooms))) k
   whole = sym (ap (λ (x : Builder). x.plan.whole) made) ∙ whole_read b.plan holds.sound.texts;
   yards_are = ap (λ (x : Builder). x.plan.yards) made;
 }
-begun_reached plan room space before s (C.Refused why) (is, lists) kept answered = absurd (never_given _ _ (sym is ∙ answered.1))
+begun_reached plan room space before s (refused why) (is, lists) kept answered = absurd (never_given _ _ (sym is ∙ answered.1))
 
 zero_after : (number : ℕ) (changed yards : List Yard) → number ≡ 0 → changed ≡ yards_after number changed yards
 unfolding yards_after
@@ -291,21 +290,21 @@ pub refused_begin_zeros : (plan : Plan) (room : ℕ) (space : Space) (before aft
 unfolding Begins Kept
 refused_begin_zeros plan room space before after state words number s other =
     go s.changed s.promised s.spoke.kept (λ answered. other ((begin_zero plan room space before after s).1 answered)) where
-      go : (changed : Changed) → Begins plan room space before after changed → Kept 0 (zeros 14) state changed → (Answered (begin plan room space) → ⊥) → (state ≡ zeros 14) × (after ≡ blank before)
-      go (C.Into held) (b, (is, holds)) kept never = absurd (never (b, is))
-      go (C.Refused why) (is, lists) kept never = (kept, lists)
+      go : (changed : Reply Held) → Begins plan room space before after changed → Kept 0 (zeros 14) state changed → (Answered (begin plan room space) → ⊥) → (state ≡ zeros 14) × (after ≡ blank before)
+      go (given held) (b, (is, holds)) kept never = absurd (never (b, is))
+      go (refused why) (is, lists) kept never = (kept, lists)
 
 -- The zeros that it leaves are no builder.
 pub zeros_stand_not : (rooms : Rooms) → standing (held_of (zeros 14)) rooms ≡ false
 unfolding standing held_of
 zeros_stand_not rooms = refl
 
-broken_says : (n noted : ℕ) {changed : Changed} {before after words : List ℕ} {number : ℕ} → changed ≡ C.Refused (plain n) → Spoke changed noted before after number words
+broken_says : (n noted : ℕ) {changed : Reply Held} {before after words : List ℕ} {number : ℕ} → changed ≡ refused (plain n) → Spoke changed noted before after number words
     → (number ≡ n) × (after ≡ before)
-unfolding Kept told_changed said_of
+unfolding Kept said_of
 broken_says n noted {changed} {before} {after} is s = (
-  ap (λ (x : Said). x.number) (s.said ∙ ap (λ (c : Changed). said_of totals_values (told_changed c)) is),
-  subst (λ (c : Changed). Kept noted before after c) is s.kept,
+  ap (λ (x : Said). x.number) (s.said ∙ ap (λ (c : Reply Held). said_of totals_values c) is),
+  subst (λ (c : Reply Held). Kept noted before after c) is s.kept,
 )
 
 -- So every call behind it is refused, 29 for a drop and else 28, and changes nothing.

@@ -2,17 +2,15 @@
 use Rattle.numbers.proofs.{Prelude.{ℕ, eqb, length, Bool, true, false, ◌||◌, List, [], ◌∷◌, inl, inr, ◌↔◌, ◌≡◌, refl, sym, ap, subst, ◌∙◌}, Refusals.{Listed, one_of}}
 use Rattle.numbers.{proofs.Saying.{Answered, never_zero, zero_said}, specs.{Reply.{Reply, given, refused, plain}, Spoken.{said_of}, declared.{refusal.Refusal.{Refusal}, said.Said.{Said}}}}
 use Rattle.add.specs.{Adding.Adds.{Adds}, Growing.Notes.{Notes, NotedBy}, declared.{adding.room.NoteRooms.{NoteRooms}, growing.grow.Added.{Added}}}
-use Rattle.build.specs.{Whole.{told_built}, declared.file.Built.{Built}}
 use Rattle.builder.{proofs.drawing.Lending.{never_given}, specs.{File.{Replied, fitted}, Yards.{Text, Plan}}}
 use Rattle.edit.specs.{Changing.{Begun.{Begins}, Dropped.{Drops, left_space}, Emptied.{Clears}}, Replacing.Replaced.{Replaces}}
 use Rattle.draft.specs.Held.{Builder.{Builder, Offered, add, begin, clear, drop_last, finish, replace}, Space.{Space}, State.{Answers, Holds, Lists, held_as}}
 use Rattle.draft.specs.Summed.Ends.{Files, Finishes, space_of}
-use Rattle.draft.specs.declared.held.{room.Rooms.{Rooms}, state.{Changed.{Changed}, Held.{Held}}}
+use Rattle.draft.specs.declared.held.{room.Rooms.{Rooms}, state.Held.{Held}}
 use Rattle.office.proofs.NumberedCalls.{add_numbers, add_refusals, begin_numbers, begin_refusals, drop_numbers, drop_refusals, finish_numbers, finish_refusals, replace_numbers, replace_refusals}
 use Rattle.office.proofs.SameCalls.{Told, ToldNoted}
-use Rattle.office.specs.{Draft.{Ends, Speaks, SpeaksNoted, held_of, noted_in, told_changed, totals_values}, Written.{length_value}}
+use Rattle.office.specs.{Draft.{Ends, Speaks, SpeaksNoted, held_of, noted_in, totals_values}, Written.{length_value}}
 use Rattle.add.specs.Adding.Adds as Adding
-use Rattle.draft.specs.declared.held.state.Changed.TheVariants as C
 use Rattle.edit.specs.Replacing.Replaced as Replacing
 
 -- ---- what is said of a reply
@@ -46,17 +44,17 @@ module _ {A : Type 0} (values : A → List ℕ) (numbers : List ℕ) (without : 
   few_of said = subst (λ (x : Said). Listed (0 ∷ numbers) x.number) (sym said) (few_said values numbers reply known)
 
 -- ---- a changed builder has the totals of the definition's
-answers_say : (reply : Reply Builder) (before after : Lists) (changed : Changed) → Answers reply before after changed → said_of totals_values (told_changed changed) ≡ said_of builder_values reply
-unfolding Answers told_changed said_of
-answers_say reply before after (C.Into held) (b, (is, (holds, rooms))) = ap (λ (h : Held). said_of totals_values (given h)) holds.is ∙ sym (ap (λ (r : Reply Builder). said_of builder_values r) is)
-answers_say reply before after (C.Refused why) (is, same) = sym (ap (λ (r : Reply Builder). said_of builder_values r) is)
+answers_say : (reply : Reply Builder) (before after : Lists) (changed : Reply Held) → Answers reply before after changed → said_of totals_values changed ≡ said_of builder_values reply
+unfolding Answers said_of
+answers_say reply before after (given held) (b, (is, (holds, rooms))) = ap (λ (h : Held). said_of totals_values (given h)) holds.is ∙ sym (ap (λ (r : Reply Builder). said_of builder_values r) is)
+answers_say reply before after (refused why) (is, same) = sym (ap (λ (r : Reply Builder). said_of builder_values r) is)
 
-begins_say : (plan : Plan) (room : ℕ) (space : Space) (before after : Lists) (changed : Changed) → Begins plan room space before after changed →
-    said_of totals_values (told_changed changed) ≡ said_of builder_values (begin plan room space)
-unfolding Begins told_changed said_of
-begins_say plan room space before after (C.Into held) (b, (is, (holds, rooms))) =
+begins_say : (plan : Plan) (room : ℕ) (space : Space) (before after : Lists) (changed : Reply Held) → Begins plan room space before after changed →
+    said_of totals_values changed ≡ said_of builder_values (begin plan room space)
+unfolding Begins said_of
+begins_say plan room space before after (given held) (b, (is, (holds, rooms))) =
     ap (λ (h : Held). said_of totals_values (given h)) holds.is ∙ sym (ap (λ (r : Reply Builder). said_of builder_values r) is)
-begins_say plan room space before after (C.Refused why) (is, same) = sym (ap (λ (r : Reply Builder). said_of builder_values r) is)
+begins_say plan room space before after (refused why) (is, same) = sym (ap (λ (r : Reply Builder). said_of builder_values r) is)
 
 -- ---- `uskelzar_begin`
 module _ (plan : Plan) (room : ℕ) (space : Space) (before after : Lists) {zero state words : List ℕ} {number : ℕ} (s : Speaks (λ h. Begins plan room space before after) zero state number words) where
@@ -71,11 +69,11 @@ module _ (plan : Plan) (room : ℕ) (space : Space) (before after : Lists) {zero
 
 -- ---- the calls that take a state
 -- numbers that do not fit the lists are refused so
-broken_few : (numbers : List ℕ) (n : ℕ) → Listed (0 ∷ numbers) n → {changed : Changed} {number : ℕ} {words : List ℕ} → changed ≡ C.Refused (plain n) →
-    saying number words ≡ said_of totals_values (told_changed changed) → Listed (0 ∷ numbers) number
-unfolding told_changed said_of
+broken_few : (numbers : List ℕ) (n : ℕ) → Listed (0 ∷ numbers) n → {changed : Reply Held} {number : ℕ} {words : List ℕ} → changed ≡ refused (plain n) →
+    saying number words ≡ said_of totals_values changed → Listed (0 ∷ numbers) number
+unfolding said_of
 broken_few numbers n listed is said =
-    subst (λ (x : Said). Listed (0 ∷ numbers) x.number) (sym (said ∙ ap (λ (r : Changed). said_of totals_values (told_changed r)) is)) listed
+    subst (λ (x : Said). Listed (0 ∷ numbers) x.number) (sym (said ∙ ap (λ (r : Reply Held). said_of totals_values r) is)) listed
 
 -- `uskelzar_add`
 module _ (held : List ℕ) (o : Offered) (rooms : Rooms) (lent : NoteRooms) (out : ℕ) (before after : Lists) (notes notes' : Notes) {state words : List ℕ} {number : ℕ}
@@ -139,7 +137,7 @@ module _ (held : List ℕ) (rooms : Rooms) (before after : Lists) {state words :
   clear_numbers (inr broken) = broken_few (28 ∷ []) 28 refl (s.promised.broken broken).0 s.spoke.said
 
 -- ---- `uskelzar_finish`
-finishes_say : (reply : Reply (List ℕ)) (room : ℕ) (out : List ℕ) (built : Built) → Finishes reply room out built → said_of length_value (told_built built) ≡ said_of file_values reply
+finishes_say : (reply : Reply (List ℕ)) (room : ℕ) (out : List ℕ) (built : Reply ℕ) → Finishes reply room out built → said_of length_value built ≡ said_of file_values reply
 unfolding Finishes fitted said_of
 finishes_say reply room out built f = ap (λ (x : Replied). said_of length_value x.reply) f ∙ go reply where
   go : (r : Reply (List ℕ)) → said_of length_value (fitted room r).reply ≡ said_of file_values r
@@ -160,4 +158,4 @@ module _ (held : List ℕ) (rooms : Rooms) (lists : Lists) (room : ℕ) (out : L
   unfolding said_of
   finish_numbers_lem (inl (b, holds)) = few_of file_values finish_numbers (λ z. z) (finish b room lent) (finish_refusals b lent room) (finish_said b holds)
   finish_numbers_lem (inr broken) =
-      subst (λ (x : Said). Listed (0 ∷ finish_numbers) x.number) (sym (e.said ∙ ap (λ (r : Built). said_of length_value (told_built r)) (e.promised.broken broken))) refl
+      subst (λ (x : Said). Listed (0 ∷ finish_numbers) x.number) (sym (e.said ∙ ap (λ (r : Reply ℕ). said_of length_value r) (e.promised.broken broken))) refl

@@ -1,16 +1,13 @@
 -- What the promises of a builder's calls fix: two replies that one permits are equal, with every list. Assumes nothing.
 use Rattle.numbers.{proofs.Prelude.{ℕ, pos, length, false, List, ◌⊎◌, inl, inr, ◌≡◌, sym, ap, subst, ◌∙◌}, specs.{Reply.{Reply, given, refused, plain}, declared.refusal.Refusal.{Refusal}}}
 use Rattle.add.specs.{Adding.Adds.{Adds}, Growing.{Joins.{Renoted}, Notes.{Notes, Noted, NotedBy, notes_as}}, declared.{adding.room.NoteRooms.{NoteRooms}, growing.grow.Added.{Added}}}
-use Rattle.build.specs.{Whole.{told_built}, declared.file.Built.{Built}}
 use Rattle.builder.{proofs.drawing.Lending.{never_given}, specs.{File.{Replied}, Yards.{Text, Plan, Yard}}}
 use Rattle.edit.{proofs.changing.Cuts.{lists_same}, specs.{Changing.{Begun.{Begins, blank}, Dropped.{Drops, left_space}, Emptied.{Clears}}, Replacing.Replaced.{Replaces}}}
 use Rattle.notes.proofs.chains.Entering.{chained_one}
 use Rattle.draft.{proofs.held.Fronts.{front_one}, specs.Held.{Builder.{Builder, Offered, add, begin, clear, drop_last, finish, joined, replace}, Space.{Space, standing}}}
 use Rattle.draft.specs.{Held.State.{Answers, Holds, Idle, Lists, SameRooms, Works, works_as}, Summed.Ends.{Files, Finishes, space_of}}
-use Rattle.draft.specs.declared.held.{room.Rooms.{Rooms}, state.{Changed.{Changed}, Held.{Held}}}
+use Rattle.draft.specs.declared.held.{room.Rooms.{Rooms}, state.Held.{Held}}
 use Rattle.add.specs.Adding.Adds as Adding
-use Rattle.build.specs.declared.file.Built.TheVariants as W
-use Rattle.draft.specs.declared.held.state.Changed.TheVariants as C
 use Rattle.edit.specs.Replacing.Replaced as Replacing
 
 -- One builder lies in one way in lists of given lengths.
@@ -47,23 +44,23 @@ abbrev Stays : Reply Builder → Lists → Lists → Refusal → Type 0
 Stays reply left after why = (reply ≡ refused why) × (after ≡ left)
 
 module _ (reply : Reply Builder) (before left after after' : Lists) where
-  into_one : (held held' : Held) → Becomes reply before after held → Becomes reply before after' held' → (C.Into held ≡ C.Into held') × (after ≡ after')
+  into_one : (held held' : Held) → Becomes reply before after held → Becomes reply before after' held' → (◌≡◌ {A = Reply Held} (given held) (given held')) × (after ≡ after')
   into_one held held' (b, (is, (holds, rooms))) (b', (is', (holds', rooms'))) = let same : b' ≡ b = cc in
-      let one = held_one holds (subst (λ (x : Builder). Holds x held' after') same holds') (both_same rooms rooms') in (ap C.Into one.0, one.1)
+      let one = held_one holds (subst (λ (x : Builder). Holds x held' after') same holds') (both_same rooms rooms') in (ap given one.0, one.1)
 
-  stays_one : (why why' : Refusal) → Stays reply left after why → Stays reply left after' why' → (C.Refused why ≡ C.Refused why') × (after ≡ after')
+  stays_one : (why why' : Refusal) → Stays reply left after why → Stays reply left after' why' → (◌≡◌ {A = Reply Held} (refused why) (refused why')) × (after ≡ after')
   stays_one why why' (is, same) (is', same') = (cc, same ∙ sym same')
 
 never_both : {A : Type 0} {reply : Reply Builder} {b : Builder} {why : Refusal} → reply ≡ given b → reply ≡ refused why → A
 never_both is is' = absurd (never_given _ _ (sym is' ∙ is))
 
 -- Two replies that are as the definition has it are equal, with every list.
-pub same_answer : (reply : Reply Builder) (before after after' : Lists) (r r' : Changed) → Answers reply before after r → Answers reply before after' r' → (r ≡ r') × (after ≡ after')
+pub same_answer : (reply : Reply Builder) (before after after' : Lists) (r r' : Reply Held) → Answers reply before after r → Answers reply before after' r' → (r ≡ r') × (after ≡ after')
 unfolding Answers
-same_answer reply before after after' (C.Into held) (C.Into held') a a' = into_one reply before before after after' held held' a a'
-same_answer reply before after after' (C.Into held) (C.Refused why) a a' = never_both a.1.0 a'.0
-same_answer reply before after after' (C.Refused why) (C.Into held) a a' = never_both a'.1.0 a.0
-same_answer reply before after after' (C.Refused why) (C.Refused why') a a' = stays_one reply before before after after' why why' a a'
+same_answer reply before after after' (given held) (given held') a a' = into_one reply before before after after' held held' a a'
+same_answer reply before after after' (given held) (refused why) a a' = never_both a.1.0 a'.0
+same_answer reply before after after' (refused why) (given held) a a' = never_both a'.1.0 a.0
+same_answer reply before after after' (refused why) (refused why') a a' = stays_one reply before before after after' why why' a a'
 
 -- ---- what a promise speaks of: a builder that the state holds, or numbers that do not fit the lists
 abbrev pub Told : Held → Rooms → Lists → Type 0
@@ -71,13 +68,13 @@ Told held rooms lists = ((b : Builder) × Holds b held lists) ⊎ (standing held
 
 -- every call but the first and the last
 module _ (reply : Builder → Reply Builder) (number : ℕ) (held : Held) (rooms : Rooms) (before : Lists) where
-  abbrev Answering : Lists → Changed → Type 0
+  abbrev Answering : Lists → Reply Held → Type 0
   Answering after r = (b : Builder) → Holds b held before → Answers (reply b) before after r
 
-  abbrev Refusing : Lists → Changed → Type 0
-  Refusing after r = standing held rooms ≡ false → (r ≡ C.Refused (plain number)) × (after ≡ before)
+  abbrev Refusing : Lists → Reply Held → Type 0
+  Refusing after r = standing held rooms ≡ false → (r ≡ refused (plain number)) × (after ≡ before)
 
-  pub same_changed : {after after' : Lists} {r r' : Changed} → Told held rooms before → Answering after r → Refusing after r → Answering after' r' → Refusing after' r' → (r ≡ r') × (after ≡ after')
+  pub same_changed : {after after' : Lists} {r r' : Reply Held} → Told held rooms before → Answering after r → Refusing after r → Answering after' r' → Refusing after' r' → (r ≡ r') × (after ≡ after')
   same_changed {after} {after'} {r} {r'} (inl (b, holds)) a n a' n' = same_answer (reply b) before after after' r r' (a b holds) (a' b holds)
   same_changed (inr broken) a n a' n' = ((n broken).0 ∙ sym (n' broken).0, (n broken).1 ∙ sym (n' broken).1)
 
@@ -86,14 +83,14 @@ abbrev pub ToldNoted : Held → ℕ → Rooms → Lists → Notes → Type 0
 ToldNoted held noted rooms lists notes = ((b : Builder) × (Holds b held lists × NotedBy held.names b.plan.yards noted notes)) ⊎ (standing held rooms ≡ false)
 
 -- the number for the notes is one, whatever else the two lists of notes hold
-noted_one : (names : ℕ) (yards : List Yard) (noted : ℕ) (notes : Notes) (n n' : ℕ) (notes₁ notes₂ : Notes) (changed : Changed) → Renoted names yards noted notes n notes₁ changed →
+noted_one : (names : ℕ) (yards : List Yard) (noted : ℕ) (notes : Notes) (n n' : ℕ) (notes₁ notes₂ : Notes) (changed : Reply Held) → Renoted names yards noted notes n notes₁ changed →
     Renoted names yards noted notes n' notes₂ changed → n ≡ n'
 unfolding Renoted
-noted_one names yards noted notes n n' notes₁ notes₂ (C.Into held) one other = one.number ∙ sym other.number
-noted_one names yards noted notes n n' notes₁ notes₂ (C.Refused why) one other = one.0 ∙ sym other.0
+noted_one names yards noted notes n n' notes₁ notes₂ (given held) one other = one.number ∙ sym other.number
+noted_one names yards noted notes n n' notes₁ notes₂ (refused why) one other = one.0 ∙ sym other.0
 
 added_one : (r r' : Added) → r.changed ≡ r'.changed → r.noted ≡ r'.noted → r ≡ r'
-added_one r r' changed noted = ap (λ (c : Changed). record { changed = c; noted = r.noted }) changed ∙ ap (λ (n : ℕ). record { changed = r'.changed; noted = n }) noted
+added_one r r' changed noted = ap (λ (c : Reply Held). record { changed = c; noted = r.noted }) changed ∙ ap (λ (n : ℕ). record { changed = r'.changed; noted = n }) noted
 
 module _ (held : Held) (noted : ℕ) (rooms : Rooms) (lent : NoteRooms) (before : Lists) (notes : Notes) {o : Offered} {out : ℕ} {after after' : Lists} {notes₁ notes₂ : Notes} {r r' : Added} where
   pub same_added : ToldNoted held noted rooms before notes → Adds held noted o rooms lent out before after notes notes₁ r → Adds held noted o rooms lent out before after' notes notes₂ r' →
@@ -101,7 +98,7 @@ module _ (held : Held) (noted : ℕ) (rooms : Rooms) (lent : NoteRooms) (before 
   same_added (inl (b, (holds, right))) a a' = let one = a.answers b holds right in let other = a'.answers b holds right in
       let same = same_answer (add b o (Adding.space_for held rooms lent o out)) before after after' r.changed r'.changed one.0 other.0 in
       let yards : List Yard = (joined b.plan o).yards in
-      let renoted = subst (λ (c : Changed). Renoted held.names yards noted notes r.noted notes₁ c) same.0 one.1 in
+      let renoted = subst (λ (c : Reply Held). Renoted held.names yards noted notes r.noted notes₁ c) same.0 one.1 in
       (added_one r r' same.0 (noted_one held.names yards noted notes r.noted r'.noted notes₁ notes₂ r'.changed renoted other.1), same.1)
   same_added (inr broken) a a' = ((a.stands_not broken).0 ∙ sym (a'.stands_not broken).0, (a.stands_not broken).1.0 ∙ sym (a'.stands_not broken).1.0)
 
@@ -120,11 +117,11 @@ notes_one names yards n n' one other a a' same = let l = a.lists in let l' = a'.
     ∙ (ap (λ (x : List ℕ). notes_as other.marks other.chains x one.begins) (chained_one _ _ _ one.groups other.groups same.groups l.indexed.records l'.indexed.records)
     ∙ ap (λ (x : List ℕ). notes_as other.marks other.chains other.groups x) (front_one 0 l'.begins_are l.begins_are same.begins)))
 
-renoted_one : (names : ℕ) (yards : List Yard) (noted : ℕ) (notes : Notes) (n n' : ℕ) (one other : Notes) (changed : Changed) → Renoted names yards noted notes n one changed →
+renoted_one : (names : ℕ) (yards : List Yard) (noted : ℕ) (notes : Notes) (n n' : ℕ) (one other : Notes) (changed : Reply Held) → Renoted names yards noted notes n one changed →
     Renoted names yards noted notes n' other changed → SameNotes one other → one ≡ other
 unfolding Renoted
-renoted_one names yards noted notes n n' one other (C.Into held) a a' same = notes_one names yards n n' one other a a' same
-renoted_one names yards noted notes n n' one other (C.Refused why) a a' same = a.1 ∙ sym a'.1
+renoted_one names yards noted notes n n' one other (given held) a a' same = notes_one names yards n n' one other a a' same
+renoted_one names yards noted notes n n' one other (refused why) a a' same = a.1 ∙ sym a'.1
 
 module _ (held : Held) (noted : ℕ) (rooms : Rooms) (lent : NoteRooms) (before : Lists) (notes : Notes) {o : Offered} {out : ℕ} {after after' : Lists} {notes₁ notes₂ : Notes} {r r' : Added} where
   pub same_notes : ToldNoted held noted rooms before notes → Adds held noted o rooms lent out before after notes notes₁ r → Adds held noted o rooms lent out before after' notes notes₂ r' →
@@ -133,12 +130,12 @@ module _ (held : Held) (noted : ℕ) (rooms : Rooms) (lent : NoteRooms) (before 
     go : ToldNoted held noted rooms before notes → notes₁ ≡ notes₂
     go (inl (b, (holds, right))) = let changed = ap (λ (x : Added). x.changed) (same_added held noted rooms lent before notes told a a').0 in
         let yards : List Yard = (joined b.plan o).yards in
-        let renoted = subst (λ (c : Changed). Renoted held.names yards noted notes r.noted notes₁ c) changed (a.answers b holds right).1 in
+        let renoted = subst (λ (c : Reply Held). Renoted held.names yards noted notes r.noted notes₁ c) changed (a.answers b holds right).1 in
         renoted_one held.names yards noted notes r.noted r'.noted notes₁ notes₂ r'.changed renoted (a'.answers b holds right).1 same
     go (inr broken) = (a.stands_not broken).1.1 ∙ sym (a'.stands_not broken).1.1
 
 -- ---- for each other call
-module _ (held : Held) (rooms : Rooms) (before : Lists) (told : Told held rooms before) {after after' : Lists} {r r' : Changed} where
+module _ (held : Held) (rooms : Rooms) (before : Lists) (told : Told held rooms before) {after after' : Lists} {r r' : Reply Held} where
   pub same_dropped : Drops held rooms before after r → Drops held rooms before after' r' → (r ≡ r') × (after ≡ after')
   same_dropped a a' = same_changed (λ b. drop_last b (left_space held rooms before.lengths)) 29 held rooms before told a.answers a.broken a'.answers a'.broken
 
@@ -151,26 +148,20 @@ module _ (held : Held) (rooms : Rooms) (before : Lists) (told : Told held rooms 
   same_cleared a a' = same_changed (λ b. given (clear b)) 28 held rooms before told a.answers a.broken a'.answers a'.broken
 
 -- what is begun asks for no state
-pub same_begun : (plan : Plan) (room : ℕ) (space : Space) (before after after' : Lists) (r r' : Changed) → Begins plan room space before after r → Begins plan room space before after' r' →
+pub same_begun : (plan : Plan) (room : ℕ) (space : Space) (before after after' : Lists) (r r' : Reply Held) → Begins plan room space before after r → Begins plan room space before after' r' →
     (r ≡ r') × (after ≡ after')
 unfolding Begins
-same_begun plan room space before after after' (C.Into held) (C.Into held') a a' = into_one (begin plan room space) before (blank before) after after' held held' a a'
-same_begun plan room space before after after' (C.Into held) (C.Refused why) a a' = never_both a.1.0 a'.0
-same_begun plan room space before after after' (C.Refused why) (C.Into held) a a' = never_both a'.1.0 a.0
-same_begun plan room space before after after' (C.Refused why) (C.Refused why') a a' = stays_one (begin plan room space) before (blank before) after after' why why' a a'
+same_begun plan room space before after after' (given held) (given held') a a' = into_one (begin plan room space) before (blank before) after after' held held' a a'
+same_begun plan room space before after after' (given held) (refused why) a a' = never_both a.1.0 a'.0
+same_begun plan room space before after after' (refused why) (given held) a a' = never_both a'.1.0 a.0
+same_begun plan room space before after after' (refused why) (refused why') a a' = stays_one (begin plan room space) before (blank before) after after' why why' a a'
 
 -- ---- the end
-told_one : (r r' : Built) → told_built r ≡ told_built r' → r ≡ r'
-told_one (W.Length n) (W.Length n') e = cc
-told_one (W.Length n) (W.Refused why) e = absurd (never_given why n (sym e))
-told_one (W.Refused why) (W.Length n) e = absurd (never_given why n e)
-told_one (W.Refused why) (W.Refused why') e = cc
-
-pub same_end : (reply : Reply (List ℕ)) (room : ℕ) (out out' : List ℕ) (r r' : Built) → Finishes reply room out r → Finishes reply room out' r' → (r ≡ r') × (out ≡ out')
+pub same_end : (reply : Reply (List ℕ)) (room : ℕ) (out out' : List ℕ) (r r' : Reply ℕ) → Finishes reply room out r → Finishes reply room out' r' → (r ≡ r') × (out ≡ out')
 unfolding Finishes
-same_end reply room out out' r r' f f' = let e = f ∙ sym f' in (told_one r r' (ap (λ (x : Replied). x.reply) e), ap (λ (x : Replied). x.out) e)
+same_end reply room out out' r r' f f' = let e = f ∙ sym f' in (ap (λ (x : Replied). x.reply) e, ap (λ (x : Replied). x.out) e)
 
-pub same_finished : (held : Held) (rooms : Rooms) (lists : Lists) → Told held rooms lists → {room : ℕ} {out out' : List ℕ} {r r' : Built} → Files held rooms lists room out r →
+pub same_finished : (held : Held) (rooms : Rooms) (lists : Lists) → Told held rooms lists → {room : ℕ} {out out' : List ℕ} {r r' : Reply ℕ} → Files held rooms lists room out r →
     Files held rooms lists room out' r' → (r ≡ r') × (out ≡ out')
 same_finished held rooms lists (inl (b, holds)) {room} {out} {out'} {r} {r'} f f' = same_end (finish b room (space_of held rooms)) room out out' r r' (f.answers b holds) (f'.answers b holds)
 same_finished held rooms lists (inr broken) f f' = (f.broken broken ∙ sym (f'.broken broken), f.emptied (plain 28) (f.broken broken) ∙ sym (f'.emptied (plain 28) (f'.broken broken)))

@@ -1,11 +1,9 @@
 -- How a builder's numbers, and what its calls reply, go over to C.
 use Rattle.std.specs.Prelude.{◌%◌, ◌^◌, ◌∷◌, ◌≡◌}
 use Rattle.numbers.specs.{Point.{read_i32}, Prelude.{ℕ, get_or, List, [], w32, of_z}, Reply.{Reply, given, refused}, Spoken.{said_of}}
-use Rattle.build.specs.{Whole.{told_built}, declared.file.Built.{Built}}
 use Rattle.add.specs.declared.growing.grow.Added.{Added}
-use Rattle.draft.specs.declared.held.state.{Changed.{Changed}, Held.{Held}}
+use Rattle.draft.specs.declared.held.state.Held.{Held}
 use Rattle.office.specs.Written.{length_value}
-use Rattle.draft.specs.declared.held.state.Changed.TheVariants as C
 
 -- of fourteen words thirteen, one for each number of a builder; of the first four and the thirteenth only the low bits count
 unfoldable pub held_of : List ℕ → Held
@@ -53,23 +51,19 @@ words_of held noted =
 abbrev pub totals_values : Held → List ℕ
 totals_values held = held.table ∷ held.metadata ∷ held.bytes ∷ held.yards ∷ of_z w32 held.greatest ∷ []
 
-unfoldable pub told_changed : Changed → Reply Held
-told_changed (C.Into held) = given held
-told_changed (C.Refused why) = refused why
-
 -- the words of a state are those of the changed builder and read back as it, with what is noted then; or they are what they were
-unfoldable pub Kept : ℕ → List ℕ → List ℕ → Changed → Type 0
-Kept noted before after (C.Into held) = (after ≡ words_of held noted) × (held_of after ≡ held)
-Kept noted before after (C.Refused why) = after ≡ before
+unfoldable pub Kept : ℕ → List ℕ → List ℕ → Reply Held → Type 0
+Kept noted before after (given held) = (after ≡ words_of held noted) × (held_of after ≡ held)
+Kept noted before after (refused why) = after ≡ before
 
 -- what a call says and leaves in the state
-pub record Spoke (changed : Changed) (noted : ℕ) (before after : List ℕ) (number : ℕ) (words : List ℕ) : Type 0 where
-  pub said : record { number = number; words = words } ≡ said_of totals_values (told_changed changed)
+pub record Spoke (changed : Reply Held) (noted : ℕ) (before after : List ℕ) (number : ℕ) (words : List ℕ) : Type 0 where
+  pub said : record { number = number; words = words } ≡ said_of totals_values changed
   pub kept : Kept noted before after changed
 
 -- the same of a change that is as the promise of the builder in the state's words says; nothing is noted then
-pub record Speaks (Promised : Held → Changed → Type 0) (before after : List ℕ) (number : ℕ) (words : List ℕ) : Type 0 where
-  pub changed : Changed
+pub record Speaks (Promised : Held → Reply Held → Type 0) (before after : List ℕ) (number : ℕ) (words : List ℕ) : Type 0 where
+  pub changed : Reply Held
   pub promised : Promised (held_of before) changed
   pub spoke : Spoke changed 0 before after number words
 
@@ -80,7 +74,7 @@ pub record SpeaksNoted (Promised : Held → ℕ → Added → Type 0) (before af
   pub spoke : Spoke added.changed added.noted before after number words
 
 -- and of the end, which leaves the state as it is
-pub record Ends (Promised : Held → Built → Type 0) (state : List ℕ) (number : ℕ) (words : List ℕ) : Type 0 where
-  pub built : Built
+pub record Ends (Promised : Held → Reply ℕ → Type 0) (state : List ℕ) (number : ℕ) (words : List ℕ) : Type 0 where
+  pub built : Reply ℕ
   pub promised : Promised (held_of state) built
-  pub said : record { number = number; words = words } ≡ said_of length_value (told_built built)
+  pub said : record { number = number; words = words } ≡ said_of length_value built

@@ -10,20 +10,22 @@ ghost use Rattle.numbers.specs.Lists.{zeros};
 ghost use Rattle.add.specs.Offered.Offers.{offered_as};
 ghost use Rattle.edit.specs.Replacing.Replaced.{Replaces};
 ghost use Rattle.numbers.specs.Spoken.{said_of};
-ghost use Rattle.office.specs.Draft.{held_of, noted_in, words_of, totals_values, told_changed, Kept, Spoke, Speaks, SpeaksNoted, Ends};
+ghost use Rattle.office.specs.Draft.{held_of, noted_in, words_of, totals_values, Kept, Spoke, Speaks, SpeaksNoted, Ends};
 
-use crate::yards::say_built;
+use crate::said::say_length;
 use add::adding::add::add;
 use build::asked::Asked;
-use draft::held::state::{Changed, Held};
+use draft::held::state::Held;
 use draft::summed::finish::finish;
 use edit::changing::begin::begin;
 use edit::changing::clear::clear;
 use edit::changing::drop::drop_last;
 use edit::replacing::replace::replace;
 use numbers::point::{bits_of, signed};
+use numbers::refusal::Refusal;
 use numbers::said::{Said, say_refused, speak};
 
+// No `From`: neither `Held` nor a list of words is a type of this crate.
 // A builder's numbers from their words, all but the last, which tells of its notes. Any words are a builder: what its lists cannot hold is refused by each call.
 fn state_of(words: [u64; 14]) -> Held
     ensures { result ≡ held_of words }
@@ -82,11 +84,11 @@ fn words_of(held: Held, noted: usize) -> [u64; 14]
     ]
 }
 
-fn say_changed(changed: Changed) -> Said
-    ensures { result ≡ said_of totals_values (told_changed changed) }
+fn say_changed(changed: Result<Held, Refusal>) -> Said
+    ensures { result ≡ said_of totals_values changed }
 {
     match changed {
-        Changed::Into(held) => {
+        Ok(held) => {
             let bits = greatest_bits(held);
             Said {
                 number: 0,
@@ -99,22 +101,26 @@ fn say_changed(changed: Changed) -> Said
                 ],
             }
         }
-        Changed::Refused(why) => say_refused(why),
+        Err(why) => say_refused(why),
     }
 }
 
 // The changed builder's words, and what is noted beside it; on a refusal they stay as they are.
-fn keep(changed: Changed, noted: usize, state: &mut [u64; 14])
+fn keep(changed: Result<Held, Refusal>, noted: usize, state: &mut [u64; 14])
     ensures { Kept noted state.old state.new changed }
 {
-    match changed {
-        Changed::Into(held) => *state = words_of(held, noted),
-        Changed::Refused(_) => (),
+    if let Ok(held) = changed {
+        *state = words_of(held, noted);
     }
 }
 
 // With 0 noted the next add sums afresh.
-fn speak_changed(changed: Changed, noted: usize, state: &mut [u64; 14], reply: &mut [u64; 5]) -> u8
+fn speak_changed(
+    changed: Result<Held, Refusal>,
+    noted: usize,
+    state: &mut [u64; 14],
+    reply: &mut [u64; 5],
+) -> u8
     ensures { Spoke changed noted state.old state.new result reply.new }
 {
     keep(changed, noted, state);
@@ -198,8 +204,7 @@ pub fn uskelzar_add(
         builder, noted, lats, lons, pieces, sizes, values, boxes, borders, lengths, texts, bytes,
         marks, chains, groups, begins, starts, keys, spare, kept, held, words, places, out,
     );
-    let changed = added.changed;
-    speak_changed(changed, added.noted, state, reply)
+    speak_changed(added.changed, added.noted, state, reply)
 }
 
 // Takes the last yard away. Values: the totals.
@@ -315,5 +320,5 @@ pub fn uskelzar_finish(
         builder, boxes, borders, lengths, texts, bytes, starts, keys, spare, kept, held, words,
         places, out,
     );
-    speak(say_built(built), reply)
+    speak(say_length(built), reply)
 }

@@ -3,6 +3,7 @@
 
 pub mod borders;
 pub mod calls;
+mod said;
 pub mod salvaged;
 pub mod tiles;
 pub mod yards;

@@ -1,18 +1,18 @@
 // Salvage of a damaged file, for C.
 ghost use Rattle.std.specs.Prelude.{length, ◌≡◌, [], ◌∷◌};
-ghost use Rattle.salvage.specs.inner.Rescue.Told.{told_rescued};
 ghost use Rattle.salvage.specs.Salvage.{salvaged};
 ghost use Rattle.numbers.specs.Spoken.{said_of, spoken};
 ghost use Rattle.office.specs.Salvaged.{counts_values, salvage_spoken};
 
+use numbers::refusal::Refusal;
 use numbers::said::{Said, say_refused, speak};
-use salvage::rescue::reply::{Rescued, salvage};
+use salvage::rescue::reply::{Counts, salvage};
 
-fn say_rescued(rescued: Rescued) -> Said
-    ensures { result ≡ said_of counts_values (told_rescued rescued) }
+fn say_rescued(rescued: Result<Counts, Refusal>) -> Said
+    ensures { result ≡ said_of counts_values rescued }
 {
     match rescued {
-        Rescued::Counts(counts) => Said {
+        Ok(counts) => Said {
             number: 0,
             words: [
                 counts.size as u64,
@@ -22,7 +22,7 @@ fn say_rescued(rescued: Rescued) -> Said
                 0,
             ],
         },
-        Rescued::Refused(why) => say_refused(why),
+        Err(why) => say_refused(why),
     }
 }
 

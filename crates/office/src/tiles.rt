@@ -1,34 +1,23 @@
 // What builds a tile index and an atlas, and works them out again, for C.
 ghost use Rattle.std.specs.Prelude.{length, ◌≡◌, [], ◌∷◌};
 ghost use Rattle.atlas.specs.Atlas.{atlas_made, is_atlas_of};
-ghost use Rattle.index.specs.{Index.{indexed_of, told_built}, Own.{is_index_of}};
+ghost use Rattle.index.specs.{Index.{indexed_of}, Own.{is_index_of}};
 ghost use Rattle.numbers.specs.Spoken.{said_of, no_values, spoken};
-ghost use Rattle.office.specs.Written.{length_value, index_spoken};
+ghost use Rattle.office.specs.Written.{index_spoken};
 
+use crate::said::say_length;
 use atlas::build::build_atlas;
 use atlas::own::is_atlas;
-use index::build::{Built, build_index};
+use index::build::build_index;
 use index::own::is_index;
 use index::tied::say_tied;
-use numbers::said::{Said, say_refused, speak};
-
-fn say_built(built: Built) -> Said
-    ensures { result ≡ said_of length_value (told_built built) }
-{
-    match built {
-        Built::Used(used) => Said {
-            number: 0,
-            words: [used as u64, 0, 0, 0, 0],
-        },
-        Built::Refused(why) => say_refused(why),
-    }
-}
+use numbers::said::speak;
 
 // Builds a file's index. Value: how many words are used.
 pub fn uskelzar_build_index(file: &[u8], index: &mut [u32], reply: &mut [u64; 5]) -> u8
     ensures { spoken result reply.new (index.new ∷ []) ≡ index_spoken (indexed_of file.now (length index.old)) }
 {
-    speak(say_built(build_index(file, index)), reply)
+    speak(say_length(build_index(file, index)), reply)
 }
 
 // Works a file's index out again: 0 where the words are those that `uskelzar_build_index`, lent as many, leaves for this file. No values.
@@ -42,7 +31,7 @@ pub fn uskelzar_is_index(file: &[u8], index: &[u32], reply: &mut [u64; 5]) -> u8
 pub fn uskelzar_build_atlas(file: &[u8], atlas: &mut [u32], reply: &mut [u64; 5]) -> u8
     ensures { spoken result reply.new (atlas.new ∷ []) ≡ index_spoken (atlas_made file.now (length atlas.old)) }
 {
-    speak(say_built(build_atlas(file, atlas)), reply)
+    speak(say_length(build_atlas(file, atlas)), reply)
 }
 
 // Works a file's atlas out again: 0 where the words are those that `uskelzar_build_atlas`, lent as many, leaves for this file. No values.

@@ -1,25 +1,13 @@
 // A whole file from yards, for C.
 ghost use Rattle.std.specs.Prelude.{length, ◌≡◌, [], ◌∷◌};
-ghost use Rattle.build.specs.{Checked.{lent_as}, Room.{work_of}, Whole.{told_built, Cleared}};
-ghost use Rattle.numbers.specs.Spoken.{spoken, said_of};
-ghost use Rattle.office.specs.Written.{length_value};
+ghost use Rattle.build.specs.{Checked.{lent_as}, Room.{work_of}, Whole.{Cleared}};
+ghost use Rattle.numbers.specs.Spoken.{spoken};
 ghost use Rattle.office.specs.Built.{built_for, built_spoken};
 
+use crate::said::say_length;
 use build::asked::Asked;
-use build::file::{Built, build};
-use numbers::said::{Said, say_refused, speak};
-
-pub(crate) fn say_built(built: Built) -> Said
-    ensures { result ≡ said_of length_value (told_built built) }
-{
-    match built {
-        Built::Length(length) => Said {
-            number: 0,
-            words: [length as u64, 0, 0, 0, 0],
-        },
-        Built::Refused(why) => say_refused(why),
-    }
-}
+use build::file::build;
+use numbers::said::speak;
 
 // Builds a file. Values: its length. The lists behind the texts are for working in, and zero afterwards.
 pub fn uskelzar_build(
@@ -61,5 +49,5 @@ pub fn uskelzar_build(
         asked, yards, lats, lons, pieces, lengths, texts, starts, keys, spare, kept, held, words,
         places, boxes, bytes, out,
     );
-    speak(say_built(built), reply)
+    speak(say_length(built), reply)
 }

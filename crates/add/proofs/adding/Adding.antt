@@ -1,14 +1,12 @@
 -- An add, from what its steps say. Assumes nothing.
 use Rattle.numbers.proofs.Prelude.{ℕ, ◌+◌, ◌≤◌, min, eqb, ltb, ℤ, length, take, Bool, true, false, ◌&&◌, List, [], ◌++◌, ◌≡◌, refl, sym, ap, subst, ◌∙◌, arith}
 use Rattle.numbers.specs.{Reply.{Reply, given, refused, plain, demand, ◌>>◌}, declared.refusal.Refusal.{Refusal}}
-use Rattle.builder.specs.{Borders.{with_border}, File.{are_texts, up_to}, Yards.{sum_of}, declared.borders.Border.{Border}}
+use Rattle.builder.specs.{Borders.{with_border}, File.{are_texts, up_to}, Yards.{sum_of}}
 use Rattle.add.specs.{Adding.Adds.{Adds, space_for, notes_enough}, Growing.{Joins.{Renoted}, Notes.{Notes}}, Offered.Offers.{offered_as, offer_good, border_behind, data_with, Offers}}
 use Rattle.add.specs.{declared.{adding.room.NoteRooms.{NoteRooms}, growing.grow.Added.{Added}}, inner.Joining.Joins.{Joins}}
 use Rattle.draft.{proofs.held.{Fronts.{front_take}, Standing.{held_names, held_yards, held_bytes, holds_standing}}, specs.Held.Builder.{Builder, Offered, yard_of, joined, summed, fitting, add}}
-use Rattle.draft.specs.{Held.{Space.{Space, long_enough, standing}, State.{Lists, Holds, Answers}, Totals.{data_of}}, declared.held.{room.Rooms.{Rooms}, state.{Changed.{Changed}, Held.{Held}}}}
+use Rattle.draft.specs.{Held.{Space.{Space, long_enough, standing}, State.{Lists, Holds, Answers}, Totals.{data_of}}, declared.held.{room.Rooms.{Rooms}, state.Held.{Held}}}
 use Rattle.writer.specs.Writer.{checks}
-use Rattle.builder.specs.declared.borders.Border.TheVariants as B
-use Rattle.draft.specs.declared.held.state.Changed.TheVariants as C
 
 -- ---- the steps of an add
 grouped : {A : Type 0} (c : Reply (Unit {0})) (x y : Bool) (rest : Reply A) →
@@ -62,7 +60,7 @@ module _ (b : Builder) (held : Held) (before : Lists) (h : Holds b held before) 
         (up_to (min b.room n)) (data_of b.plan).bytes (yard_of o) >> last)) room ∙ (ap (λ (w : Reply (List ℕ)). offer_good (length b.plan.yards)
         (length b.plan.names) o >> (w >> last)) (sym data_as) ∙ ap (λ (c : Reply (Unit {0})). c >> (data_with held o before.bytes out >> last)) (sym good_as)))
 
-    refused_here : (why : Refusal) → (offer_good held.yards held.names o >> data_with held o before.bytes out) ≡ refused why → Answers (add b o space) before before (C.Refused why)
+    refused_here : (why : Refusal) → (offer_good held.yards held.names o >> data_with held o before.bytes out) ≡ refused why → Answers (add b o space) before before (refused why)
     unfolding Answers
     refused_here why e = (steps_here ∙ cut_short (offer_good held.yards held.names o) (data_with held o before.bytes out) last why e, refl)
 
@@ -70,12 +68,13 @@ module _ (b : Builder) (held : Held) (before : Lists) (h : Holds b held before) 
       add_last : add b o space ≡ last
       add_last = steps_here ∙ (ap (λ (c : Reply (Unit {0})). c >> (data_with held o before.bytes out >> last)) good ∙ ap (λ (w : Reply (List ℕ)). w >> last) drawn)
 
-      full_here : space.lists ≡ false → Answers (add b o space) before before (C.Refused (plain 28))
+      full_here : space.lists ≡ false → Answers (add b o space) before before (refused (plain 28))
       unfolding Answers
       full_here e = (add_last ∙ no_lists space (summed (joined b.plan o) b.room) e, refl)
 
-pub as_changed : (r : Added) (x y : Changed) (noted : ℕ) → r ≡ record { changed = x; noted = noted } → x ≡ y → r ≡ record { changed = y; noted = noted }
-as_changed r x y noted e is = e ∙ ap (λ (z : Changed). record { changed = z; noted = noted }) is
+-- one refusal for another
+pub as_refused : (w why : Refusal) (noted : ℕ) → w ≡ why → ◌≡◌ {A = Added} (record { changed = refused w; noted = noted }) (record { changed = refused why; noted = noted })
+as_refused w why noted e = rw e refl
 
 -- ---- the ways out
 module _ (held : Held) (noted : ℕ) (lats lons : List ℤ) (pieces sizes values : List ℕ) (rooms : Rooms) (lent : NoteRooms) (out : ℕ) (before : Lists) (notes : Notes)
@@ -91,7 +90,7 @@ module _ (held : Held) (noted : ℕ) (lats lons : List ℤ) (pieces sizes values
 
   -- a refusal changes nothing
   abbrev same : Refusal → Added
-  same why = record { changed = C.Refused why; noted = noted }
+  same why = record { changed = refused why; noted = noted }
 
   nothing_noted : (names : ℕ) (why : Refusal) (b : Builder) → Renoted names (joined b.plan o).yards noted notes (same why).noted notes (same why).changed
   unfolding Renoted
@@ -113,19 +112,19 @@ module _ (held : Held) (noted : ℕ) (lats lons : List ℤ) (pieces sizes values
     not_low f = absurd (never_both (standing held rooms) stood f)
 
     -- a refusal with its reason
-    refused_as : (why : Refusal) → ((b : Builder) → Holds b held before → Answers (add b o space) before before (C.Refused why)) → (r : Added) → r ≡ same why →
+    refused_as : (why : Refusal) → ((b : Builder) → Holds b held before → Answers (add b o space) before before (refused why)) → (r : Added) → r ≡ same why →
         Adds held noted o rooms lent out before before notes notes r
     refused_as why answers r is =
         subst (Adds held noted o rooms lent out before before notes notes) (sym is) (record { answers = λ b h right. (answers b h, nothing_noted held.names why b); stands_not = λ f. not_low f })
 
-    pub refused_adds : (after : List ℕ) (r : Border) → Offers held o before.bytes out after r → (why : Refusal) → r ≡ B.Refused why → (s : Added) → s ≡ same why →
+    pub refused_adds : (after : List ℕ) (r : Reply ℕ) → Offers held o before.bytes out after r → (why : Refusal) → r ≡ refused why → (s : Added) → s ≡ same why →
         Adds held noted o rooms lent out before before notes notes s
     unfolding Offers
     refused_adds after r offers why is =
-        let bad : Offers held o before.bytes out after (B.Refused why) = subst (Offers held o before.bytes out after) is offers in
+        let bad : Offers held o before.bytes out after (refused why) = subst (Offers held o before.bytes out after) is offers in
         refused_as why (λ b h. refused_here b held before h o out space room_here why bad)
 
-    module _ (after : List ℕ) (r : Border) (offers : Offers held o before.bytes out after r) (size : ℕ) (is : r ≡ B.Drawn size) where
+    module _ (after : List ℕ) (r : Reply ℕ) (offers : Offers held o before.bytes out after r) (size : ℕ) (is : r ≡ given size) where
       unfoldable offered : Type 0
       offered = (offer_good held.yards held.names o ≡ given tt) × ((data_with held o before.bytes out ≡ given (take held.bytes before.bytes ++ take size after)) × (size ≤ length after))
 

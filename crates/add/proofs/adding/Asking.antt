@@ -1,8 +1,8 @@
 -- What the steps of an add ask for follows from the tests before them. Assumes nothing.
 use Rattle.numbers.proofs.Prelude.{ℕ, ◌+◌, ◌-◌, ◌*◌, ◌^◌, ◌≤◌, ◌<◌, min, le-leb, leb-true, lt-leb, leb, ℤ, length, take, drop, length-append, length-take-le, drop_at, Bool, true, false}
-use Rattle.numbers.{proofs.{Prelude.{◌&&◌, List, ◌++◌, ◌≡◌, refl, sym, ap, subst, ◌∙◌, mul_comm, mul-suc, add-one, arith}, Tests.{both}}, specs.{Lists.{zeros}, Reply.{given}}}
+use Rattle.numbers.{proofs.{Prelude.{◌&&◌, List, ◌++◌, ◌≡◌, refl, sym, ap, subst, ◌∙◌, mul_comm, mul-suc, add-one, arith}, Tests.{both}}, specs.{Lists.{zeros}, Reply.{Reply, given}}}
 use Rattle.build.{proofs.Slices.{texts_few}, specs.Room.{enough}}
-use Rattle.builder.{proofs.{Counting.{lengths_room}, drawing.Sections.{appended_fits}}, specs.{File.{are_texts, is_text, up_to}, Yards.{cut_by, sum_of}, declared.borders.Border.{Border}}}
+use Rattle.builder.{proofs.{Counting.{lengths_room}, drawing.Sections.{appended_fits}}, specs.{File.{are_texts, is_text, up_to}, Yards.{cut_by, sum_of}}}
 use Rattle.builder.specs.inner.Drawing.Section.{LentFor}
 use Rattle.draft.{proofs.held.Stood.{Own, Stood, own_parts, stood as stood-is}, specs.Held.{Builder.{Offered}, Space.{own_enough, long_enough, standing, work_in}, State.{Lists}}}
 use Rattle.draft.specs.declared.held.{room.Rooms.{Rooms}, state.Held.{Held}}
@@ -10,7 +10,6 @@ use Rattle.writer.specs.{Pieces.{pieces_of}, Writer.{every, border_of}}
 use Rattle.add.specs.{Adding.Adds.{Few, notes_enough, used_out}, Growing.Notes.{NotesRoom}, Offered.Offers.{offered_as, offer_good, data_with, Offers}, declared.adding.room.NoteRooms.{NoteRooms}}
 use Rattle.add.specs.inner.{Joining.Joins.{Measuring}, Offered.Puts.{Placed}}
 use Rattle.add.proofs.joining.Joining.{Fine, fine}
-use Rattle.builder.specs.declared.borders.Border.TheVariants as B
 
 -- ---- lists that are long enough
 third : (a b d : Bool) → (a && (b && (false && d))) ≡ false
@@ -69,7 +68,7 @@ module _ (r : NoteRooms) (names yards : ℕ) where
 
 -- ---- of a yard that was offered and drawn
 module _ (held : Held) (lats lons : List ℤ) (pieces sizes values : List ℕ) (rooms : Rooms) (bytes : List ℕ) (out : ℕ) (bytes_are : rooms.bytes ≡ length bytes) (stood : standing held rooms ≡ true)
-    (after : List ℕ) (r : Border) (offers : Offers held (offered_as lats lons pieces sizes values) bytes out after r) (size : ℕ) (is : r ≡ B.Drawn size) where
+    (after : List ℕ) (r : Reply ℕ) (offers : Offers held (offered_as lats lons pieces sizes values) bytes out after r) (size : ℕ) (is : r ≡ given size) where
   abbrev o : Offered
   o = offered_as lats lons pieces sizes values
 

@@ -1,12 +1,12 @@
 -- A builder with a yard more, by a fresh sum, and its notes. Assumes nothing.
-use Rattle.numbers.proofs.Prelude.{ℕ, ◌+◌, tag_of, declared, ℤ, length, List, ◌≡◌, refl, ap, ◌∙◌, arith}
+use Rattle.numbers.proofs.Prelude.{ℕ, ◌+◌, ℤ, length, List, ◌≡◌, refl, ap, ◌∙◌, arith}
+use Rattle.numbers.specs.Reply.{Reply, given, refused}
+use Rattle.std.specs.Prelude.{is_err, false, true}
 use Rattle.build.specs.declared.room.Work.{Work}
 use Rattle.builder.specs.{Borders.{Drawn}, Yards.{Yard}}
 use Rattle.add.specs.{Growing.{Joins.{Renoted}, Notes.{Notes, NotedLists, NotesRoom}}, declared.afresh.measure.Measured.{Measured}}
 use Rattle.add.specs.inner.{Afresh.Afresh.{Lying, Measures, Measuring, Notable, Values, gathered}, Growing.Joins.{Grew}}
-use Rattle.draft.{proofs.summed.Reached.{reached}, specs.{Held.State.{Stands}, declared.held.state.{Changed.{Changed}, Held.{Held}}}}
-use Rattle.draft.specs.contracts.held.state.Changed as K
-use Rattle.draft.specs.declared.held.state.Changed.TheVariants as C
+use Rattle.draft.{proofs.summed.Reached.{reached}, specs.{Held.State.{Stands}, declared.held.state.Held.{Held}}}
 
 -- ---- what can be measured can be noted
 pub measured_notable : (held : Held) (size borders lengths texts : ℕ) (work : Work) → Measuring held size borders lengths texts work → (places marks chains groups begins : ℕ) → places ≡ work.places
@@ -18,13 +18,13 @@ measured_notable held size borders lengths texts work m places marks chains grou
 -- ---- what is answered
 module _ (held : Held) (strings size : ℕ) (boxes : List ℤ) (borders lengths texts places : List ℕ) (m : Measured)
     (told : Lying held size boxes borders lengths texts (λ yards drawn. Measures yards drawn held strings places m)) where
-  pub grew_not : tag_of (declared K.enum) m.changed ≡ 1 → (noted : ℕ) (notes : Notes)
+  pub grew_not : is_err m.changed ≡ true → (noted : ℕ) (notes : Notes)
       → Lying held size boxes borders lengths texts (λ yards drawn. Grew yards drawn held strings noted notes notes (record { changed = m.changed; noted = noted }))
   unfolding Renoted
   grew_not tag noted notes yards drawn bytes stands = record { changed = (told yards drawn bytes stands).changed; notes = as_it_was m.changed tag } where
-    as_it_was : (changed : Changed) → tag_of (declared K.enum) changed ≡ 1 → Renoted held.names yards noted notes noted notes changed
-    as_it_was (C.Into h) t = absurd (omega (arith, t))
-    as_it_was (C.Refused why) t = (refl, refl)
+    as_it_was : (changed : Reply Held) → is_err changed ≡ true → Renoted held.names yards noted notes noted notes changed
+    as_it_was (given h) t = let z : ◌≡◌ {A = ℕ} 0 1 = cc in absurd (omega arith)
+    as_it_was (refused why) t = (refl, refl)
 
   values_stand : (yards : List Yard) (drawn : Drawn) → length drawn.bytes ≡ held.bytes + size → Stands yards drawn held.names (held.yards + 1) boxes borders lengths texts
       → Values yards held.names (held.yards + 1) lengths texts places
@@ -37,11 +37,11 @@ module _ (held : Held) (strings size : ℕ) (boxes : List ℤ) (borders lengths 
         short = stands.short;
       }
 
-  pub grew_into : tag_of (declared K.enum) m.changed ≡ 0 → (noted : ℕ) (before after : Notes)
+  pub grew_into : is_err m.changed ≡ false → (noted : ℕ) (before after : Notes)
       → ((yards : List Yard) → Values yards held.names (held.yards + 1) lengths texts places → NotedLists held.names yards after)
       → Lying held size boxes borders lengths texts (λ yards drawn. Grew yards drawn held strings noted before after (record { changed = m.changed; noted = m.records + 1 }))
   unfolding Renoted
   grew_into tag noted before after lists yards drawn bytes stands = record { changed = (told yards drawn bytes stands).changed; notes = anew m.changed tag } where
-    anew : (changed : Changed) → tag_of (declared K.enum) changed ≡ 0 → Renoted held.names yards noted before (m.records + 1) after changed
-    anew (C.Into h) t = record { number = omega (arith, (told yards drawn bytes stands).records); lists = lists yards (values_stand yards drawn bytes stands) }
-    anew (C.Refused why) t = absurd (omega (arith, t))
+    anew : (changed : Reply Held) → is_err changed ≡ false → Renoted held.names yards noted before (m.records + 1) after changed
+    anew (given h) t = record { number = omega (arith, (told yards drawn bytes stands).records); lists = lists yards (values_stand yards drawn bytes stands) }
+    anew (refused why) t = let z : ◌≡◌ {A = ℕ} 0 1 = cc in absurd (omega arith)

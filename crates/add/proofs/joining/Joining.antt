@@ -1,7 +1,7 @@
 -- A builder whose lists have a yard more: it holds that yard, or the lists are cleared again. Assumes nothing.
-use Rattle.numbers.proofs.Prelude.{ℕ, ◌+◌, ◌-◌, ◌*◌, ◌≤◌, ◌<◌, leb-true, ltb-true, eqb-true, tag_of, declared, eqb, ltb, leb, ℤ, pos, length, take, drop, length-append, sets, length-take-le}
+use Rattle.numbers.proofs.Prelude.{ℕ, ◌+◌, ◌-◌, ◌*◌, ◌≤◌, ◌<◌, leb-true, ltb-true, eqb-true, eqb, ltb, leb, ℤ, pos, length, take, drop, length-append, sets, length-take-le}
 use Rattle.numbers.proofs.Prelude.{length-sets, Bool, true, false, ◌&&◌, List, [], ◌∷◌, ◌++◌, map, ◌≡◌, refl, sym, ap, subst, ◌∙◌, arith}
-use Rattle.numbers.{proofs.{Replies.{looked}, Tests.{both}}, specs.{Answer.{if◌then◌else◌}, Reply.{given, refused, plain, demand, ◌>>◌}, declared.refusal.Refusal.{Refusal}}}
+use Rattle.numbers.{proofs.{Replies.{looked}, Tests.{both}}, specs.{Answer.{if◌then◌else◌}, Reply.{Reply, given, refused, plain, demand, ◌>>◌}, declared.refusal.Refusal.{Refusal}}}
 use Rattle.builder.specs.{Borders.{Drawn}, File.{are_texts, head_of, is_text, up_to}, Yards.{Plan, cut_by, sum_of}}
 use Rattle.build.{proofs.{entries.Tabled.{corners_size}, metadata.Itemed.{cut_lengths}}, specs.Entries.Corners.{corners_of}}
 use Rattle.add.specs.{Growing.{Joins.{Renoted}, Notes.{Notes, NotedBy}}, Offered.Offers.{offered_as, offer_good}, declared.growing.grow.Added.{Added}, inner.Growing.Joins.{Growing, Grew}}
@@ -9,10 +9,9 @@ use Rattle.add.specs.inner.{Growing.Joins.{measured_as}, Joining.Joins.{values_e
 use Rattle.draft.proofs.held.{Fronts.{front_put, front_back}, Kept.{joined_data, joined_sound}, Lying.{lies_joined, holds_joined}, Redrawn.{drawn_with, data_many}, Standing.{texts_many, stands_more}}
 use Rattle.draft.proofs.held.{Standing.{held_names, held_yards, held_bytes, held_front, held_strings}, Texts.{corners_one, joined_front, joined_head, joined_strings, joined_yards}}
 use Rattle.draft.specs.Held.{Builder.{Builder, Offered, yard_of, joined, summed, fitting}, Sound.{Sound}, Space.{Space}, State.{held_with, Front, Lists, Lies, Holds, SameRooms, Stands, Answers}}
-use Rattle.draft.specs.{Held.{State.{lists_as, texts_of}, Totals.{Totals, data_of, totals_of, file_size}}, declared.held.state.{Changed.{Changed}, Held.{Held}}}
+use Rattle.draft.specs.{Held.{State.{lists_as, texts_of}, Totals.{Totals, data_of, totals_of, file_size}}, declared.held.state.Held.{Held}}
 use Rattle.writer.specs.Writer.{checks, every}
-use Rattle.draft.specs.contracts.held.state.Changed as K
-use Rattle.draft.specs.declared.held.state.Changed.TheVariants as C
+use Rattle.std.specs.Prelude.{is_err}
 use Rattle.build.specs.Metadata.Kept as Words
 
 -- ---- what the checks of an add say
@@ -167,11 +166,11 @@ module _ (b : Builder) (held : Held) (lats lons : List ℤ) (pieces sizes texts 
               bytes = ap length puts.bytes_are ∙ length-sets before.bytes held.bytes border;
             }
 
-        pub joins_into : (next : Held) → r.changed ≡ C.Into next → (space : Space) → space.lists ≡ true → Answers (fitting space (summed all b.room)) before after (C.Into next)
+        pub joins_into : (next : Held) → r.changed ≡ given next → (space : Space) → space.lists ≡ true → Answers (fitting space (summed all b.room)) before after (given next)
         unfolding Answers measured_as
         joins_into next is space long = go fits refl (sym is ∙ measured_here) where
-          go : (t : Bool) → fits ≡ t → C.Into next ≡ (if t then C.Into (held_with held (held.strings + length values) (totals_of all)) else C.Refused (plain 28))
-              → Answers (fitting space (summed all b.room)) before after (C.Into next)
+          go : (t : Bool) → fits ≡ t → ◌≡◌ {A = Reply Held} (given next) (if t then given (held_with held (held.strings + length values) (totals_of all)) else refused (plain 28))
+              → Answers (fitting space (summed all b.room)) before after (given next)
           go true t e = let same : next ≡ held_with held (held.strings + length values) (totals_of all) = cc in (
             summed all b.room,
             (
@@ -202,12 +201,12 @@ module _ (b : Builder) (held : Held) (lats lons : List ℤ) (pieces sizes texts 
               ∙ (ap (λ l. lists_as before.boxes before.borders before.lengths l again.bytes) strings
               ∙ ap (λ l. lists_as before.boxes before.borders before.lengths before.texts l) bytes)))
 
-        pub joins_not : (why : Refusal) → r.changed ≡ C.Refused why → (again : Lists) → Ended held after again → (space : Space) → space.lists ≡ true
-            → Answers (fitting space (summed all b.room)) before again (C.Refused why)
+        pub joins_not : (why : Refusal) → r.changed ≡ refused why → (again : Lists) → Ended held after again → (space : Space) → space.lists ≡ true
+            → Answers (fitting space (summed all b.room)) before again (refused why)
         unfolding Answers measured_as
         joins_not why is again ended space long = go fits refl (sym is ∙ measured_here) where
-          go : (t : Bool) → fits ≡ t → C.Refused why ≡ (if t then C.Into (held_with held (held.strings + length values) (totals_of all)) else C.Refused (plain 28))
-              → Answers (fitting space (summed all b.room)) before again (C.Refused why)
+          go : (t : Bool) → fits ≡ t → ◌≡◌ {A = Reply Held} (refused why) (if t then given (held_with held (held.strings + length values) (totals_of all)) else refused (plain 28))
+              → Answers (fitting space (summed all b.room)) before again (refused why)
           go true t e = let z : ◌≡◌ {A = ℕ} 0 1 = cc in absurd (omega arith)
           go false t e = let same : why ≡ plain 28 = cc in
               (fitting_is space long ∙ (ap (λ (x : Bool). demand x (plain 28) >> given (summed all b.room)) t ∙ ap (λ w. refused w) (sym same)), back again ended)
@@ -219,7 +218,7 @@ module _ (held : Held) (noted strings : ℕ) (lats lons : List ℤ) (sizes value
   m' : Settles held noted (held.strings + length values) (length border) sizes after.boxes after.borders after.lengths after.texts notes notes' r
   m' = subst (λ (n : ℕ). Settles held noted n (length border) sizes after.boxes after.borders after.lengths after.texts notes notes' r) end m
 
-  into_joins : (next : Held) → r.changed ≡ C.Into next → Joins held noted lats lons sizes values border before after notes notes' r
+  into_joins : (next : Held) → r.changed ≡ given next → Joins held noted lats lons sizes values border before after notes notes' r
   unfolding Joins
   into_joins next is b pieces texts space cut long j right = (
     subst (Answers (fitting space (summed (joined b.plan (offered_as lats lons pieces sizes texts)) b.room)) before after) (sym is)
@@ -227,7 +226,7 @@ module _ (held : Held) (noted strings : ℕ) (lats lons : List ℤ) (sizes value
     renoted b held lats lons pieces sizes texts values border before cut j placed after puts noted notes notes' right r m',
   )
 
-  not_joins : (why : Refusal) → r.changed ≡ C.Refused why → (again : Lists) → Ended held after again → Joins held noted lats lons sizes values border before again notes notes' r
+  not_joins : (why : Refusal) → r.changed ≡ refused why → (again : Lists) → Ended held after again → Joins held noted lats lons sizes values border before again notes notes' r
   unfolding Joins
   not_joins why is again ended b pieces texts space cut long j right = (
     subst (Answers (fitting space (summed (joined b.plan (offered_as lats lons pieces sizes texts)) b.room)) before again) (sym is)
@@ -236,14 +235,14 @@ module _ (held : Held) (noted strings : ℕ) (lats lons : List ℤ) (sizes value
   )
 
   -- by which of the two it is
-  pub into_tagged : tag_of (declared K.enum) r.changed ≡ 0 → Joins held noted lats lons sizes values border before after notes notes' r
-  into_tagged tag = go r.changed refl tag where
-    go : (c : Changed) → r.changed ≡ c → tag_of (declared K.enum) c ≡ 0 → Joins held noted lats lons sizes values border before after notes notes' r
-    go (C.Into next) is t = into_joins next is
-    go (C.Refused why) is t = absurd (omega (arith, t))
+  pub joins_it : is_err r.changed ≡ false → Joins held noted lats lons sizes values border before after notes notes' r
+  joins_it e = go r.changed refl e where
+    go : (c : Reply Held) → r.changed ≡ c → is_err c ≡ false → Joins held noted lats lons sizes values border before after notes notes' r
+    go (given next) is t = into_joins next is
+    go (refused why) is t = let z : ◌≡◌ {A = ℕ} 0 1 = cc in absurd (omega arith)
 
-  pub not_tagged : tag_of (declared K.enum) r.changed ≡ 1 → (again : Lists) → Ended held after again → Joins held noted lats lons sizes values border before again notes notes' r
-  not_tagged tag again ended = go r.changed refl tag where
-    go : (c : Changed) → r.changed ≡ c → tag_of (declared K.enum) c ≡ 1 → Joins held noted lats lons sizes values border before again notes notes' r
-    go (C.Into next) is t = absurd (omega (arith, t))
-    go (C.Refused why) is t = not_joins why is again ended
+  pub joins_back : is_err r.changed ≡ true → (again : Lists) → Ended held after again → Joins held noted lats lons sizes values border before again notes notes' r
+  joins_back e again ended = go r.changed refl e where
+    go : (c : Reply Held) → r.changed ≡ c → is_err c ≡ true → Joins held noted lats lons sizes values border before again notes notes' r
+    go (given next) is t = let z : ◌≡◌ {A = ℕ} 0 1 = cc in absurd (omega arith)
+    go (refused why) is t = not_joins why is again ended

@@ -1,23 +1,15 @@
 -- A yard that lies in the lists, settled by a sure step or by a fresh sum. Assumes nothing.
-use Rattle.numbers.proofs.Prelude.{ℕ, ◌+◌, ◌-◌, ◌*◌, ◌≤◌, tag_of, declared, ℤ, length, drop, length-drop, length-take, List, [], ◌∷◌, ◌++◌, map, ◌≡◌, refl, sym, ap, subst, ◌∙◌, arith}
-use Rattle.numbers.specs.declared.refusal.Refusal.{Refusal}
-use Rattle.add.specs.{Growing.{Joins.{Renoted}, Notes.{Notes, NotedBy, NotesRoom}}, declared.{growing.grow.Added.{Added}, surely.sure.Surely.{Surely}}}
+use Rattle.numbers.proofs.Prelude.{ℕ, ◌+◌, ◌-◌, ◌*◌, ◌≤◌, ℤ, length, drop, length-drop, length-take, List, [], ◌∷◌, ◌++◌, map, ◌≡◌, refl, sym, ap, subst, ◌∙◌, arith}
+use Rattle.numbers.specs.{Reply.{Reply, given, refused}, declared.refusal.Refusal.{Refusal}}
+use Rattle.add.specs.{Growing.{Joins.{Renoted}, Notes.{Notes, NotedBy, NotesRoom}}, declared.{growing.grow.Added.{Added}, surely.sure.Next.{Next}}}
 use Rattle.add.specs.inner.{Afresh.Afresh.{Lying}, Growing.Joins.{Growing, Grew}, Joining.Joins.{Measuring, Settles, values_end, value_lengths, value_texts}, Offered.Puts.{Placed}}
 use Rattle.add.specs.inner.Surely.Sure.{Joinable, SurelyAs}
 use Rattle.build.specs.{Room.{enough, work_of}, declared.room.Work.{Work}}
 use Rattle.builder.{proofs.Counting.{lengths_room}, specs.{Borders.{Drawn}, Yards.{Yard, sum_of}}}
 use Rattle.draft.specs.{Held.State.{Lists}, declared.held.state.Held.{Held}}
 use Rattle.add.specs.inner.Afresh.Afresh
-use Rattle.draft.specs.declared.held.state.Changed.TheVariants as C
-use Rattle.add.specs.contracts.surely.sure.Surely as K
 use Rattle.add.specs.inner.Surely.Sure
-use Rattle.add.specs.declared.surely.sure.Surely.TheVariants as S
-
--- ---- the third answer of a sure step
-pub unsure_tag : (s : Surely) → tag_of (declared K.enum) s ≡ 2 → s ≡ S.Unsure
-unsure_tag (S.Into held noted) e = absurd (omega (arith, e))
-unsure_tag (S.Refused why) e = absurd (omega (arith, e))
-unsure_tag S.Unsure e = refl
+use Rattle.std.specs.Prelude.{Option, Some, None}
 
 pub notes_as : (names yards a b c d a' b' c' d' : ℕ) → a' ≡ a → b' ≡ b → c' ≡ c → d' ≡ d → NotesRoom names yards a b c d → NotesRoom names yards a' b' c' d'
 notes_as names yards a b c d a' b' c' d' ea eb ec ed n =
@@ -62,7 +54,7 @@ module _ (held : Held) (sizes : List ℕ) (strings size borders : ℕ) (lengths 
       }
 
   -- ---- what was settled
-  module _ (noted : ℕ) (boxes : List ℤ) (border-places : List ℕ) (before middle : Notes) (s : Surely)
+  module _ (noted : ℕ) (boxes : List ℤ) (border-places : List ℕ) (before middle : Notes) (s : Reply (Option Next))
       (sure : Sure.Joins held noted strings size sizes boxes border-places (value_texts held strings texts) before middle s) where
     surely : (yards : List Yard) (y : Yard) (drawn drawn' : Drawn) → Growing yards y drawn drawn' held size boxes border-places (value_lengths held lengths) (value_texts held strings texts) →
         sizes ≡ map length y.values
@@ -70,20 +62,20 @@ module _ (held : Held) (sizes : List ℕ) (strings size borders : ℕ) (lengths 
     surely yards y drawn drawn' g sizes_are end right =
         sure yards y drawn drawn' (value_lengths held lengths) g sizes_are (omega (arith, texts_many, end, m.order)) right
 
-    pub settled_into : (next : Held) (noted' : ℕ) → s ≡ S.Into next noted' →
-        Settles held noted strings size sizes boxes border-places lengths texts before middle (record { changed = C.Into next; noted = noted' })
+    pub settled_into : (next : Next) → s ≡ given (Some next) →
+        Settles held noted strings size sizes boxes border-places lengths texts before middle (record { changed = given next.held; noted = next.noted })
     unfolding SurelyAs Renoted
-    settled_into next noted' is yards y drawn drawn' g sizes_are end right =
+    settled_into next is yards y drawn drawn' g sizes_are end right =
         let two = subst (SurelyAs held strings (yards ++ (y ∷ [])) drawn' before middle) is (surely yards y drawn drawn' g sizes_are end right) in
         record { changed = two.0; notes = two.1 }
 
-    pub settled_not : (why : Refusal) → s ≡ S.Refused why → Settles held noted strings size sizes boxes border-places lengths texts before middle (record { changed = C.Refused why; noted = noted })
+    pub settled_not : (why : Refusal) → s ≡ refused why → Settles held noted strings size sizes boxes border-places lengths texts before middle (record { changed = refused why; noted = noted })
     unfolding SurelyAs Renoted
     settled_not why is yards y drawn drawn' g sizes_are end right =
         let two = subst (SurelyAs held strings (yards ++ (y ∷ [])) drawn' before middle) is (surely yards y drawn drawn' g sizes_are end right) in
         record { changed = two.0; notes = (refl, two.1) }
 
-    pub settled_afresh : s ≡ S.Unsure → (after : Notes) (r : Added) → Lying held size boxes border-places (value_lengths held lengths) (value_texts held strings texts)
+    pub settled_afresh : s ≡ given None → (after : Notes) (r : Added) → Lying held size boxes border-places (value_lengths held lengths) (value_texts held strings texts)
         (λ yards drawn. Grew yards drawn held strings noted middle after r) → Settles held noted strings size sizes boxes border-places lengths texts before after r
     unfolding SurelyAs
     settled_afresh is after r lying yards y drawn drawn' g sizes_are end right =

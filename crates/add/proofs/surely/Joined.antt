@@ -1,17 +1,17 @@
 -- What comes of a yard that is joined by a step. Assumes nothing.
 use Rattle.numbers.{proofs.Prelude.{ℕ, ◌+◌, ◌-◌, ◌*◌, ℤ, length, take, drop, set, sets, List, [], ◌∷◌, ◌++◌, ◌≡◌, refl, sym, ap, subst, ◌∙◌, arith}, specs.declared.refusal.Refusal.{Refusal}}
 use Rattle.builder.specs.{Borders.{Drawn}, Grouping.Items.{starts_from}, Yards.{Yard}}
-use Rattle.add.specs.{Growing.Notes.{Noted, NotedBy, notes_as}, declared.surely.sure.{Growth.{Growth}, Next.{Next}}, inner.Growing.Joins.{Growing, measured_as}}
+use Rattle.add.specs.{Growing.Notes.{Noted, NotedBy, notes_as}, declared.surely.sure.Next.{Next}, inner.Growing.Joins.{Growing, measured_as}}
 use Rattle.add.specs.inner.Surely.Sure.{Growths, Joinable, Joins, SureRoom, SurelyAs, Weighing, ended_at, totals_by}
 use Rattle.draft.specs.{Held.Totals.{Totals, totals_for}, declared.held.state.Held.{Held}}
-use Rattle.notes.specs.{declared.quick.step.{Stepped.{Stepped}, Sureness.{Sureness}}, inner.{Noted.Noting.{NotesOne}, Quick.Steps.{Grown, Steps}}}
+use Rattle.notes.specs.{declared.quick.step.Stepped.{Stepped}, inner.{Noted.Noting.{NotesOne}, Quick.Steps.{Grown, Steps}}}
 use Rattle.add.proofs.surely.Marked.{unmarked, stepping, noted_more}
-use Rattle.add.specs.declared.surely.sure.Growth.TheVariants as G
-use Rattle.add.specs.declared.surely.sure.Surely.TheVariants as S
+use Rattle.numbers.specs.Reply.{Reply, given, refused}
+use Rattle.std.specs.Prelude.{Option, Some, None}
 
 -- ---- nothing was done
 pub joins_none : (held : Held) (noted strings size : ℕ) (sizes : List ℕ) (boxes : List ℤ) (borders texts marks chains groups begins : List ℕ)
-    → Joins held noted strings size sizes boxes borders texts (notes_as marks chains groups begins) (notes_as marks chains groups begins) S.Unsure
+    → Joins held noted strings size sizes boxes borders texts (notes_as marks chains groups begins) (notes_as marks chains groups begins) (given None)
 unfolding SurelyAs
 joins_none held noted strings size sizes boxes borders texts marks chains groups begins = λ yards y drawn drawn' lengths g valued whole n. refl
 
@@ -27,20 +27,20 @@ same_totals yards y drawn drawn' held size boxes borders lengths texts g s grown
     totals_same s.table s.metadata (held.bytes + size) (held.yards + 1) t.table t.metadata t.bytes t.yards s.greatest t.greatest grown.table grown.metadata
     (sym g.bytes) g.stands.many grown.greatest
 
-module _ (held : Held) (noted strings size : ℕ) (sizes : List ℕ) (boxes : List ℤ) (borders texts marks chains groups begins after : List ℕ) (weighed : Sureness) (growth : Growth)
+module _ (held : Held) (noted strings size : ℕ) (sizes : List ℕ) (boxes : List ℤ) (borders texts marks chains groups begins after : List ℕ) (weighed : Option Stepped) (growth : Reply (Option Next))
     (pre : Joinable held size sizes (length texts) (length boxes) (length borders) (length marks) (length chains) (length groups) (length begins)) (some : noted ≡ 0 → ⊥)
     (put : after ≡ sets marks (held.yards * held.names + 1) (drop 1 (starts_from (held.strings - held.front) sizes)))
     (told : Weighing held noted boxes borders texts after chains groups begins weighed) (grew : Growths held strings size weighed growth) where
   -- ---- it was marked, and unmarked again
   module _ (again : List ℕ) (cut : again ≡ ended_at (held.yards * held.names + 1) after) where
-    pub joins_unsure : Joins held noted strings size sizes boxes borders texts (notes_as marks chains groups begins) (notes_as again chains groups begins) S.Unsure
+    pub joins_unsure : Joins held noted strings size sizes boxes borders texts (notes_as marks chains groups begins) (notes_as again chains groups begins) (given None)
     unfolding SurelyAs NotedBy
     joins_unsure = λ yards y drawn drawn' lengths g valued whole n.
         ap (λ (l : List ℕ). notes_as l chains groups begins)
         (unmarked yards y drawn drawn' held size boxes borders lengths texts g sizes valued whole noted marks chains groups begins (n (omega (arith, some))) after put again cut)
 
-    pub joins_refused : (why : Refusal) → growth ≡ G.Refused why →
-        Joins held noted strings size sizes boxes borders texts (notes_as marks chains groups begins) (notes_as again chains groups begins) (S.Refused why)
+    pub joins_refused : (why : Refusal) → growth ≡ refused why →
+        Joins held noted strings size sizes boxes borders texts (notes_as marks chains groups begins) (notes_as again chains groups begins) (refused why)
     unfolding SurelyAs NotedBy Growths Steps
     joins_refused why is = λ yards y drawn drawn' lengths g valued whole n.
         let notes = n (omega (arith, some)) in
@@ -54,9 +54,9 @@ module _ (held : Held) (noted strings size : ℕ) (sizes : List ℕ) (boxes : Li
         )
 
   -- ---- it is in
-  pub joins_into : (next : Next) → growth ≡ G.Into next → (chains' groups' begins' : List ℕ)
+  pub joins_into : (next : Next) → growth ≡ given (Some next) → (chains' groups' begins' : List ℕ)
       → NotesOne held.names held.yards (take ((held.yards + 1) * held.names + 1) after) texts chains groups chains' groups' → begins' ≡ set begins held.yards next.begin
-      → Joins held noted strings size sizes boxes borders texts (notes_as marks chains groups begins) (notes_as after chains' groups' begins') (S.Into next.held next.noted)
+      → Joins held noted strings size sizes boxes borders texts (notes_as marks chains groups begins) (notes_as after chains' groups' begins') (given (Some next))
   unfolding SurelyAs NotedBy Growths Steps
   joins_into next is chains' groups' begins' one begun = λ yards y drawn drawn' lengths g valued whole n.
       let notes = n (omega (arith, some)) in

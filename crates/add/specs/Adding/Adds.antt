@@ -1,10 +1,9 @@
 -- What `add` promises.
 use Rattle.std.specs.Prelude.{◌+◌, ◌*◌, ◌≤◌, ◌<◌, ◌&&◌, ◌++◌, ◌≡◌}
-use Rattle.numbers.specs.{Lists.{zeros}, Prelude.{ℕ, min, leb, length, drop, Bool, false, List}, Reply.{plain}}
+use Rattle.numbers.specs.{Lists.{zeros}, Prelude.{ℕ, min, leb, length, drop, Bool, false, List}, Reply.{refused, plain}}
 use Rattle.builder.specs.Yards.{sum_of}
 use Rattle.add.specs.{Growing.{Joins.{Renoted}, Notes.{Notes, NotedBy}}, declared.{adding.room.NoteRooms.{NoteRooms}, growing.grow.Added.{Added}}}
 use Rattle.draft.specs.{Held.{Builder.{Builder, Offered, add, joined}, Space.{Space, long_enough, standing}, State.{Lists, Holds, Answers}}, declared.held.{room.Rooms.{Rooms}, state.Held.{Held}}}
-use Rattle.draft.specs.declared.held.state.Changed.TheVariants as C
 
 -- the lists of notes are long enough for so many names and yards: a word more than there are values; 4,096 and one a value; 4,096 and one a yard; one a yard
 unfoldable pub notes_enough : NoteRooms → ℕ → ℕ → Bool
@@ -26,7 +25,7 @@ space_for held rooms notes o out =
 pub record Adds (held : Held) (noted : ℕ) (o : Offered) (rooms : Rooms) (lent : NoteRooms) (out : ℕ) (before after : Lists) (notes notes' : Notes) (r : Added) : Type 0 where
   pub answers : (b : Builder) → Holds b held before → NotedBy held.names b.plan.yards noted notes
       → Answers (add b o (space_for held rooms lent o out)) before after r.changed × Renoted held.names (joined b.plan o).yards noted notes r.noted notes' r.changed
-  pub stands_not : standing held rooms ≡ false → (r ≡ record { changed = C.Refused (plain 28); noted = noted }) × ((after ≡ before) × (notes' ≡ notes))
+  pub stands_not : standing held rooms ≡ false → (r ≡ record { changed = refused (plain 28); noted = noted }) × ((after ≡ before) × (notes' ≡ notes))
 
 -- so much of an output is used: what a border of so many points can take
 abbrev pub border_room : ℕ → ℕ → ℕ

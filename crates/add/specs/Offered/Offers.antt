@@ -2,9 +2,8 @@
 use Rattle.std.specs.Prelude.{◌≤◌, ◌&&◌, ◌++◌, ◌≡◌}
 use Rattle.numbers.specs.{Prelude.{ℕ, min, eqb, ltb, ℤ, length, take, false, List, []}, Reply.{Reply, given, refused, plain, demand, ◌>>◌}}
 use Rattle.writer.specs.{Pieces.{pieces_of}, Writer.{checks, border_of}}
-use Rattle.builder.specs.{Borders.{appended}, File.{are_texts, up_to}, declared.borders.Border.{Border}}
+use Rattle.builder.specs.{Borders.{appended}, File.{are_texts, up_to}}
 use Rattle.draft.specs.{Held.Builder.{Offered}, declared.held.state.Held.{Held}}
-use Rattle.builder.specs.declared.borders.Border.TheVariants as B
 
 abbrev pub offered_as : List ℤ → List ℤ → List ℕ → List ℕ → List ℕ → Offered
 offered_as lats lons pieces sizes values = record { lats = lats; lons = lons; pieces = pieces; lengths = sizes; texts = values }
@@ -23,7 +22,7 @@ abbrev pub data_with : Held → Offered → List ℕ → ℕ → Reply (List ℕ
 data_with held o bytes room = border_behind held.version (up_to (min held.room (min (length bytes) room))) (take held.bytes bytes) o.lats o.lons o.pieces
 
 -- the yard is good, and its border stands at the front of the output; or it is refused
-unfoldable pub Offers : Held → Offered → List ℕ → ℕ → List ℕ → Border → Type 0
-Offers held o bytes room out (B.Drawn size) =
+unfoldable pub Offers : Held → Offered → List ℕ → ℕ → List ℕ → Reply ℕ → Type 0
+Offers held o bytes room out (given size) =
     (offer_good held.yards held.names o ≡ given tt) × ((data_with held o bytes room ≡ given (take held.bytes bytes ++ take size out)) × (size ≤ length out))
-Offers held o bytes room out (B.Refused why) = (offer_good held.yards held.names o >> data_with held o bytes room) ≡ refused why
+Offers held o bytes room out (refused why) = (offer_good held.yards held.names o >> data_with held o bytes room) ≡ refused why

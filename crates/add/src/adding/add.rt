@@ -6,24 +6,19 @@ ghost use Rattle.add.specs.Growing.Notes.{notes_as};
 ghost use Rattle.draft.specs.Held.State.{lists_as, rooms_of, works_as};
 ghost use Rattle.add.specs.Joining.Joins.{Rests};
 ghost use Rattle.numbers.specs.Lists.{zeros};
-ghost use Rattle.add.specs.Offered.Offers.{offered_as};
+ghost use Rattle.add.specs.Offered.{Offer.{offer_of}, Offers.{offered_as}};
 ghost use Rattle.add.specs.Adding.Adds.{Adds, note_rooms, used_out};
 
 use crate::adding::room::{NoteRooms, has_place};
-use crate::growing::grow::{Added, no_room};
+use crate::growing::grow::Added;
 use crate::joining::join::join;
 use crate::offered::draw::{lent_to, take_offer};
+use crate::offered::offer::Offer;
 use build::room::sum_of;
-use builder::borders::Border;
 use draft::held::room::{Rooms, stands};
-use draft::held::state::{Changed, Held};
+use draft::held::state::Held;
 use header::field::zero;
-
-fn refused(changed: Changed, noted: usize) -> Added
-    ensures { result ≡ record { changed = changed; noted = noted } }
-{
-    Added { changed, noted }
-}
+use numbers::fault::Fault;
 
 // Where a part of a list ends.
 fn end_of(start: usize, size: usize, most: usize) -> usize
@@ -45,11 +40,7 @@ fn clear_front(out: &mut [u8], size: usize)
 fn add_kept(
     builder: Held,
     noted: usize,
-    lats: &[i32],
-    lons: &[i32],
-    pieces: &[u32],
-    sizes: &[u32],
-    values: &[u8],
+    offer: Offer,
     boxes: &mut [i32],
     borders: &mut [u32],
     lengths: &mut [u32],
@@ -69,11 +60,11 @@ fn add_kept(
     wide: usize,
     out: &mut [u8],
 ) -> Added
-    requires { LentFor (min (length lats.now) 65536) wide (length out.old) }
+    requires { LentFor (min (length offer.lats.now) 65536) wide (length out.old) }
     ensures { let own = lists_as boxes.old borders.old lengths.old texts.old bytes.old in
         let work = works_as starts.old keys.old spare.old kept.old held.old words.old places.old in
         let notes = notes_as marks.old chains.old groups.old begins.old in
-        Adds builder noted (offered_as lats.now lons.now pieces.now sizes.now values.now)
+        Adds builder noted (offer_of offer.entry)
         (rooms_of own work) (note_rooms notes) wide own
         (lists_as boxes.new borders.new lengths.new texts.new bytes.new) notes
         (notes_as marks.new chains.new groups.new begins.new) result
@@ -100,26 +91,41 @@ fn add_kept(
         begins: begins.len(),
     };
     if !stands(builder, rooms) {
-        return refused(no_room(), noted);
+        return Added {
+            changed: Err(Fault::FileFull.alone()),
+            noted,
+        };
     }
-    let offered = take_offer(builder, lats, lons, pieces, sizes, values, bytes, wide, out);
+    let offered = take_offer(builder, offer, bytes, wide, out);
     let size = match offered {
-        Border::Drawn(size) => size,
-        Border::Refused(why) => return refused(Changed::Refused(why), noted),
+        Ok(size) => size,
+        Err(why) => {
+            return Added {
+                changed: Err(why),
+                noted,
+            };
+        }
     };
-    let sum = sum_of(sizes);
+    let sum = sum_of(offer.sizes);
     if !has_place(builder, rooms, lent, sum) {
-        return refused(no_room(), noted);
+        return Added {
+            changed: Err(Fault::FileFull.alone()),
+            noted,
+        };
     }
     let strings = end_of(builder.strings, sum, texts.len());
+    let yard = Offer {
+        lats: offer.lats,
+        lons: offer.lons,
+        pieces: offer.pieces,
+        sizes: offer.sizes,
+        values: &offer.values[..sum],
+    };
     join(
         builder,
         noted,
         strings,
-        lats,
-        lons,
-        sizes,
-        &values[..sum],
+        yard,
         &out[..size],
         boxes,
         borders,
@@ -179,14 +185,17 @@ pub fn add(
 {
     let wide = out.len();
     let lent = lent_to(lats.len(), wide);
-    let added = add_kept(
-        builder,
-        noted,
+    let offer = Offer {
         lats,
         lons,
         pieces,
         sizes,
         values,
+    };
+    let added = add_kept(
+        builder,
+        noted,
+        offer,
         boxes,
         borders,
         lengths,

@@ -7,7 +7,7 @@ ghost use Rattle.add.specs.inner.Afresh.Afresh.{Measuring, Lying};
 use crate::afresh::measure::measure;
 use crate::afresh::note::note_afresh;
 use crate::growing::grow::Added;
-use draft::held::state::{Changed, Held};
+use draft::held::state::Held;
 
 // The texts end so then, and the data is so many bytes longer; the lists have the yard already. Lengths and texts are those of the values alone.
 pub(crate) fn join_afresh(
@@ -41,9 +41,8 @@ pub(crate) fn join_afresh(
         words, places,
     );
     let changed = measured.changed;
-    match changed {
-        Changed::Refused(_) => return Added { changed, noted },
-        Changed::Into(_) => (),
+    if changed.is_err() {
+        return Added { changed, noted };
     }
     note_afresh(
         builder.names as usize,

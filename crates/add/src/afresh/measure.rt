@@ -3,14 +3,16 @@ ghost use Rattle.std.specs.Prelude.{◌+◌, length};
 ghost use Rattle.build.specs.Room.{work_of};
 ghost use Rattle.add.specs.inner.Afresh.Afresh.{Measuring, Measures, Lying};
 
-use crate::growing::grow::{grow, no_room};
-use draft::held::state::{Changed, Held};
-use draft::summed::sums::{Summed, sum_up};
+use crate::growing::grow::grow;
+use draft::held::state::Held;
+use draft::summed::sums::sum_up;
+use numbers::fault::Fault;
+use numbers::refusal::Refusal;
 
 // What the builder becomes, and the bytes of its records.
 #[derive(Clone, Copy)]
 pub(crate) struct Measured {
-    pub changed: Changed,
+    pub changed: Result<Held, Refusal>,
     pub records: u32,
 }
 
@@ -49,14 +51,11 @@ pub(crate) fn measure(
         words,
         places,
     );
-    let sums = match summed {
-        Summed::Sums(sums) => sums,
-        Summed::Broken => {
-            return Measured {
-                changed: no_room(),
-                records: 0,
-            };
-        }
+    let Some(sums) = summed else {
+        return Measured {
+            changed: Err(Fault::FileFull.alone()),
+            records: 0,
+        };
     };
     Measured {
         changed: grow(builder, strings, size, sums),

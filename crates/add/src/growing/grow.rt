@@ -1,37 +1,29 @@
 // What a builder becomes with a yard more.
 ghost use Rattle.std.specs.Prelude.{◌≡◌};
-ghost use Rattle.numbers.specs.Reply.{plain};
 ghost use Rattle.add.specs.inner.Growing.Joins.{Grows, measured_as, totals_with};
 
-use builder::borders::OUTPUT_FULL;
-use draft::held::state::{Changed, Held};
+use draft::held::state::Held;
 use draft::summed::sums::{Sums, fits};
-use numbers::refusal::plain;
+use numbers::fault::Fault;
+use numbers::refusal::Refusal;
 
 // What a call makes of a builder, and what is noted then: 0 for nothing, else one more than the bytes of the records.
 #[derive(Clone, Copy)]
 pub struct Added {
-    pub changed: Changed,
+    pub changed: Result<Held, Refusal>,
     pub noted: usize,
 }
 
-// A list too short, or a file too long.
-pub(crate) fn no_room() -> Changed
-    ensures { result ≡ Changed.Refused (plain 28) }
-{
-    Changed::Refused(plain(OUTPUT_FULL))
-}
-
 // With so many bytes of texts and so many more of data; 28 where its file is too long.
-pub(crate) fn grow(builder: Held, strings: usize, size: usize, sums: Sums) -> Changed
+pub(crate) fn grow(builder: Held, strings: usize, size: usize, sums: Sums) -> Result<Held, Refusal>
     requires { Grows builder size }
     ensures { result ≡ measured_as builder strings (totals_with builder size sums) }
 {
     let bytes = builder.bytes + size;
     if !fits(builder.head, sums.table, sums.metadata, bytes, builder.room) {
-        return no_room();
+        return Err(Fault::FileFull.alone());
     }
-    Changed::Into(Held {
+    Ok(Held {
         kind: builder.kind,
         version: builder.version,
         precision: builder.precision,

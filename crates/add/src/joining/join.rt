@@ -8,18 +8,16 @@ ghost use Rattle.add.specs.{inner.Joining.Joins.{Measuring, Joins}, Joining.Join
 
 use crate::growing::grow::Added;
 use crate::joining::settle::settle;
+use crate::offered::offer::Offer;
 use crate::offered::put::{put_yard, take_back};
-use draft::held::state::{Changed, Held};
+use draft::held::state::Held;
 
 // The texts end so then; on a refusal every list is as it was.
 pub(crate) fn join(
     builder: Held,
     noted: usize,
     strings: usize,
-    lats: &[i32],
-    lons: &[i32],
-    sizes: &[u32],
-    values: &[u8],
+    yard: Offer,
     border: &[u8],
     boxes: &mut [i32],
     borders: &mut [u32],
@@ -38,23 +36,21 @@ pub(crate) fn join(
     words: &mut [u32],
     places: &mut [u32],
 ) -> Added
-    requires { (strings ≡ builder.strings + length values.now) × Placed builder (length sizes.now) (length values.now) (length border.now) (lists_as boxes.old borders.old lengths.old texts.old bytes.old)
-        × Measuring builder sizes.now strings (length border.now) (length borders.old) (length lengths.old) (length texts.old) (work_of (length starts.old) (length keys.old) (length spare.old) (length kept.old) (length held.old) (length words.old) (length places.old) (length boxes.old))
+    requires { (strings ≡ builder.strings + length yard.values.now) × Placed builder (length yard.sizes.now) (length yard.values.now) (length border.now) (lists_as boxes.old borders.old lengths.old texts.old bytes.old)
+        × Measuring builder yard.sizes.now strings (length border.now) (length borders.old) (length lengths.old) (length texts.old) (work_of (length starts.old) (length keys.old) (length spare.old) (length kept.old) (length held.old) (length words.old) (length places.old) (length boxes.old))
         (length marks.old) (length chains.old) (length groups.old) (length begins.old) }
-    ensures { Joins builder noted lats.now lons.now sizes.now values.now border.now (lists_as boxes.old borders.old lengths.old texts.old bytes.old) (lists_as boxes.new borders.new lengths.new texts.new bytes.new)
+    ensures { Joins builder noted yard.entry.lats.now yard.entry.lons.now yard.entry.sizes.now yard.entry.values.now border.now (lists_as boxes.old borders.old lengths.old texts.old bytes.old) (lists_as boxes.new borders.new lengths.new texts.new bytes.new)
         (notes_as marks.old chains.old groups.old begins.old) (notes_as marks.new chains.new groups.new begins.new) result
         × Rests (works_as starts.old keys.old spare.old kept.old held.old words.old places.old)
         (works_as starts.new keys.new spare.new kept.new held.new words.new places.new) }
 {
-    put_yard(
-        builder, lats, lons, sizes, values, border, boxes, borders, lengths, texts, bytes,
-    );
+    put_yard(builder, yard, border, boxes, borders, lengths, texts, bytes);
     let added = settle(
         builder,
         noted,
         strings,
         border.len(),
-        sizes,
+        yard.sizes,
         boxes,
         borders,
         lengths,
@@ -71,11 +67,8 @@ pub(crate) fn join(
         words,
         places,
     );
-    let changed = added.changed;
-    match changed {
-        Changed::Into(_) => return added,
-        Changed::Refused(_) => (),
+    if added.changed.is_err() {
+        take_back(builder, boxes, borders, lengths, texts, bytes);
     }
-    take_back(builder, boxes, borders, lengths, texts, bytes);
     added
 }

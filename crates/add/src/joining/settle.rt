@@ -7,8 +7,8 @@ ghost use Rattle.add.specs.{inner.Joining.Joins.{Measuring, Settles}, Joining.Jo
 
 use crate::afresh::join::join_afresh;
 use crate::growing::grow::Added;
-use crate::surely::sure::{Surely, join_sure};
-use draft::held::state::{Changed, Held};
+use crate::surely::sure::join_sure;
+use draft::held::state::Held;
 use draft::summed::rest::rest_work;
 
 // The texts end so then, and the data is so many bytes longer.
@@ -59,22 +59,19 @@ pub(crate) fn settle(
         begins,
     );
     match sure {
-        Surely::Into {
-            held: next,
-            noted: now,
-        } => {
+        Ok(Some(next)) => {
             return Added {
-                changed: Changed::Into(next),
-                noted: now,
+                changed: Ok(next.held),
+                noted: next.noted,
             };
         }
-        Surely::Refused(why) => {
+        Ok(None) => (),
+        Err(why) => {
             return Added {
-                changed: Changed::Refused(why),
+                changed: Err(why),
                 noted,
             };
         }
-        Surely::Unsure => (),
     }
     let added = join_afresh(
         builder,

@@ -1,45 +1,26 @@
 // The checks of an offered yard before its border is drawn: 19 to 22, then 25 and 26.
-ghost use mathlib.Core.{Path.{◌≡◌}, List.{List}};
-ghost use Rattle.std.specs.Prelude.{ℕ};
-ghost use Rattle.builder.specs.Borders.{passed};
-ghost use Rattle.numbers.specs.Reply.{plain};
-ghost use Rattle.add.specs.Offered.Offers.{offered_as, offer_good};
+ghost use Rattle.std.specs.Prelude.{◌≡◌};
+ghost use Rattle.add.specs.Offered.{Offer.{offer_of}, Offers.{offer_good}};
 
-use build::checks::{BAD_COUNTS, BAD_TEXT};
-use builder::borders::{Border, check_border};
+use crate::offered::offer::Offer;
+use builder::borders::check_border;
 use builder::texts::are_texts;
-use numbers::refusal::plain;
-
-fn refused(number: u8) -> Border
-    ensures { result ≡ Border.Refused (plain number) }
-{
-    Border::Refused(plain(number))
-}
+use numbers::fault::Fault;
+use numbers::refusal::Refusal;
 
 // A yard for a builder that has so many, and so many names.
-pub(crate) fn check_offer(
-    yards: usize,
-    names: usize,
-    lats: &[i32],
-    lons: &[i32],
-    sizes: &[u32],
-    values: &[u8],
-) -> Border
-    ensures { (pieces : List ℕ) → passed result ≡ offer_good yards names (offered_as lats.now lons.now pieces sizes.now values.now) }
+pub(crate) fn check_offer(yards: usize, names: usize, offer: Offer) -> Result<(), Refusal>
+    ensures { result ≡ offer_good yards names (offer_of offer.entry) }
 {
-    let bordered = check_border(lats, lons);
-    match bordered {
-        Border::Drawn(_) => (),
-        Border::Refused(why) => return Border::Refused(why),
-    }
+    check_border(offer.lats, offer.lons)?;
     if 4096 <= yards {
-        return refused(BAD_COUNTS);
+        return Err(Fault::BadYards.alone());
     }
-    if sizes.len() != names {
-        return refused(BAD_COUNTS);
+    if offer.sizes.len() != names {
+        return Err(Fault::BadYards.alone());
     }
-    if !are_texts(sizes, values) {
-        return refused(BAD_TEXT);
+    if !are_texts(offer.sizes, offer.values) {
+        return Err(Fault::BadText.alone());
     }
-    Border::Drawn(0)
+    Ok(())
 }

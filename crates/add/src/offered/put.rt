@@ -3,6 +3,7 @@ ghost use Rattle.std.specs.Prelude.{length};
 ghost use Rattle.draft.specs.Held.State.{lists_as};
 ghost use Rattle.add.specs.inner.Offered.Puts.{Placed, Puts, Ended};
 
+use crate::offered::offer::Offer;
 use build::entries::corners::put_corners;
 use build::metadata::kept::put_words;
 use build::zero::zero_numbers;
@@ -14,10 +15,7 @@ use header::zero::zero_words;
 
 pub(crate) fn put_yard(
     builder: Held,
-    lats: &[i32],
-    lons: &[i32],
-    sizes: &[u32],
-    values: &[u8],
+    yard: Offer,
     border: &[u8],
     boxes: &mut [i32],
     borders: &mut [u32],
@@ -25,18 +23,18 @@ pub(crate) fn put_yard(
     texts: &mut [u8],
     bytes: &mut [u8],
 )
-    requires { Placed builder (length sizes.now) (length values.now) (length border.now) (lists_as boxes.old borders.old lengths.old texts.old bytes.old) }
-    ensures { Puts builder lats.now lons.now sizes.now values.now border.now (lists_as boxes.old borders.old lengths.old texts.old bytes.old) (lists_as boxes.new borders.new lengths.new texts.new bytes.new) }
+    requires { Placed builder (length yard.sizes.now) (length yard.values.now) (length border.now) (lists_as boxes.old borders.old lengths.old texts.old bytes.old) }
+    ensures { Puts builder yard.entry.lats.now yard.entry.lons.now yard.entry.sizes.now yard.entry.values.now border.now (lists_as boxes.old borders.old lengths.old texts.old bytes.old) (lists_as boxes.new borders.new lengths.new texts.new bytes.new) }
 {
     let at = builder.yards;
     let names = builder.names as usize;
     let text = builder.strings;
     let place = builder.bytes;
-    let bounds = box_of(lats, lons);
+    let bounds = box_of(yard.lats, yard.lons);
     put_corners(boxes, 4 * at, bounds);
     borders[at] = place as u32;
-    put_words(lengths, names + 1 + names * at, sizes);
-    put_bytes(&mut texts[text..], 0, values);
+    put_words(lengths, names + 1 + names * at, yard.sizes);
+    put_bytes(&mut texts[text..], 0, yard.values);
     put_bytes(bytes, place, border);
 }
 

@@ -8,35 +8,19 @@ ghost use Rattle.notes.specs.inner.Noted.Noting.{NotesOne};
 ghost use Rattle.add.specs.inner.Surely.Sure.{SureRoom, Joinable, Joins, Weighing, Growths, ended_at};
 
 use crate::growing::grow::grow;
-use draft::held::state::{Changed, Held};
+use draft::held::state::Held;
 use draft::summed::sums::Sums;
 use header::zero::zero_words;
 use notes::noted::note::{mark_more, note_yard};
-use notes::quick::step::{Numbers, Sureness, step};
+use notes::quick::step::{Numbers, Stepped, step};
 use numbers::refusal::Refusal;
 
-// What came of it.
+// What the builder becomes, what is noted then, and where the yard's record begins.
 #[derive(Clone, Copy)]
-pub enum Surely {
-    Into { held: Held, noted: usize },
-    Refused(Refusal),
-    // It is not sure, and nothing is changed.
-    Unsure,
-}
-
-// The same before the notes are made, and where the yard's record begins.
-#[derive(Clone, Copy)]
-struct Next {
-    held: Held,
-    noted: usize,
-    begin: u32,
-}
-
-#[derive(Clone, Copy)]
-enum Growth {
-    Into(Next),
-    Refused(Refusal),
-    Unsure,
+pub(crate) struct Next {
+    pub held: Held,
+    pub noted: usize,
+    pub begin: u32,
 }
 
 // Where the values of the yard begin, behind those that are held.
@@ -71,7 +55,7 @@ fn weigh_yard(
     chains: &[u32],
     groups: &[u32],
     begins: &[u32],
-) -> Sureness
+) -> Option<Stepped>
     requires { (0 < noted) × SureRoom builder (length boxes.now) (length borders.now) (length marks.now) (length chains.now) (length groups.now) (length begins.now) }
     ensures { Weighing builder noted boxes.now borders.now texts.now marks.now chains.now groups.now begins.now result }
 {
@@ -120,19 +104,23 @@ fn note_step(
     begins[count] = begin;
 }
 
-// What the builder becomes by a step, if that is sure.
-fn grow_surely(builder: Held, strings: usize, size: usize, weighed: Sureness) -> Growth
+// What the builder becomes by a step; none where that is not sure.
+fn grow_surely(
+    builder: Held,
+    strings: usize,
+    size: usize,
+    weighed: Option<Stepped>,
+) -> Result<Option<Next>, Refusal>
     requires { Grows builder size }
     ensures { Growths builder strings size weighed result }
 {
-    let step = match weighed {
-        Sureness::Sure(step) => step,
-        Sureness::Unsure => return Growth::Unsure,
+    let Some(step) = weighed else {
+        return Ok(None);
     };
     let records = step.records;
     // No file is as long. One more than the bytes of the records is a number still.
     if 0x4000_0000 < records {
-        return Growth::Unsure;
+        return Ok(None);
     }
     let sums = Sums {
         table: step.table,
@@ -140,17 +128,16 @@ fn grow_surely(builder: Held, strings: usize, size: usize, weighed: Sureness) ->
         greatest: step.greatest,
         records: records as u32,
     };
-    match grow(builder, strings, size, sums) {
-        Changed::Into(held) => Growth::Into(Next {
-            held,
-            noted: records + 1,
-            begin: step.begin,
-        }),
-        Changed::Refused(why) => Growth::Refused(why),
-    }
+    let held = grow(builder, strings, size, sums)?;
+    Ok(Some(Next {
+        held,
+        noted: records + 1,
+        begin: step.begin,
+    }))
 }
 
 // The texts end so then, and the data is so many bytes longer; the lists have the yard already, and these texts are those of the values alone.
+// None where that is not sure: then nothing is changed.
 pub(crate) fn join_sure(
     builder: Held,
     noted: usize,
@@ -164,17 +151,17 @@ pub(crate) fn join_sure(
     chains: &mut [u32],
     groups: &mut [u32],
     begins: &mut [u32],
-) -> Surely
+) -> Result<Option<Next>, Refusal>
     requires { Joinable builder size sizes.now (length texts.now) (length boxes.now) (length borders.now) (length marks.old) (length chains.old) (length groups.old) (length begins.old) }
     ensures { Joins builder noted strings size sizes.now boxes.now borders.now texts.now
         (notes_as marks.old chains.old groups.old begins.old) (notes_as marks.new chains.new groups.new begins.new) result }
 {
     if noted == 0 {
-        return Surely::Unsure;
+        return Ok(None);
     }
     // So many texts of 255 bytes are shorter.
     if 0x2000_0000 < texts.len() {
-        return Surely::Unsure;
+        return Ok(None);
     }
     mark_yard(builder, sizes, marks);
     let weighed = weigh_yard(
@@ -182,20 +169,16 @@ pub(crate) fn join_sure(
     );
     let growth = grow_surely(builder, strings, size, weighed);
     let next = match growth {
-        Growth::Into(next) => next,
-        Growth::Refused(why) => {
+        Ok(Some(next)) => next,
+        Ok(None) => {
             unmark_yard(builder, marks);
-            return Surely::Refused(why);
+            return Ok(None);
         }
-        Growth::Unsure => {
+        Err(why) => {
             unmark_yard(builder, marks);
-            return Surely::Unsure;
+            return Err(why);
         }
     };
     note_step(builder, next.begin, texts, marks, chains, groups, begins);
-    let held = next.held;
-    Surely::Into {
-        held,
-        noted: next.noted,
-    }
+    Ok(Some(next))
 }

@@ -1,15 +1,15 @@
 -- A builder that begins: from zero lists to the names and the notice at their front. Assumes nothing.
+use Rattle.numbers.specs.Reply.{Reply, given, refused}
 use Rattle.numbers.proofs.{Lists.{zeros_drop}, Prelude.{ℕ, suc, ◌+◌, ◌-◌, ◌^◌, ◌≤◌, ◌<◌, ℤ, pos, length, take, drop, replicate, length-replicate, length-take-le, List, [], ◌∷◌, ◌++◌, map, ◌≡◌, refl}}
 use Rattle.numbers.{proofs.Prelude.{sym, ap, subst, ◌∙◌, arith}, specs.{Lists.{over, zeros}, declared.refusal.Refusal.{Refusal}}}
 use Rattle.builder.specs.Yards.{Plan}
 use Rattle.header.proofs.Buffers.{over_length}
 use Rattle.draft.{proofs.held.{Fronts.{front_made, front_zero}, Texts.{joined_cut}}, specs.Held.{Builder.{holding, summed}, State.{Front, Holds, Lies, Lists, SameRooms, front_of, lists_as}}}
-use Rattle.draft.specs.{Held.Totals.{data_of}, declared.held.state.{Changed.{Changed}, Held.{Held}}}
+use Rattle.draft.specs.{Held.Totals.{data_of}, declared.held.state.Held.{Held}}
 use Rattle.build.{proofs.metadata.Itemed.{cut_lengths}, specs.Metadata.Kept.{joined}}
 use Rattle.writer.{proofs.Stores.{stored_front, stored_length}, specs.inner.Stored.{Stored}}
 use Rattle.edit.proofs.changing.{Cuts.{cut_all, lists_same}, Firsts.{front_is}, Nothing.{none_lies}}
 use Rattle.edit.specs.{Changing.Begun.{Begins, Checked, Checks, blank, first_plan, front_space}, declared.changing.cut.Ends.{Ends}, inner.Changing.Cut.{cut_to}}
-use Rattle.draft.specs.declared.held.state.Changed.TheVariants as C
 
 -- nothing of any list
 abbrev pub no_ends : Ends
@@ -17,7 +17,7 @@ no_ends = record { boxes = 0; borders = 0; lengths = 0; texts = 0; bytes = 0 }
 
 module _ (kind version precision names room : ℕ) (sizes strings : List ℕ) where
   -- the lists' lengths are those that were lent
-  checks_as : (l l' t t' b b' : ℕ) → l ≡ l' → t ≡ t' → b ≡ b' → (r : Changed) → Checks kind version precision names room sizes strings l t b r →
+  checks_as : (l l' t t' b b' : ℕ) → l ≡ l' → t ≡ t' → b ≡ b' → (r : Reply Held) → Checks kind version precision names room sizes strings l t b r →
       Checks kind version precision names room sizes strings l' t' b' r
   checks_as l l' t t' b b' el et eb r c =
       subst (λ (n : ℕ). Checks kind version precision names room sizes strings l' t' n r) eb (subst (λ (n : ℕ). Checks kind version precision names room sizes
@@ -62,16 +62,16 @@ module _ (kind version precision names room : ℕ) (sizes strings : List ℕ) wh
     bytes_same : length bytes₁ ≡ length bytes
     bytes_same = ap length bytes_none ∙ length-replicate (length bytes) 0
 
-    module _ (r : Changed) (c : Checks kind version precision names room sizes strings (length lengths₁) (length texts₁) (length bytes₁) r) where
+    module _ (r : Reply Held) (c : Checks kind version precision names room sizes strings (length lengths₁) (length texts₁) (length bytes₁) r) where
       checks : Checks kind version precision names room sizes strings (length lengths) (length texts) (length bytes) r
       checks = checks_as (length lengths₁) (length lengths) (length texts₁) (length texts) (length bytes₁) (length bytes) lengths_same texts_same bytes_same r c
 
-      pub begin_refused : (why : Refusal) → r ≡ C.Refused why → Begins (first_plan kind version precision names sizes strings) room (front_space names sizes (length lengths)
-          (length texts) (length bytes)) before (lists_as boxes₁ borders₁ lengths₁ texts₁ bytes₁) (C.Refused why)
+      pub begin_refused : (why : Refusal) → r ≡ refused why → Begins (first_plan kind version precision names sizes strings) room (front_space names sizes (length lengths)
+          (length texts) (length bytes)) before (lists_as boxes₁ borders₁ lengths₁ texts₁ bytes₁) (refused why)
       unfolding Begins Checks
       begin_refused why e = (subst (Checks kind version precision names room sizes strings (length lengths) (length texts) (length bytes)) e checks, blanked)
 
-      module _ (held : Held) (is : r ≡ C.Into held) where
+      module _ (held : Held) (is : r ≡ given held) where
         abbrev plan : Plan
         plan = first_plan kind version precision names sizes strings
 
@@ -142,6 +142,6 @@ module _ (kind version precision names room : ℕ) (sizes strings : List ℕ) wh
                 bytes = bytes_same;
               }
 
-          pub begin_done : Begins plan room (front_space names sizes (length lengths) (length texts) (length bytes)) before after (C.Into held)
+          pub begin_done : Begins plan room (front_space names sizes (length lengths) (length texts) (length bytes)) before after (given held)
           unfolding Begins
           begin_done = (summed (holding plan []) room, (checked.gives, (holds, rooms)))

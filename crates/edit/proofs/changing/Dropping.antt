@@ -1,6 +1,6 @@
 -- A builder whose last yard is dropped: the sums of what is left, and the lists cut. Assumes nothing.
-use Rattle.numbers.proofs.Prelude.{ℕ, ◌+◌, ◌-◌, ◌*◌, ◌≤◌, ◌<◌, lt-ltb, tag_of, declared, eqb, pos, length, take, drop, get_or, length-append, length-drop, length-map, length-take-le, Bool, true}
-use Rattle.numbers.{proofs.Prelude.{List, ◌++◌, map, ◌≡◌, refl, sym, ap, subst, ◌∙◌, arith}, specs.{Reply.{Reply, given, plain, demand, ◌>>◌}, declared.refusal.Refusal.{Refusal}}}
+use Rattle.numbers.proofs.Prelude.{ℕ, ◌+◌, ◌-◌, ◌*◌, ◌≤◌, ◌<◌, lt-ltb, eqb, pos, length, take, drop, get_or, length-append, length-drop, length-map, length-take-le, Bool, true}
+use Rattle.numbers.{proofs.Prelude.{List, ◌++◌, map, ◌≡◌, refl, sym, ap, subst, ◌∙◌, arith}, specs.{Reply.{refused, Reply, given, plain, demand, ◌>>◌}, declared.refusal.Refusal.{Refusal}}}
 use mathlib.Core.Bool.{false≢true}
 use Rattle.build.{proofs.metadata.Shared.{flat_more, map_more}, specs.{Entries.Corners.{corners_of}, Metadata.Kept.{joined}, Room.{enough}}}
 use Rattle.builder.{proofs.Counting.{lengths_room}, specs.{Borders.{Drawn}, File.{is_text}, Yards.{Plan, Text, Yard, sum_of}}}
@@ -9,13 +9,11 @@ use Rattle.draft.proofs.held.{Lying.{lies_dropped, lies_splits}, Redrawn.{drawn_
 use Rattle.draft.proofs.held.Texts.{dropped_values, rest_values, values_in}
 use Rattle.draft.specs.Held.{Builder.{Builder, drop_last, holding, summed}, Space.{long_enough, work_in}, State.{held_with, Answers, Holds}}
 use Rattle.draft.specs.{Held.{State.{Lies, Lists, SameRooms, Stands, front_of, texts_of, values_of}, Totals.{Totals, data_of, totals_for, totals_of}}, declared.held.room.Rooms.{Rooms}}
-use Rattle.draft.specs.{declared.{held.state.{Changed.{Changed}, Held.{Held}}, summed.sums.{Summed.{Summed}, Sums.{Sums}}}, inner.Summed.Sums.{Summing, SumsUp, sums_of}}
+use Rattle.draft.specs.{declared.{held.state.Held.{Held}, summed.sums.Sums.{Sums}}, inner.Summed.Sums.{Summing, SumsUp, sums_of}}
 use Rattle.writer.specs.Writer.{every}
 use Rattle.edit.proofs.changing.{Cuts.{cut_front, cut_rooms}, Lasts.{fewer_sound, kept_many, last_place, left_is, left_less, left_many, left_strings}}
 use Rattle.edit.specs.{Changing.Dropped.{Drops, last_size, left_space}, inner.Changing.{Cut.{Inside, cut_to}, Dropped.{Lent, Shortened, Shortens, ends_of, short_of, with_sums}}}
-use Rattle.draft.specs.declared.held.state.Changed.TheVariants as C
-use Rattle.draft.specs.contracts.summed.sums.Summed as K
-use Rattle.draft.specs.declared.summed.sums.Summed.TheVariants as S
+use Rattle.std.specs.Prelude.{Option, Some, None}
 
 -- the lists as they are lent
 pub lent_here : {own : Lists} {starts keys spare kept held words places : ℕ} → Lent (record {
@@ -33,9 +31,6 @@ pub lent_here : {own : Lists} {starts keys spare kept held words places : ℕ} �
   places = places;
 }) own
 lent_here = record { boxes = refl; borders = refl; lengths = refl; texts = refl; bytes = refl }
-
-pub broken_sums : (r : Summed) → tag_of (declared K.enum) r ≡ 1 → (x : Sums) → r ≡ S.Sums x → ⊥
-broken_sums r t x e = let z : tag_of (declared K.enum) r ≡ 0 = ap (tag_of (declared K.enum)) e in omega (arith, t, z)
 
 -- ---- the numbers of what is left
 module _ (builder : Held) (rooms : Rooms) (borders lengths : List ℕ) (held : Held) (s : Shortened builder rooms borders lengths held) where
@@ -259,46 +254,49 @@ module _ (b : Builder) (builder : Held) (rooms : Rooms) (before : Lists) (h : Ho
       (plain 28) >> last)) (lt-ltb 0 (length plan.yards) (omega (arith, less))) ∙ ap (λ (x : Bool). demand x (plain 28) >> last) s.room
 
 -- ---- `drop_yard`
-module _ (builder : Held) (rooms : Rooms) (before : Lists) (l : Lent rooms before) (r : Changed) (c : Shortens builder rooms before.borders before.lengths r) where
-  pub drop_refused : (why : Refusal) → r ≡ C.Refused why → Drops builder rooms before before (C.Refused why)
+never : {A : Type 0} {a : A} → None ≡ Some a → ⊥
+never e = let z : ◌≡◌ {A = ℕ} 0 1 = cc in omega arith
+
+module _ (builder : Held) (rooms : Rooms) (before : Lists) (l : Lent rooms before) (r : Reply Held) (c : Shortens builder rooms before.borders before.lengths r) where
+  pub drop_refused : (why : Refusal) → r ≡ refused why → Drops builder rooms before before (refused why)
   unfolding Shortens Answers
   drop_refused why e =
-      let told : Shortens builder rooms before.borders before.lengths (C.Refused why) = subst (Shortens builder rooms before.borders before.lengths) e c in
-      record { answers = λ b h. (told.1 b before refl refl l h, refl); broken = λ f. (ap C.Refused (told.0 f), refl) }
+      let told : Shortens builder rooms before.borders before.lengths (refused why) = subst (Shortens builder rooms before.borders before.lengths) e c in
+      record { answers = λ b h. (told.1 b before refl refl l h, refl); broken = λ f. (ap refused (told.0 f), refl) }
 
-  module _ (held : Held) (is : r ≡ C.Into held) where
+  module _ (held : Held) (is : r ≡ given held) where
     pub short_is : Shortened builder rooms before.borders before.lengths held
     unfolding Shortens
     short_is = subst (Shortens builder rooms before.borders before.lengths) is c
 
-    abbrev Summed-of : Summed → List ℕ → ℕ → ℕ → Type 0
+    abbrev Summed-of : Option Sums → List ℕ → ℕ → ℕ → Type 0
     Summed-of summed places from to =
         (yards : List Yard) (drawn : Drawn) → Stands yards drawn held.names held.yards before.boxes before.borders (take (to - from) (drop from before.lengths))
         (take (held.strings - held.front) (drop held.front before.texts)) → SumsUp yards drawn places summed
 
-    module _ (summed' : Summed) {places : List ℕ} (from to : ℕ) (ef : from ≡ held.names + 1) (et : to ≡ from + held.names * held.yards) (sums : Summed-of summed' places from to) where
-      told_sums : (b : Builder) (h : Holds b builder before) → summed' ≡ S.Sums (left_sums b builder rooms before h held short_is)
+    module _ (summed' : Option Sums) {places : List ℕ} (from to : ℕ) (ef : from ≡ held.names + 1) (et : to ≡ from + held.names * held.yards) (sums : Summed-of summed' places from to) where
+      told_sums : (b : Builder) (h : Holds b builder before) → summed' ≡ Some (left_sums b builder rooms before h held short_is)
       told_sums b h = (sums _ _ (left_stands b builder rooms before h held short_is from to ef et)).sums
 
-      pub drop_broken : (tagged : (x : Sums) → summed' ≡ S.Sums x → ⊥) → (q : Changed) → q ≡ C.Refused (plain 28) → Drops builder rooms before before q
+      pub drop_broken : summed' ≡ None → (q : Reply Held) → q ≡ refused (plain 28) → Drops builder rooms before before q
       drop_broken none q e =
           record {
-            answers = λ b h. absurd (none (left_sums b builder rooms before h held short_is) (told_sums b h));
+            answers = λ b h. absurd (never (sym none ∙ told_sums b h));
             broken = λ f. absurd (false≢true (sym f ∙ short_is.stands));
           }
 
-      module _ (x : Sums) (given-sums : summed' ≡ S.Sums x) (after : Lists) (cut : after ≡ cut_to (ends_of held) before) (next : Held)
+      module _ (x : Sums) (given-sums : summed' ≡ Some x) (after : Lists) (cut : after ≡ cut_to (ends_of held) before) (next : Held)
           (numbers : next ≡ with_sums held x.table x.metadata x.greatest) where
         drop_holds : (b : Builder) (h : Holds b builder before) → Holds (summed (holding b.plan (take (length b.plan.yards - 1) b.plan.yards)) b.room) next after
         drop_holds b h = let t : Totals = totals b builder rooms before h held short_is in
-            let both : S.Sums x ≡ S.Sums (left_sums b builder rooms before h held short_is) = sym given-sums ∙ told_sums b h in
+            let both : ◌≡◌ {A = Option Sums} (Some x) (Some (left_sums b builder rooms before h held short_is)) = sym given-sums ∙ told_sums b h in
             let same : x ≡ left_sums b builder rooms before h held short_is = cc in
             let is : next ≡ with_sums held t.table t.metadata t.greatest = numbers ∙ ap (λ (y : Sums). with_sums held y.table y.metadata y.greatest) same in
             subst (λ (y : Held). Holds (summed (holding b.plan (take (length b.plan.yards - 1) b.plan.yards)) b.room) y after) (sym is)
             (subst (Holds (summed (holding b.plan (take (length b.plan.yards - 1) b.plan.yards)) b.room) (with_sums held t.table t.metadata t.greatest)) (sym cut)
             (left_holds b builder rooms before h held short_is))
 
-        pub drop_done : Drops builder rooms before after (C.Into next)
+        pub drop_done : Drops builder rooms before after (given next)
         unfolding Answers
         drop_done =
             record {

@@ -1,16 +1,15 @@
 -- A builder that is cleared. Assumes nothing.
 use Rattle.numbers.proofs.Prelude.{suc, ◌+◌, ◌-◌, pos, length, length-map, Bool, true, false, [], ◌∷◌, map, ◌≡◌, refl, sym, ap, subst, ◌∙◌, arith}
-use Rattle.numbers.specs.{Lists.{zeros}, Reply.{plain}}
+use Rattle.numbers.specs.{Lists.{zeros}, Reply.{Reply, given, refused, plain}}
 use mathlib.Core.Bool.{false≢true}
 use Rattle.builder.specs.Yards.{Plan}
 use Rattle.draft.proofs.held.{Fronts.{front_made, front_zero}, Kept.{cleared_sound}, Standing.{front_many, held_front, held_names, holds_standing, lengths_split, texts_split}, Stood.{stood}}
 use Rattle.draft.specs.Held.{Builder.{Builder, clear, holding, summed}, Space.{standing}, State.{Answers, Front, Holds, Lies, Lists, SameRooms, front_of, held_as, texts_of, values_of}}
 use Rattle.draft.specs.Held.Totals.{data_of}
-use Rattle.draft.specs.declared.held.{room.Rooms.{Rooms}, state.{Changed.{Changed}, Held.{Held}}}
+use Rattle.draft.specs.declared.held.{room.Rooms.{Rooms}, state.Held.{Held}}
 use Rattle.build.specs.Metadata.Kept.{joined}
 use Rattle.edit.proofs.changing.{Cuts.{cut_all, cut_front, cut_rooms}, Lasts.{data_some}, Nothing.{none_held, none_lies}}
 use Rattle.edit.specs.{Changing.Emptied.{Clears, emptied_of, own_rooms}, declared.changing.cut.Ends.{Ends}, inner.Changing.Cut.{Inside, cut_to}}
-use Rattle.draft.specs.declared.held.state.Changed.TheVariants as C
 
 -- the names and the notice stay
 abbrev pub front_ends : Held → Ends
@@ -45,7 +44,7 @@ module _ (builder : Held) (before : Lists) where
   rooms = own_rooms before
 
   module _ (s : Bool) (is : s ≡ standing builder (own_rooms before)) where
-    pub clear_refused : s ≡ false → (r : Changed) → r ≡ C.Refused (plain 28) → Clears builder rooms before before r
+    pub clear_refused : s ≡ false → (r : Reply Held) → r ≡ refused (plain 28) → Clears builder rooms before before r
     clear_refused n r e = let fallen : standing builder rooms ≡ false = sym is ∙ n in
         record { answers = λ b h. absurd (false≢true (sym fallen ∙ holds_standing b builder before h rooms refl refl refl refl refl)); broken = λ f. (e, refl) }
 
@@ -62,7 +61,7 @@ module _ (builder : Held) (before : Lists) where
         bytes_in = omega arith;
       }
 
-      pub clear_done : (after : Lists) → after ≡ cut_to (front_ends builder) before → (held : Held) → held ≡ emptied_of builder → Clears builder rooms before after (C.Into held)
+      pub clear_done : (after : Lists) → after ≡ cut_to (front_ends builder) before → (held : Held) → held ≡ emptied_of builder → Clears builder rooms before after (given held)
       unfolding Answers
       clear_done after cut held e =
           record {

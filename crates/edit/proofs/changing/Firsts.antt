@@ -7,11 +7,11 @@ use Rattle.build.{proofs.{Slices.{texts_few}, metadata.Itemed.{cut_lengths}, rec
 use Rattle.builder.proofs.Counting.{cut_many, cut_take}
 use Rattle.builder.specs.{File.{are_texts, head_from, head_of, is_text, known, readable}, Yards.{Plan, Text, counted_lengths, cut_by, plan_of, sum_of, values_from}}
 use Rattle.header.specs.Header.{is_kind}
-use Rattle.draft.specs.{Held.{Builder.{Builder, begin, holding, summed}, Sound.{Sound}, State.{front_of, held_as}}, declared.held.state.Changed.{Changed}}
+use Rattle.draft.specs.declared.held.state.Held.{Held}
+use Rattle.draft.specs.{Held.{Builder.{Builder, begin, holding, summed}, Sound.{Sound}, State.{front_of, held_as}}}
 use Rattle.edit.proofs.changing.Nothing.{held_none, none_held, none_sound}
 use Rattle.edit.specs.Changing.Begun.{Checks, first_plan, front_space}
 use mathlib.Core.Bool.{and-false}
-use Rattle.draft.specs.declared.held.state.Changed.TheVariants as C
 
 every_last : {A : Type 0} (good : A → Bool) (xs : List A) (x : A) → every good (xs ++ (x ∷ [])) ≡ (every good xs && (good x && true))
 unfolding every
@@ -81,17 +81,17 @@ module _ (kind version precision names : ℕ) (sizes strings : List ℕ) where
         ∙ ap (λ (b : Bool). demand c (plain 25) >> (demand r (plain 26) >> (demand b (plain 27) >> (demand lists (plain 28) >> last)))) ek)
 
     -- a refusal, as the function says it
-    refuses : (why : Refusal) (r : Changed) → r ≡ C.Refused why → begun ≡ refused why → Checks kind version precision names room sizes strings lengths texts bytes r
+    refuses : (why : Refusal) (r : Reply Held) → r ≡ refused why → begun ≡ refused why → Checks kind version precision names room sizes strings lengths texts bytes r
     unfolding Checks
     refuses why r e is = subst (Checks kind version precision names room sizes strings lengths texts bytes) (sym e) is
 
     bad_counts : (leb names 255 && leb (names + 1) (length sizes)) ≡ false → begun ≡ refused (plain 25)
     bad_counts e = steps false (readable (holding plan [])) (known plan) (counts_are ∙ e) refl refl
 
-    pub many_names : 255 < names → (r : Changed) → r ≡ C.Refused (plain 25) → Checks kind version precision names room sizes strings lengths texts bytes r
+    pub many_names : 255 < names → (r : Reply Held) → r ≡ refused (plain 25) → Checks kind version precision names room sizes strings lengths texts bytes r
     many_names h r e = refuses (plain 25) r e (bad_counts (ap (λ (b : Bool). b && leb (names + 1) (length sizes)) (lt-leb names 255 h)))
 
-    pub few_sizes : length sizes < names + 1 → (r : Changed) → r ≡ C.Refused (plain 25) → Checks kind version precision names room sizes strings lengths texts bytes r
+    pub few_sizes : length sizes < names + 1 → (r : Reply Held) → r ≡ refused (plain 25) → Checks kind version precision names room sizes strings lengths texts bytes r
     few_sizes h r e = refuses (plain 25) r e (bad_counts (ap (λ (b : Bool). leb names 255 && b) (lt-leb (names + 1) (length sizes) h) ∙ and-false (leb names 255)))
 
     module _ (few : names ≤ 255) (many : names + 1 ≤ length sizes) where
@@ -99,7 +99,7 @@ module _ (kind version precision names : ℕ) (sizes strings : List ℕ) where
       good_counts = counts_are ∙ (ap (λ (b : Bool). b && leb (names + 1) (length sizes)) (le-leb names 255 few) ∙ le-leb (names + 1) (length sizes) many)
 
       module _ (t : Bool) (tested : t ≡ are_texts (take (names + 1) sizes) strings) where
-        pub texts_bad : t ≡ false → (r : Changed) → r ≡ C.Refused (plain 26) → Checks kind version precision names room sizes strings lengths texts bytes r
+        pub texts_bad : t ≡ false → (r : Reply Held) → r ≡ refused (plain 26) → Checks kind version precision names room sizes strings lengths texts bytes r
         texts_bad n r e = refuses (plain 26) r e (steps true false (known plan) good_counts (readable_is many ∙ (sym tested ∙ n)) refl)
 
         module _ (fine : t ≡ true) where
@@ -126,20 +126,20 @@ module _ (kind version precision names : ℕ) (sizes strings : List ℕ) where
             unfolding known plan_of
             known_is = sym form
 
-            pub form_bad : k ≡ false → (r : Changed) → r ≡ C.Refused (plain 27) → Checks kind version precision names room sizes strings lengths texts bytes r
+            pub form_bad : k ≡ false → (r : Reply Held) → r ≡ refused (plain 27) → Checks kind version precision names room sizes strings lengths texts bytes r
             form_bad n r e = refuses (plain 27) r e (steps true true false good_counts (readable_is many ∙ good_texts) (known_is ∙ n))
 
             module _ (good : k ≡ true) where
               past_form : begun ≡ (demand lists (plain 28) >> last)
               past_form = steps true true true good_counts (readable_is many ∙ good_texts) (known_is ∙ good)
 
-              no_room : lists ≡ false → (r : Changed) → r ≡ C.Refused (plain 28) → Checks kind version precision names room sizes strings lengths texts bytes r
+              no_room : lists ≡ false → (r : Reply Held) → r ≡ refused (plain 28) → Checks kind version precision names room sizes strings lengths texts bytes r
               no_room h r e = refuses (plain 28) r e (past_form ∙ ap (λ (b : Bool). demand b (plain 28) >> last) h)
 
-              pub no_lengths : lengths < names + 1 → (r : Changed) → r ≡ C.Refused (plain 28) → Checks kind version precision names room sizes strings lengths texts bytes r
+              pub no_lengths : lengths < names + 1 → (r : Reply Held) → r ≡ refused (plain 28) → Checks kind version precision names room sizes strings lengths texts bytes r
               no_lengths h = no_room (ap (λ (b : Bool). b && (leb (sum_of (take (names + 1) sizes)) texts && leb 1 bytes)) (lt-leb (names + 1) lengths h))
 
-              pub no_texts : names + 1 ≤ lengths → texts < sum_of (take (names + 1) sizes) → (r : Changed) → r ≡ C.Refused (plain 28) →
+              pub no_texts : names + 1 ≤ lengths → texts < sum_of (take (names + 1) sizes) → (r : Reply Held) → r ≡ refused (plain 28) →
                   Checks kind version precision names room sizes strings lengths texts bytes r
               no_texts a h =
                   no_room (ap (λ (b : Bool). b && (leb (sum_of (take (names + 1) sizes)) texts && leb 1 bytes)) (le-leb (names + 1) lengths a)
@@ -151,7 +151,7 @@ module _ (kind version precision names : ℕ) (sizes strings : List ℕ) where
                     ap (λ (b : Bool). b && (leb (sum_of (take (names + 1) sizes)) texts && leb 1 bytes)) (le-leb (names + 1) lengths a)
                     ∙ ap (λ (b : Bool). b && leb 1 bytes) (le-leb (sum_of (take (names + 1) sizes)) texts b)
 
-                pub no_bytes : bytes < 1 → (r : Changed) → r ≡ C.Refused (plain 28) → Checks kind version precision names room sizes strings lengths texts bytes r
+                pub no_bytes : bytes < 1 → (r : Reply Held) → r ≡ refused (plain 28) → Checks kind version precision names room sizes strings lengths texts bytes r
                 no_bytes h = no_room (bytes_last ∙ lt-leb 1 bytes h)
 
                 sound : Sound (holding plan []) room
@@ -175,7 +175,7 @@ module _ (kind version precision names : ℕ) (sizes strings : List ℕ) where
                   unfolding plan_of
                   is_held = none_held plan room names head front (sym (names_are many)) head_is front_size
 
-                  pub all_good : Checks kind version precision names room sizes strings lengths texts bytes (C.Into (held_none kind version precision names room head front))
+                  pub all_good : Checks kind version precision names room sizes strings lengths texts bytes (given (held_none kind version precision names room head front))
                   unfolding Checks
                   all_good =
                       record {

@@ -1,6 +1,6 @@
 -- A plan without yards: its data, its totals, its numbers and its lists. Assumes nothing.
 use Rattle.numbers.proofs.Prelude.{ℕ, leb, pos, length, true, List, [], ◌∷◌, map, flat_map, zip_with, ◌≡◌, refl, sym, ap, subst, ◌∙◌, arith}
-use Rattle.builder.specs.{Borders.{drawn_from, drawn_of}, Entries.{highest_of, table_from, table_of}, File.{borders_good, head_of, known, readable}, Metadata.{fields_of, metadata_of, remotes}}
+use Rattle.builder.specs.{Borders.{drawn_from, drawn_of}, Entries.{farthest_of, table_from, table_of}, File.{borders_good, head_of, known, readable}, Metadata.{fields_of, metadata_of, remotes}}
 use Rattle.builder.specs.{Sharing.{firsts_after, good_ones}, Yards.{Plan, Text}}
 use Rattle.build.specs.{Entries.Corners.{corners_of}, Metadata.Kept.{joined}}
 use Rattle.draft.{proofs.held.Texts.{cleared_texts}, specs.Held.{Builder.{holding, summed}, Sound.{Sound}, State.{Front, Lies, Lists, front_of, held_as}}}
@@ -32,7 +32,7 @@ held_none kind version precision names room head front =
 
 module _ (plan : Plan) where
   pub none_totals : totals_of (holding plan []) ≡ no_totals
-  unfolding totals_of totals_for data_of drawn_or drawn_of drawn_from table_of table_from sorted_by metadata_of remotes fields_of firsts_after good_ones highest_of zip_with flat_map
+  unfolding totals_of totals_for data_of drawn_or drawn_of drawn_from table_of table_from sorted_by metadata_of remotes fields_of firsts_after good_ones farthest_of zip_with flat_map
   none_totals = refl
 
   -- a builder's numbers, by its totals and how long its texts are

@@ -4,17 +4,16 @@ use Rattle.numbers.specs.{Reply.{Reply, given, refused, plain, demand, ◌>>◌}
 use mathlib.Core.Bool.{false≢true}
 use Rattle.builder.{proofs.Counting.{lengths_room}, specs.Yards.{sum_of}}
 use Rattle.draft.{proofs.held.{Standing.{held_yards, holds_standing}, Stood.{Stood, stood}}, specs.Held.{Builder.{Builder, drop_last, holding, summed}, Space.{long_enough, standing}}}
-use Rattle.draft.specs.{Held.State.{Holds, Lists}, declared.held.{room.Rooms.{Rooms}, state.{Changed.{Changed}, Held.{Held}}}}
+use Rattle.draft.specs.{Held.State.{Holds, Lists}, declared.held.{room.Rooms.{Rooms}, state.Held.{Held}}}
 use Rattle.edit.proofs.changing.Lasts.{last_fits, place_fits}
 use Rattle.edit.specs.{Changing.Dropped.{last_size, left_space}, inner.Changing.Dropped.{Lent, Shortens, short_of, with_sums}}
-use Rattle.draft.specs.declared.held.state.Changed.TheVariants as C
 
 module _ (builder : Held) (rooms : Rooms) (borders lengths : List ℕ) where
   abbrev Refuses : Refusal → Type 0
   Refuses why = (b : Builder) (before : Lists) → before.borders ≡ borders → before.lengths ≡ lengths → Lent rooms before → Holds b builder before →
       drop_last b (left_space builder rooms lengths) ≡ refused why
 
-  refuses : (why : Refusal) (r : Changed) → r ≡ C.Refused why → (standing builder rooms ≡ false → why ≡ plain 29) → Refuses why → Shortens builder rooms borders lengths r
+  refuses : (why : Refusal) (r : Reply Held) → r ≡ refused why → (standing builder rooms ≡ false → why ≡ plain 29) → Refuses why → Shortens builder rooms borders lengths r
   unfolding Shortens
   refuses why r e broken is = subst (Shortens builder rooms borders lengths) (sym e) (broken, is)
 
@@ -25,7 +24,7 @@ module _ (builder : Held) (rooms : Rooms) (borders lengths : List ℕ) where
       ap (λ (x : Bool). demand x (plain 29) >> (demand (left_space builder rooms lengths).lists (plain 28) >> last)) (le-ltb 0 (length b.plan.yards) (omega (arith, e)))
 
   module _ (s : Bool) (is : s ≡ standing builder rooms) where
-    pub not_standing : s ≡ false → (r : Changed) → r ≡ C.Refused (plain 29) → Shortens builder rooms borders lengths r
+    pub not_standing : s ≡ false → (r : Reply Held) → r ≡ refused (plain 29) → Shortens builder rooms borders lengths r
     not_standing n r e =
         refuses (plain 29) r e (λ f. refl)
         (λ b before eb el l h. absurd (false≢true (sym (sym is ∙ n) ∙ holds_standing b builder before h rooms l.boxes l.borders l.lengths l.texts l.bytes)))
@@ -40,7 +39,7 @@ module _ (builder : Held) (rooms : Rooms) (borders lengths : List ℕ) where
       standing_still : (why : Refusal) → standing builder rooms ≡ false → why ≡ plain 29
       standing_still why f = absurd (false≢true (sym f ∙ stands))
 
-      pub no_yard : builder.yards ≡ 0 → (r : Changed) → r ≡ C.Refused (plain 29) → Shortens builder rooms borders lengths r
+      pub no_yard : builder.yards ≡ 0 → (r : Reply Held) → r ≡ refused (plain 29) → Shortens builder rooms borders lengths r
       no_yard none r e = refuses (plain 29) r e (λ f. refl) (λ b before eb el l h. none_left b (sym (held_yards b builder before h) ∙ none))
 
       module _ (some : builder.yards ≡ 0 → ⊥) (borders-lent : rooms.borders ≡ length borders) (lengths-lent : rooms.lengths ≡ length lengths) where
@@ -76,7 +75,7 @@ module _ (builder : Held) (rooms : Rooms) (borders lengths : List ℕ) where
         unfolding last_size
         last_is = let size : from + builder.names - from ≡ builder.names = omega arith in ap (λ (k : ℕ). sum_of (take k (drop from lengths))) size
 
-        pub last_over : builder.strings - builder.front < sum_of (take (from + builder.names - from) (drop from lengths)) → (r : Changed) → r ≡ C.Refused (plain 28) →
+        pub last_over : builder.strings - builder.front < sum_of (take (from + builder.names - from) (drop from lengths)) → (r : Reply Held) → r ≡ refused (plain 28) →
             Shortens builder rooms borders lengths r
         last_over over r e =
             refuses (plain 28) r e (standing_still (plain 28))
@@ -93,7 +92,7 @@ module _ (builder : Held) (rooms : Rooms) (borders lengths : List ℕ) where
           pub last_order : builder.front ≤ builder.strings - last
           last_order = omega (arith, last_less, all.front_first)
 
-          pub place_over : builder.bytes < get_or borders (builder.yards - 1) 0 → (r : Changed) → r ≡ C.Refused (plain 28) → Shortens builder rooms borders lengths r
+          pub place_over : builder.bytes < get_or borders (builder.yards - 1) 0 → (r : Reply Held) → r ≡ refused (plain 28) → Shortens builder rooms borders lengths r
           place_over over r e =
               refuses (plain 28) r e (standing_still (plain 28))
               (λ b before eb el l h. absurd (omega (arith, over, subst (λ (ls : List ℕ). get_or ls (builder.yards - 1) 0 ≤ builder.bytes) eb (place_fits b builder before h there))))
@@ -110,14 +109,14 @@ module _ (builder : Held) (rooms : Rooms) (borders lengths : List ℕ) where
                 ap (λ (x : Bool). demand x (plain 29) >> (demand (long_enough rooms builder.names (builder.yards - 1) builder.front (builder.strings - last_size builder lengths))
                 (plain 28) >> last)) (lt-ltb 0 (length b.plan.yards) more) ∙ ap (λ (x : Bool). demand x (plain 28) >> last) (room_is ∙ none)
 
-            pub room_bad : w ≡ false → (r : Changed) → r ≡ C.Refused (plain 28) → Shortens builder rooms borders lengths r
+            pub room_bad : w ≡ false → (r : Reply Held) → r ≡ refused (plain 28) → Shortens builder rooms borders lengths r
             room_bad m r e =
                 refuses (plain 28) r e (standing_still (plain 28)) (λ b before eb el l h. no_room b (omega (arith, there, held_yards b builder before h)) m)
 
             -- the greatest latitude comes as it is stored
             pub shortened : w ≡ true → (greatest : ℤ) → greatest ≡ builder.greatest
                 → Shortens builder rooms borders lengths
-                (C.Into (with_sums (short_of builder (builder.strings - last) (get_or borders (builder.yards - 1) 0)) builder.table builder.metadata greatest))
+                (given (with_sums (short_of builder (builder.strings - last) (get_or borders (builder.yards - 1) 0)) builder.table builder.metadata greatest))
             unfolding Shortens with_sums short_of
             shortened m greatest e =
                 record {

@@ -4,25 +4,23 @@ use Rattle.numbers.{proofs.{Replies.{demanded}, Tests.{both}}, specs.{Reply.{Rep
 use Rattle.build.specs.{Room.{enough}, declared.room.Work.{Work}}
 use Rattle.builder.specs.{File.{is_text}, Yards.{Text}}
 use Rattle.draft.{proofs.held.{Standing.{held_names, held_yards, holds_standing, text_short}, Stood.{Own, own_parts, stood}}, specs.Held.Builder.{Builder, fitting, replace, summed}}
-use Rattle.draft.specs.{Held.{Space.{long_enough, own_enough, standing, work_in}, State.{Answers, Holds, Lists, lists_as}}, declared.held.{room.Rooms.{Rooms}, state.{Changed.{Changed}, Held.{Held}}}}
+use Rattle.draft.specs.{Held.{Space.{long_enough, own_enough, standing, work_in}, State.{Answers, Holds, Lists, lists_as}}, declared.held.{room.Rooms.{Rooms}, state.Held.{Held}}}
 use Rattle.writer.{proofs.Stores.{stored_length}, specs.inner.Stored.{Stored}}
 use Rattle.edit.proofs.replacing.{Agreed.{checked_as}, Renewed.{renews}, Spots.{fallen, index_inside, spot_ordered, within_parts}}
-use Rattle.edit.specs.{Replacing.Replaced.{Replaces, replaced, space_for}, declared.replacing.check.{Checked.{Checked}, Spot.{Spot}}, inner.Replacing.Exchange.{Exchanging}}
-use Rattle.edit.specs.inner.Replacing.{Replaced.{PutIn, Putting, Renews, Resumming, Resums, TakenBack, after_checks, spot_up_to}, Spot.{checked_of, size_with, spot_in, text_at, told, within}}
-use Rattle.draft.specs.declared.held.state.Changed.TheVariants as C
-use Rattle.edit.specs.declared.replacing.check.Checked.TheVariants as D
+use Rattle.edit.specs.{Replacing.Replaced.{Replaces, replaced, space_for}, declared.replacing.check.Spot.{Spot}, inner.Replacing.Exchange.{Exchanging}}
+use Rattle.edit.specs.inner.Replacing.{Replaced.{PutIn, Putting, Renews, Resumming, Resums, TakenBack, after_checks, spot_up_to}, Spot.{checked_of, size_with, spot_in, text_at, within}}
 
 -- ---- taken back or not
-pub back_into : (changed : Changed) (held : Held) → changed ≡ C.Into held → (spot : Spot) (strings : ℕ) (old lengths texts : List ℕ) →
-    TakenBack changed spot strings old lengths texts lengths texts (C.Into held)
+pub back_into : (changed : Reply Held) (held : Held) → changed ≡ given held → (spot : Spot) (strings : ℕ) (old lengths texts : List ℕ) →
+    TakenBack changed spot strings old lengths texts lengths texts (given held)
 unfolding TakenBack
-back_into changed held e spot strings old lengths texts = subst (λ (x : Changed). TakenBack x spot strings old lengths texts lengths texts (C.Into held)) (sym e) (refl, (refl, refl))
+back_into changed held e spot strings old lengths texts = subst (λ (x : Reply Held). TakenBack x spot strings old lengths texts lengths texts (given held)) (sym e) (refl, (refl, refl))
 
-pub back_refused : (changed : Changed) (why : Refusal) → changed ≡ C.Refused why → (spot : Spot) (strings : ℕ) (old lengths texts lengths' texts' : List ℕ) (end : ℕ)
-    → PutIn spot strings old lengths texts lengths' texts' end → TakenBack changed spot strings old lengths texts lengths' texts' (C.Refused why)
+pub back_refused : (changed : Reply Held) (why : Refusal) → changed ≡ refused why → (spot : Spot) (strings : ℕ) (old lengths texts lengths' texts' : List ℕ) (end : ℕ)
+    → PutIn spot strings old lengths texts lengths' texts' end → TakenBack changed spot strings old lengths texts lengths' texts' (refused why)
 unfolding TakenBack
 back_refused changed why e spot strings old lengths texts lengths' texts' end p =
-    subst (λ (x : Changed). TakenBack x spot strings old lengths texts lengths' texts' (C.Refused why)) (sym e) (refl, (end, p))
+    subst (λ (x : Reply Held). TakenBack x spot strings old lengths texts lengths' texts' (refused why)) (sym e) (refl, (end, p))
 
 -- ---- while a text is put
 module _ (held : Held) (spot : Spot) (size borders lengths texts out : ℕ) (work : Work) (p : Putting held spot size borders lengths texts out work) where
@@ -56,8 +54,8 @@ module _ (held : Held) (spot : Spot) (size borders lengths texts out : ℕ) (wor
         )
 
 pub renews_again : (held : Held) (spot : Spot) (text : Text) (lists : Lists) (lengths' texts' : List ℕ) (end : ℕ) → PutIn spot held.strings text lists.lengths lists.texts lengths' texts' end
-    → (r : Changed) → Resums held end lists.boxes lists.borders lengths' texts' r
-    → (saved lengths'' texts'' : List ℕ) (r'' : Changed) → saved ≡ take (spot.from - spot.place) (drop spot.place lists.texts) → (again : Spot) → again ≡ spot_up_to spot (length text)
+    → (r : Reply Held) → Resums held end lists.boxes lists.borders lengths' texts' r
+    → (saved lengths'' texts'' : List ℕ) (r'' : Reply Held) → saved ≡ take (spot.from - spot.place) (drop spot.place lists.texts) → (again : Spot) → again ≡ spot_up_to spot (length text)
     → TakenBack r again end saved lengths' texts' lengths'' texts'' r'' → length texts'' ≡ length lists.texts →
     Renews held spot text lists (lists_as lists.boxes lists.borders lengths'' texts'' lists.bytes) r''
 renews_again held spot text lists lengths' texts' end p r sums saved lengths'' texts'' r'' kept again e back long =
@@ -122,39 +120,39 @@ module _ (held : Held) (rooms : Rooms) (out yard field : ℕ) (text : Text) (len
         };
       }
 
-  module _ (checked : Checked) (e : told checked ≡ checked_of held rooms out yard field text lengths) where
-    pub may_put : (spot : Spot) → checked ≡ D.At spot → Putting held spot (length text) rooms.borders rooms.lengths rooms.texts out (work_in rooms)
-    may_put spot at = let p = passed spot (ap told (sym at) ∙ e) in
+  module _ (checked : Reply Spot) (e : checked ≡ checked_of held rooms out yard field text lengths) where
+    pub may_put : (spot : Spot) → checked ≡ given spot → Putting held spot (length text) rooms.borders rooms.lengths rooms.texts out (work_in rooms)
+    may_put spot at = let p = passed spot (sym at ∙ e) in
         subst (λ (s : Spot). Putting held s (length text) rooms.borders rooms.lengths rooms.texts out (work_in rooms)) (sym p.is)
         (putting_here (subst (Passed held rooms out yard field text lengths) p.is p))
 
     module _ (lists : Lists) (same : lists.lengths ≡ lengths) (boxes : rooms.boxes ≡ length lists.boxes) (borders : rooms.borders ≡ length lists.borders)
         (many : rooms.lengths ≡ length lists.lengths) (texts : rooms.texts ≡ length lists.texts) (bytes : rooms.bytes ≡ length lists.bytes) where
       agreed : (b : Builder) → Holds b held lists →
-          (told checked >>= λ s. fitting after_checks (summed (replaced b.plan yard field text) b.room)) ≡ replace b yard field text (space_for rooms out b.plan yard field text)
+          (checked >>= λ s. fitting after_checks (summed (replaced b.plan yard field text) b.room)) ≡ replace b yard field text (space_for rooms out b.plan yard field text)
       agreed b h =
           ap (λ (r : Reply Spot). r >>= λ s. fitting after_checks (summed (replaced b.plan yard field text) b.room)) (e ∙ ap (checked_of held rooms out yard field text) (sym same))
           ∙ checked_as b held lists h rooms (holds_standing b held lists h rooms boxes borders many texts bytes) out yard field text
 
-      pub replace_refused : (why : Refusal) → checked ≡ D.Refused why → Replaces held rooms out yard field text lists lists (C.Refused why)
+      pub replace_refused : (why : Refusal) → checked ≡ refused why → Replaces held rooms out yard field text lists lists (refused why)
       unfolding Answers
       replace_refused why is =
           record {
-            answers = λ b h. (sym (agreed b h) ∙ ap (λ (x : Checked). told x >>= λ s. fitting after_checks (summed (replaced b.plan yard field text) b.room)) is, refl);
+            answers = λ b h. (sym (agreed b h) ∙ ap (λ (x : Reply Spot). x >>= λ s. fitting after_checks (summed (replaced b.plan yard field text) b.room)) is, refl);
             fallen = λ f. (
-              let known : refused why ≡ refused (plain 28) = ap told (sym is) ∙ (e ∙ sym (fallen held rooms out yard field text lengths f)) in
-                  let same_why : why ≡ plain 28 = cc in ap C.Refused same_why,
+              let known : ◌≡◌ {A = Reply Spot} (refused why) (refused (plain 28)) = sym is ∙ (e ∙ sym (fallen held rooms out yard field text lengths f)) in
+                  let same_why : why ≡ plain 28 = cc in ap refused same_why,
               refl,
             );
           }
 
-      pub replace_put : (spot : Spot) → checked ≡ D.At spot → (after : Lists) (r : Changed) → Renews held spot text lists after r → Replaces held rooms out yard field text lists after r
+      pub replace_put : (spot : Spot) → checked ≡ given spot → (after : Lists) (r : Reply Held) → Renews held spot text lists after r → Replaces held rooms out yard field text lists after r
       unfolding Renews
-      replace_put spot at after r renews = let p = passed spot (ap told (sym at) ∙ e) in
+      replace_put spot at after r renews = let p = passed spot (sym at ∙ e) in
           let t = both (ltb yard held.yards) (ltb field held.names) p.there in record {
             answers = λ b h.
                 subst (λ (x : Reply Builder). Answers x lists after r)
-                (ap (λ (x : Checked). told x >>= λ s. fitting after_checks (summed (replaced b.plan yard field text) b.room)) (sym at) ∙ agreed b h)
+                (ap (λ (x : Reply Spot). x >>= λ s. fitting after_checks (summed (replaced b.plan yard field text) b.room)) (sym at) ∙ agreed b h)
                 (renews b yard field h (omega (arith, held_yards b held lists h, ltb-true yard held.yards t.0))
                 (omega (arith, held_names b held lists h, ltb-true field held.names t.1)) p.text_good (p.is ∙ ap (spot_in (text_at held.names yard field)) (sym same)));
             fallen = λ f. let z : ◌≡◌ {A = ℕ} 0 1 = (let no_way : true ≡ false = sym p.stands ∙ f in cc) in absurd (omega arith);

@@ -1,26 +1,25 @@
 -- A builder's lists with a text in the place of a value, and as they were. Assumes nothing.
 use Rattle.numbers.proofs.Prelude.{ℕ, ◌+◌, ◌-◌, ◌*◌, ◌<◌, leb, ℤ, pos, length, take, drop, get_or, set, length-set, Bool, true, false, List, ◌++◌, map, ◌≡◌, refl, sym, ap, subst, ◌∙◌, arith}
-use Rattle.numbers.specs.{Reply.{given, refused, plain, demand, ◌>>◌}, declared.refusal.Refusal.{Refusal}}
+use Rattle.numbers.specs.{Reply.{Reply, given, refused, plain, demand, ◌>>◌}, declared.refusal.Refusal.{Refusal}}
 use lib.Seq.{set-set, set-get_or}
 use Rattle.builder.specs.{Borders.{Drawn}, File.{head_of, is_text, up_to}, Yards.{Text, Plan}}
 use Rattle.draft.proofs.held.{Everyone.{length_changed}, Fronts.{front_one, front_part, front_set}, Kept.{replaced_data, replaced_sound}, Lying.{holds_other, lies_replaced}}
 use Rattle.draft.proofs.held.{Standing.{held_names, held_yards, held_bytes, held_front, stands_more}, Texts.{replaced_lengths, replaced_strings, strings_around}}
 use Rattle.draft.specs.Held.{Builder.{Builder, fitting, summed, with_value}, Sound.{Sound}, State.{Answers, Front, Holds, Lies, Lists, SameRooms, Stands, lists_as, texts_of}}
-use Rattle.draft.specs.{Held.Totals.{Totals, data_of, file_size, totals_for, totals_of}, declared.held.state.{Changed.{Changed}, Held.{Held}}}
+use Rattle.draft.specs.{Held.Totals.{Totals, data_of, file_size, totals_for, totals_of}, declared.held.state.Held.{Held}}
 use Rattle.build.specs.Metadata.Kept.{joined}
 use Rattle.edit.specs.{Replacing.Replaced.{replaced}, declared.replacing.check.Spot.{Spot}, inner.Replacing.Exchange.{Exchanged}}
 use Rattle.edit.specs.inner.Replacing.{Replaced.{PutIn, Renews, Resums, after_checks, held_with, resummed, size_fits, spot_up_to, TakenBack}, Spot.{spot_in, text_at}}
 use Rattle.draft.specs.Held.State as L
-use Rattle.draft.specs.declared.held.state.Changed.TheVariants as C
 use Rattle.edit.proofs.replacing.Placed as P
 
 -- ---- what is made of the sums
 module _ (held : Held) (strings table metadata : ℕ) (greatest : ℤ) where
-  pub resum_fits : size_fits held table metadata ≡ true → resummed held strings table metadata greatest ≡ C.Into (held_with held strings table metadata greatest)
+  pub resum_fits : size_fits held table metadata ≡ true → resummed held strings table metadata greatest ≡ given (held_with held strings table metadata greatest)
   unfolding resummed
   resum_fits e = rw e refl
 
-  pub resum_long : size_fits held table metadata ≡ false → resummed held strings table metadata greatest ≡ C.Refused (plain 28)
+  pub resum_long : size_fits held table metadata ≡ false → resummed held strings table metadata greatest ≡ refused (plain 28)
   unfolding resummed
   resum_long e = rw e refl
 
@@ -123,16 +122,16 @@ module _ (b : Builder) (held : Held) (lists : Lists) (h : Holds b held lists) (y
     holds_now : Holds next (held_with held end sums.table sums.metadata sums.greatest) lists'
     holds_now = subst (λ (x : Held). Holds next x lists') (sym numbers_are) (holds_other b held lists h end lists' plan'.yards end_is sound' lies')
 
-    abbrev sum : Changed
+    abbrev sum : Reply Held
     sum = resummed held end sums.table sums.metadata sums.greatest
 
-    renewed : length texts' ≡ length lists.texts → (held' : Held) → C.Into held' ≡ sum → Answers (fitting after_checks next) lists lists' (C.Into held')
+    renewed : length texts' ≡ length lists.texts → (held' : Held) → given held' ≡ sum → Answers (fitting after_checks next) lists lists' (given held')
     unfolding Answers fitting
     renewed long held' e = go fit fit_is where
       rooms : SameRooms lists lists'
       rooms = record { boxes = refl; borders = refl; lengths = ap length sized ∙ length-set lists.lengths spot.index (length text); texts = long; bytes = refl }
 
-      go : (fits : Bool) → size_fits held sums.table sums.metadata ≡ fits → Answers (demand fits (plain 28) >> given next) lists lists' (C.Into held')
+      go : (fits : Bool) → size_fits held sums.table sums.metadata ≡ fits → Answers (demand fits (plain 28) >> given next) lists lists' (given held')
       go true s = let known = resum_fits held end sums.table sums.metadata sums.greatest s in
           let same : held_with held end sums.table sums.metadata sums.greatest ≡ held' = cc in
           (next, (refl, (subst (λ (x : Held). Holds next x lists') same holds_now, rooms)))
@@ -157,8 +156,8 @@ module _ (b : Builder) (held : Held) (lists : Lists) (h : Holds b held lists) (y
       texts_back : length texts'' ≡ length lists.texts → texts'' ≡ lists.texts
       texts_back long = front_one 0 texts_were texts_again long
 
-      unchanged : length texts'' ≡ length lists.texts → (why : Refusal) → C.Refused why ≡ sum →
-          Answers (fitting after_checks next) lists (lists_as lists.boxes lists.borders lengths'' texts'' lists.bytes) (C.Refused why)
+      unchanged : length texts'' ≡ length lists.texts → (why : Refusal) → refused why ≡ sum →
+          Answers (fitting after_checks next) lists (lists_as lists.boxes lists.borders lengths'' texts'' lists.bytes) (refused why)
       unfolding Answers fitting
       unchanged long why e = go fit fit_is where
         back : lists_as lists.boxes lists.borders lengths'' texts'' lists.bytes ≡ lists
@@ -167,16 +166,16 @@ module _ (b : Builder) (held : Held) (lists : Lists) (h : Holds b held lists) (y
             ∙ ap (λ (l : List ℕ). lists_as lists.boxes lists.borders lists.lengths l lists.bytes) (texts_back long)
 
         go : (fits : Bool) → size_fits held sums.table sums.metadata ≡ fits
-            → Answers (demand fits (plain 28) >> given next) lists (lists_as lists.boxes lists.borders lengths'' texts'' lists.bytes) (C.Refused why)
+            → Answers (demand fits (plain 28) >> given next) lists (lists_as lists.boxes lists.borders lengths'' texts'' lists.bytes) (refused why)
         go true s = let known = resum_fits held end sums.table sums.metadata sums.greatest s in let z : ◌≡◌ {A = ℕ} 0 1 = cc in absurd (omega arith)
         go false s = let known = resum_long held end sums.table sums.metadata sums.greatest s in let same : plain 28 ≡ why = cc in
             (ap (λ (w : Refusal). refused w) same, back)
 
 -- ---- as the functions say it
 module _ (held : Held) (spot : Spot) (text : Text) (lists : Lists) (lengths' texts' : List ℕ) (end : ℕ) (p : PutIn spot held.strings text lists.lengths lists.texts lengths' texts' end)
-    (r : Changed) (sums : Resums held end lists.boxes lists.borders lengths' texts' r) where
-  renews_into : length texts' ≡ length lists.texts → (held' : Held) → r ≡ C.Into held' →
-      Renews held spot text lists (lists_as lists.boxes lists.borders lengths' texts' lists.bytes) (C.Into held')
+    (r : Reply Held) (sums : Resums held end lists.boxes lists.borders lengths' texts' r) where
+  renews_into : length texts' ≡ length lists.texts → (held' : Held) → r ≡ given held' →
+      Renews held spot text lists (lists_as lists.boxes lists.borders lengths' texts' lists.bytes) (given held')
   unfolding Renews Resums
   renews_into long held' into =
       λ b yard field h y f t e. let q : PutIn (spot_in (text_at held.names yard field) lists.lengths) held.strings text lists.lengths lists.texts
@@ -187,7 +186,7 @@ module _ (held : Held) (spot : Spot) (text : Text) (lists : Lists) (lengths' tex
 
   renews_refused : (saved lengths'' texts'' : List ℕ) (end'' : ℕ) → saved ≡ take (spot.from - spot.place) (drop spot.place lists.texts)
       → PutIn (spot_up_to spot (length text)) end saved lengths' texts' lengths'' texts'' end'' → length texts'' ≡ length lists.texts → (why : Refusal)
-      → r ≡ C.Refused why → Renews held spot text lists (lists_as lists.boxes lists.borders lengths'' texts'' lists.bytes) (C.Refused why)
+      → r ≡ refused why → Renews held spot text lists (lists_as lists.boxes lists.borders lengths'' texts'' lists.bytes) (refused why)
   unfolding Renews Resums
   renews_refused saved lengths'' texts'' end'' kept again long why stays =
       λ b yard field h y f t e. let here : Spot = spot_in (text_at held.names yard field) lists.lengths in let q : PutIn here held.strings text
@@ -201,16 +200,16 @@ module _ (held : Held) (spot : Spot) (text : Text) (lists : Lists) (lengths' tex
 
 -- what was refused is taken back
 pub renews : (held : Held) (spot : Spot) (text : Text) (lists : Lists) (lengths' texts' : List ℕ) (end : ℕ) → PutIn spot held.strings text lists.lengths
-    lists.texts lengths' texts' end → (r : Changed) → Resums held end lists.boxes lists.borders lengths' texts' r → (saved lengths'' texts'' : List ℕ) (r'' : Changed)
+    lists.texts lengths' texts' end → (r : Reply Held) → Resums held end lists.boxes lists.borders lengths' texts' r → (saved lengths'' texts'' : List ℕ) (r'' : Reply Held)
     → saved ≡ take (spot.from - spot.place) (drop spot.place lists.texts) → TakenBack r (spot_up_to spot (length text)) end saved lengths' texts' lengths'' texts'' r''
     → length texts'' ≡ length lists.texts → Renews held spot text lists (lists_as lists.boxes lists.borders lengths'' texts'' lists.bytes) r''
 unfolding TakenBack
-renews held spot text lists lengths' texts' end p (C.Into held') sums saved lengths'' texts'' r'' kept back long = let lengths_same = back.1.0 in
+renews held spot text lists lengths' texts' end p (given held') sums saved lengths'' texts'' r'' kept back long = let lengths_same = back.1.0 in
     let texts_same = back.1.1 in
-    subst (λ (x : Changed). Renews held spot text lists (lists_as lists.boxes lists.borders lengths'' texts'' lists.bytes) x) (sym back.0)
-    (subst (λ (l : List ℕ). Renews held spot text lists (lists_as lists.boxes lists.borders l texts'' lists.bytes) (C.Into held')) (sym lengths_same)
-    (subst (λ (l : List ℕ). Renews held spot text lists (lists_as lists.boxes lists.borders lengths' l lists.bytes) (C.Into held')) (sym texts_same)
-    (renews_into held spot text lists lengths' texts' end p (C.Into held') sums (sym (ap length texts_same) ∙ long) held' refl)))
-renews held spot text lists lengths' texts' end p (C.Refused why) sums saved lengths'' texts'' r'' kept back long =
-    subst (λ (x : Changed). Renews held spot text lists (lists_as lists.boxes lists.borders lengths'' texts'' lists.bytes) x) (sym back.0)
-    (renews_refused held spot text lists lengths' texts' end p (C.Refused why) sums saved lengths'' texts'' back.1.0 kept back.1.1 long why refl)
+    subst (λ (x : Reply Held). Renews held spot text lists (lists_as lists.boxes lists.borders lengths'' texts'' lists.bytes) x) (sym back.0)
+    (subst (λ (l : List ℕ). Renews held spot text lists (lists_as lists.boxes lists.borders l texts'' lists.bytes) (given held')) (sym lengths_same)
+    (subst (λ (l : List ℕ). Renews held spot text lists (lists_as lists.boxes lists.borders lengths' l lists.bytes) (given held')) (sym texts_same)
+    (renews_into held spot text lists lengths' texts' end p (given held') sums (sym (ap length texts_same) ∙ long) held' refl)))
+renews held spot text lists lengths' texts' end p (refused why) sums saved lengths'' texts'' r'' kept back long =
+    subst (λ (x : Reply Held). Renews held spot text lists (lists_as lists.boxes lists.borders lengths'' texts'' lists.bytes) x) (sym back.0)
+    (renews_refused held spot text lists lengths' texts' end p (refused why) sums saved lengths'' texts'' back.1.0 kept back.1.1 long why refl)

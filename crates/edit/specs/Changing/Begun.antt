@@ -1,11 +1,10 @@
 -- What beginning a builder gives: document 02, Q-5.
 use Rattle.std.specs.Prelude.{◌+◌, ◌≤◌, ◌&&◌, ◌≡◌}
-use Rattle.numbers.specs.{Lists.{zeros}, Prelude.{ℕ, leb, pos, length, take, replicate, List, []}, Reply.{given, refused}}
+use Rattle.numbers.specs.{Lists.{zeros}, Prelude.{ℕ, leb, pos, length, take, replicate, List, []}, Reply.{Reply, given, refused}}
 use Rattle.build.specs.Checked.{lent_as}
 use Rattle.builder.specs.Yards.{Plan, plan_of, sum_of}
-use Rattle.draft.specs.{Held.{Builder.{Builder, begin, holding, summed}, Sound.{Sound}, Space.{Space}, State.{Holds, Lists, SameRooms, held_as, lists_as}}, declared.held.state.Changed.{Changed}}
+use Rattle.draft.specs.{Held.{Builder.{Builder, begin, holding, summed}, Sound.{Sound}, Space.{Space}, State.{Holds, Lists, SameRooms, held_as, lists_as}}}
 use Rattle.draft.specs.declared.held.state.Held.{Held}
-use Rattle.draft.specs.declared.held.state.Changed.TheVariants as C
 
 -- the lists have room for the lengths and bytes of the names and the notice, and for the zero byte
 unfoldable pub front_space : ℕ → List ℕ → ℕ → ℕ → ℕ → Space
@@ -17,9 +16,9 @@ unfoldable pub blank : Lists → Lists
 blank l = lists_as (replicate (length l.boxes) (pos 0)) (zeros (length l.borders)) (zeros (length l.lengths)) (zeros (length l.texts)) (zeros (length l.bytes))
 
 -- the lists hold the builder that the definition gives; or it is refused as that is, and they are zero
-unfoldable pub Begins : Plan → ℕ → Space → Lists → Lists → Changed → Type 0
-Begins plan room space before after (C.Into held) = (b : Builder) × ((begin plan room space ≡ given b) × (Holds b held after × SameRooms before after))
-Begins plan room space before after (C.Refused why) = (begin plan room space ≡ refused why) × (after ≡ blank before)
+unfoldable pub Begins : Plan → ℕ → Space → Lists → Lists → Reply Held → Type 0
+Begins plan room space before after (given held) = (b : Builder) × ((begin plan room space ≡ given b) × (Holds b held after × SameRooms before after))
+Begins plan room space before after (refused why) = (begin plan room space ≡ refused why) × (after ≡ blank before)
 
 -- ---- what the inner functions say of each other
 -- names and notice as they are lent
@@ -41,7 +40,7 @@ pub record Checked (kind version precision names room : ℕ) (sizes strings : Li
   pub texts_room : sum_of (take (names + 1) sizes) ≤ texts
   pub bytes_room : 1 ≤ bytes
 
-unfoldable pub Checks : ℕ → ℕ → ℕ → ℕ → ℕ → List ℕ → List ℕ → ℕ → ℕ → ℕ → Changed → Type 0
-Checks kind version precision names room sizes strings lengths texts bytes (C.Into held) = Checked kind version precision names room sizes strings lengths texts bytes held
-Checks kind version precision names room sizes strings lengths texts bytes (C.Refused why) =
+unfoldable pub Checks : ℕ → ℕ → ℕ → ℕ → ℕ → List ℕ → List ℕ → ℕ → ℕ → ℕ → Reply Held → Type 0
+Checks kind version precision names room sizes strings lengths texts bytes (given held) = Checked kind version precision names room sizes strings lengths texts bytes held
+Checks kind version precision names room sizes strings lengths texts bytes (refused why) =
     begin (first_plan kind version precision names sizes strings) room (front_space names sizes lengths texts bytes) ≡ refused why

@@ -2,25 +2,19 @@
 ghost use Rattle.std.specs.Prelude.{◌≡◌, ◌+◌, ◌*◌, ◌^◌, ◌≤◌, ◌<◌, length};
 ghost use Rattle.builder.specs.{File.{head_from}, Yards.{cut_by, sum_of}};
 ghost use Rattle.draft.specs.Held.State.{lists_as};
-ghost use Rattle.numbers.specs.Reply.{plain};
 ghost use Rattle.edit.specs.Changing.Begun.{Begins, Checks, first_plan, front_space};
 
 use crate::changing::copy::copy_words;
 use crate::changing::cut::{Ends, cut_lists};
-use crate::changing::sum::{Sum, sum_within};
+use crate::changing::sum::sum_within;
 use build::asked::Asked;
 use builder::drawing::form::is_known;
 use builder::head::{Form, put_head};
 use builder::put::put_bytes;
 use builder::texts::are_texts;
-use draft::held::state::{Changed, Held};
-use numbers::refusal::plain;
-
-pub(crate) fn refused(number: u8) -> Changed
-    ensures { result ≡ Changed.Refused (plain number) }
-{
-    Changed::Refused(plain(number))
-}
+use draft::held::state::Held;
+use numbers::fault::Fault;
+use numbers::refusal::Refusal;
 
 // How long a file's header is up to the sizes.
 fn head_size(form: Form, sizes: &[u32], strings: &[u8]) -> usize
@@ -40,31 +34,30 @@ fn check_begin(
     lengths: usize,
     texts: usize,
     bytes: usize,
-) -> Changed
+) -> Result<Held, Refusal>
     ensures { Checks asked.kind asked.version asked.precision asked.names room sizes.now strings.now lengths texts bytes result }
 {
     if 255 < asked.names {
-        return refused(25);
+        return Err(Fault::BadYards.alone());
     }
     let count = asked.names as usize + 1;
     if sizes.len() < count {
-        return refused(25);
+        return Err(Fault::BadYards.alone());
     }
     if !are_texts(&sizes[..count], strings) {
-        return refused(26);
+        return Err(Fault::BadText.alone());
     }
     if !is_known(asked.kind, asked.version, asked.precision) {
-        return refused(27);
+        return Err(Fault::UnknownForm.alone());
     }
     if lengths < count {
-        return refused(28);
+        return Err(Fault::FileFull.alone());
     }
-    let front = match sum_within(&sizes[..count], texts) {
-        Sum::Within(sum) => sum,
-        Sum::Over => return refused(28),
+    let Some(front) = sum_within(&sizes[..count], texts) else {
+        return Err(Fault::FileFull.alone());
     };
     if bytes < 1 {
-        return refused(28);
+        return Err(Fault::FileFull.alone());
     }
     let form = Form {
         kind: asked.kind,
@@ -73,7 +66,7 @@ fn check_begin(
         names: asked.names as u8,
     };
     let head = head_size(form, &sizes[..count], strings);
-    Changed::Into(Held {
+    Ok(Held {
         kind: asked.kind,
         version: asked.version,
         precision: asked.precision,
@@ -101,7 +94,7 @@ pub fn begin(
     lengths: &mut [u32],
     texts: &mut [u8],
     bytes: &mut [u8],
-) -> Changed
+) -> Result<Held, Refusal>
     ensures { Begins (first_plan asked.kind asked.version asked.precision asked.names sizes.now strings.now) room
         (front_space asked.names sizes.now (length lengths.old) (length texts.old) (length bytes.old))
         (lists_as boxes.old borders.old lengths.old texts.old bytes.old)
@@ -115,7 +108,7 @@ pub fn begin(
         bytes: 0,
     };
     cut_lists(none, boxes, borders, lengths, texts, bytes);
-    let checked = check_begin(
+    let held = check_begin(
         asked,
         room,
         sizes,
@@ -123,14 +116,10 @@ pub fn begin(
         lengths.len(),
         texts.len(),
         bytes.len(),
-    );
-    let held = match checked {
-        Changed::Into(held) => held,
-        Changed::Refused(why) => return Changed::Refused(why),
-    };
+    )?;
     let count = asked.names as usize + 1;
     let size = held.front;
     copy_words(lengths, &sizes[..count]);
     put_bytes(texts, 0, &strings[..size]);
-    Changed::Into(held)
+    Ok(held)
 }

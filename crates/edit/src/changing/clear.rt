@@ -3,10 +3,11 @@ ghost use Rattle.std.specs.Prelude.{◌≡◌};
 ghost use Rattle.draft.specs.Held.State.{lists_as};
 ghost use Rattle.edit.specs.Changing.Emptied.{Clears, emptied_of, own_rooms};
 
-use crate::changing::begin::refused;
 use crate::changing::cut::{Ends, cut_lists};
 use draft::held::room::{Rooms, stands};
-use draft::held::state::{Changed, Held};
+use draft::held::state::Held;
+use numbers::fault::Fault;
+use numbers::refusal::Refusal;
 
 // The same numbers without a yard: the data is the zero byte alone.
 fn emptied(builder: Held) -> Held
@@ -37,7 +38,7 @@ pub fn clear(
     lengths: &mut [u32],
     texts: &mut [u8],
     bytes: &mut [u8],
-) -> Changed
+) -> Result<Held, Refusal>
     ensures { let own = lists_as boxes.old borders.old lengths.old texts.old bytes.old in
         Clears builder (own_rooms own) own (lists_as boxes.new borders.new lengths.new texts.new bytes.new) result }
 {
@@ -56,7 +57,7 @@ pub fn clear(
         places: 0,
     };
     if !stands(builder, rooms) {
-        return refused(28);
+        return Err(Fault::FileFull.alone());
     }
     let ends = Ends {
         boxes: 0,
@@ -66,5 +67,5 @@ pub fn clear(
         bytes: 0,
     };
     cut_lists(ends, boxes, borders, lengths, texts, bytes);
-    Changed::Into(emptied(builder))
+    Ok(emptied(builder))
 }

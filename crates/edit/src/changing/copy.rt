@@ -6,9 +6,5 @@ pub(crate) fn copy_words(list: &mut [u32], words: &[u32])
     requires { length words.now ≤ length list.old }
     ensures { list.new ≡ over words.now list.old }
 {
-    let mut i = 0;
-    while i < words.len() {
-        list[i] = words[i];
-        i += 1;
-    }
+    list[..words.len()].copy_from_slice(words);
 }

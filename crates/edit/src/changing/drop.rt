@@ -3,42 +3,42 @@ ghost use Rattle.std.specs.Prelude.{◌≡◌, length};
 ghost use Rattle.draft.specs.Held.State.{Idle, lists_as, rooms_of, works_as};
 ghost use Rattle.edit.specs.{Changing.Dropped.{Drops}, inner.Changing.Dropped.{Shortens, with_sums}};
 
-use crate::changing::begin::refused;
 use crate::changing::cut::{Ends, cut_lists};
-use crate::changing::sum::{Sum, sum_within};
+use crate::changing::sum::sum_within;
 use draft::held::room::{Rooms, has_space, stands};
-use draft::held::state::{Changed, Held};
+use draft::held::state::Held;
 use draft::summed::rest::rest_work;
-use draft::summed::sums::{Summed, Sums, sum_up};
+use draft::summed::sums::{Sums, sum_up};
+use numbers::fault::Fault;
+use numbers::refusal::Refusal;
 
 // The numbers with a yard less, and the sums as they were. The data ends where the last border began.
-fn shorten(builder: Held, rooms: Rooms, borders: &[u32], lengths: &[u32]) -> Changed
+fn shorten(builder: Held, rooms: Rooms, borders: &[u32], lengths: &[u32]) -> Result<Held, Refusal>
     requires { (rooms.borders ≡ length borders.now) × (rooms.lengths ≡ length lengths.now) }
     ensures { Shortens builder rooms borders.now lengths.now result }
 {
     if !stands(builder, rooms) {
-        return refused(29);
+        return Err(Fault::NoYard.alone());
     }
     if builder.yards == 0 {
-        return refused(29);
+        return Err(Fault::NoYard.alone());
     }
     let names = builder.names as usize;
     let count = builder.yards - 1;
     let from = names + 1 + names * count;
     let to = from + names;
-    let last = match sum_within(&lengths[from..to], builder.strings - builder.front) {
-        Sum::Within(sum) => sum,
-        Sum::Over => return refused(28),
+    let Some(last) = sum_within(&lengths[from..to], builder.strings - builder.front) else {
+        return Err(Fault::FileFull.alone());
     };
     let bytes = borders[count] as usize;
     if builder.bytes < bytes {
-        return refused(28);
+        return Err(Fault::FileFull.alone());
     }
     let strings = builder.strings - last;
     if !has_space(rooms, names, count, builder.front, strings) {
-        return refused(28);
+        return Err(Fault::FileFull.alone());
     }
-    Changed::Into(Held {
+    Ok(Held {
         kind: builder.kind,
         version: builder.version,
         precision: builder.precision,
@@ -90,7 +90,7 @@ fn drop_yard(
     held: &mut [u8],
     words: &mut [u32],
     places: &mut [u32],
-) -> Changed
+) -> Result<Held, Refusal>
     ensures { let own = lists_as boxes.old borders.old lengths.old texts.old bytes.old in
         let work = works_as starts.old keys.old spare.old kept.old held.old words.old places.old in
         Drops builder (rooms_of own work) own (lists_as boxes.new borders.new lengths.new texts.new bytes.new) result }
@@ -109,10 +109,7 @@ fn drop_yard(
         words: words.len(),
         places: places.len(),
     };
-    let left = match shorten(builder, rooms, borders, lengths) {
-        Changed::Into(left) => left,
-        Changed::Refused(why) => return Changed::Refused(why),
-    };
+    let left = shorten(builder, rooms, borders, lengths)?;
     let names = left.names as usize;
     let count = left.yards;
     let from = names + 1;
@@ -134,9 +131,8 @@ fn drop_yard(
         words,
         places,
     );
-    let sums = match summed {
-        Summed::Sums(sums) => sums,
-        Summed::Broken => return refused(28),
+    let Some(sums) = summed else {
+        return Err(Fault::FileFull.alone());
     };
     let ends = Ends {
         boxes: 4 * count,
@@ -146,8 +142,9 @@ fn drop_yard(
         bytes: left.bytes,
     };
     cut_lists(ends, boxes, borders, lengths, texts, bytes);
-    Changed::Into(with_sums(left, sums))
+    Ok(with_sums(left, sums))
 }
+
 // 29 for no yard; 28 only where a list to work in is too short.
 pub fn drop_last(
     builder: Held,
@@ -163,7 +160,7 @@ pub fn drop_last(
     held: &mut [u8],
     words: &mut [u32],
     places: &mut [u32],
-) -> Changed
+) -> Result<Held, Refusal>
     ensures { let own = lists_as boxes.old borders.old lengths.old texts.old bytes.old in
         let work = works_as starts.old keys.old spare.old kept.old held.old words.old places.old in
         Drops builder (rooms_of own work) own (lists_as boxes.new borders.new lengths.new texts.new bytes.new) result

@@ -2,24 +2,16 @@
 ghost use Rattle.std.specs.Prelude.{◌≡◌};
 ghost use Rattle.edit.specs.inner.Changing.Sum.{SumsTo};
 
-#[derive(Clone, Copy)]
-pub(crate) enum Sum {
-    Within(usize),
-    Over,
-}
-
-pub(crate) fn sum_within(lengths: &[u32], most: usize) -> Sum
+pub(crate) fn sum_within(lengths: &[u32], most: usize) -> Option<usize>
     ensures { SumsTo lengths.now most result }
 {
     let mut sum = 0;
-    let mut i = 0;
-    while i < lengths.len() {
-        let length = lengths[i] as usize;
+    for length in lengths {
+        let length = *length as usize;
         if most - sum < length {
-            return Sum::Over;
+            return None;
         }
         sum += length;
-        i += 1;
     }
-    Sum::Within(sum)
+    Some(sum)
 }

@@ -1,12 +1,12 @@
 // Whether a text may stand in the place of a value.
 ghost use Rattle.std.specs.Prelude.{◌≡◌, ◌+◌, ◌*◌, ◌^◌, ◌≤◌, ◌<◌, length};
-ghost use Rattle.numbers.specs.Reply.{plain};
-ghost use Rattle.edit.specs.inner.Replacing.Spot.{text_at, spot_in, within, checked_of, told};
+ghost use Rattle.edit.specs.inner.Replacing.Spot.{text_at, spot_in, within, checked_of};
 
 use crate::replacing::find::{is_value, place_behind};
 use draft::held::room::{Rooms, has_space, stands};
 use draft::held::state::Held;
-use numbers::refusal::{Refusal, plain};
+use numbers::fault::Fault;
+use numbers::refusal::Refusal;
 
 // A text: which length is its own, and the bytes where it begins and ends.
 #[derive(Clone, Copy)]
@@ -14,12 +14,6 @@ pub struct Spot {
     pub index: usize,
     pub place: usize,
     pub from: usize,
-}
-
-#[derive(Clone, Copy)]
-pub enum Checked {
-    At(Spot),
-    Refused(Refusal),
 }
 
 fn spot_of(index: usize, lengths: &[u32]) -> Spot
@@ -48,12 +42,6 @@ fn is_within(builder: Held, spot: Spot) -> bool
     builder.strings <= 0x100_0000_0000
 }
 
-fn refuse(number: u8) -> Checked
-    ensures { result ≡ Checked.Refused (plain number) }
-{
-    Checked::Refused(plain(number))
-}
-
 // 30, 26, and 28 for a list that is too short.
 pub(crate) fn check(
     builder: Held,
@@ -63,34 +51,34 @@ pub(crate) fn check(
     field: u32,
     text: &[u8],
     lengths: &[u32],
-) -> Checked
+) -> Result<Spot, Refusal>
     requires { length lengths.now ≡ rooms.lengths }
-    ensures { told result ≡ checked_of builder rooms out yard field text.now lengths.now }
+    ensures { result ≡ checked_of builder rooms out yard field text.now lengths.now }
 {
     if !stands(builder, rooms) {
-        return refuse(28);
+        return Err(Fault::FileFull.alone());
     }
     let names = builder.names as usize;
     if builder.yards <= yard as usize {
-        return refuse(30);
+        return Err(Fault::NoValue.alone());
     }
     if builder.names <= field {
-        return refuse(30);
+        return Err(Fault::NoValue.alone());
     }
     if !is_value(text) {
-        return refuse(26);
+        return Err(Fault::BadText.alone());
     }
     let index = names + 1 + (yard as usize * names + field as usize);
     let spot = spot_of(index, lengths);
     if !is_within(builder, spot) {
-        return refuse(28);
+        return Err(Fault::FileFull.alone());
     }
     if out < builder.strings {
-        return refuse(28);
+        return Err(Fault::FileFull.alone());
     }
     let strings = spot.place + text.len() + (builder.strings - spot.from);
     if !has_space(rooms, names, builder.yards, builder.front, strings) {
-        return refuse(28);
+        return Err(Fault::FileFull.alone());
     }
-    Checked::At(spot)
+    Ok(spot)
 }

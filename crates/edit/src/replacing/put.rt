@@ -9,7 +9,8 @@ use crate::replacing::check::Spot;
 use crate::replacing::exchange::exchange;
 use crate::replacing::resum::resum;
 use builder::put::put_bytes;
-use draft::held::state::{Changed, Held};
+use draft::held::state::Held;
+use numbers::refusal::Refusal;
 
 // Its bytes and its length.
 fn put_in(
@@ -42,22 +43,22 @@ fn spot_up_to(spot: Spot, size: usize) -> Spot
 
 // Another text comes back where the builder with this one was refused.
 fn take_back(
-    changed: Changed,
+    changed: Result<Held, Refusal>,
     spot: Spot,
     strings: usize,
     old: &[u8],
     lengths: &mut [u32],
     texts: &mut [u8],
     out: &mut [u8],
-) -> Changed
+) -> Result<Held, Refusal>
     requires { (spot.index < length lengths.old) × Exchanging spot.place spot.from strings (length old.now) (length texts.old) (length out.old) }
     ensures { TakenBack changed spot strings old.now lengths.old texts.old lengths.new texts.new result }
 {
     match changed {
-        Changed::Into(next) => Changed::Into(next),
-        Changed::Refused(why) => {
+        Ok(next) => Ok(next),
+        Err(why) => {
             put_in(spot, strings, old, lengths, texts, out);
-            Changed::Refused(why)
+            Err(why)
         }
     }
 }
@@ -79,7 +80,7 @@ pub(crate) fn put_value(
     words: &mut [u32],
     places: &mut [u32],
     out: &mut [u8],
-) -> Changed
+) -> Result<Held, Refusal>
     requires { Putting builder spot (length text.now) (length borders.now) (length lengths.old) (length texts.old) (length out.old) (work_of (length starts.old) (length keys.old) (length spare.old) (length kept.old) (length held.old) (length words.old) (length places.old) (length boxes.now)) }
     ensures { (bytes : List ℕ) → Renews builder spot text.now (lists_as boxes.now borders.now lengths.old texts.old bytes) (lists_as boxes.now borders.now lengths.new texts.new bytes) result }
 {

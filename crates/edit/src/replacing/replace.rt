@@ -4,11 +4,12 @@ ghost use Rattle.numbers.specs.Lists.{zeros};
 ghost use Rattle.draft.specs.Held.State.{Idle, lists_as, rooms_of, works_as};
 ghost use Rattle.edit.specs.Replacing.Replaced.{Replaces};
 
-use crate::replacing::check::{Checked, check};
+use crate::replacing::check::check;
 use crate::replacing::put::put_value;
 use draft::held::room::Rooms;
-use draft::held::state::{Changed, Held};
+use draft::held::state::Held;
 use draft::summed::rest::rest;
+use numbers::refusal::Refusal;
 
 // With nothing zeroed afterwards.
 fn change(
@@ -29,7 +30,7 @@ fn change(
     words: &mut [u32],
     places: &mut [u32],
     out: &mut [u8],
-) -> Changed
+) -> Result<Held, Refusal>
     ensures { let own = lists_as boxes.now borders.now lengths.old texts.old bytes.now in
         let work = works_as starts.old keys.old spare.old kept.old held.old words.old places.old in
         Replaces builder (rooms_of own work) (length out.old) yard field text.now own
@@ -49,11 +50,7 @@ fn change(
         words: words.len(),
         places: places.len(),
     };
-    let checked = check(builder, rooms, out.len(), yard, field, text, lengths);
-    let spot = match checked {
-        Checked::At(spot) => spot,
-        Checked::Refused(why) => return Changed::Refused(why),
-    };
+    let spot = check(builder, rooms, out.len(), yard, field, text, lengths)?;
     put_value(
         builder, spot, text, boxes, borders, lengths, texts, starts, keys, spare, kept, held,
         words, places, out,
@@ -79,7 +76,7 @@ pub fn replace(
     words: &mut [u32],
     places: &mut [u32],
     out: &mut [u8],
-) -> Changed
+) -> Result<Held, Refusal>
     ensures { let own = lists_as boxes.now borders.now lengths.old texts.old bytes.now in
         let work = works_as starts.old keys.old spare.old kept.old held.old words.old places.old in
         Replaces builder (rooms_of own work) (length out.old) yard field text.now own

@@ -3,20 +3,21 @@ ghost use Rattle.std.specs.Prelude.{◌≡◌, length};
 ghost use Rattle.build.specs.Room.{work_of};
 ghost use Rattle.edit.specs.inner.Replacing.Replaced.{Resumming, Resums, resummed};
 
-use draft::held::state::{Changed, Held};
-use draft::summed::sums::{Summed, Sums, fits, sum_up};
-use numbers::refusal::plain;
+use draft::held::state::Held;
+use draft::summed::sums::{Sums, fits, sum_up};
+use numbers::fault::Fault;
+use numbers::refusal::Refusal;
 
 // 28 if its file no longer fits. The data and the yards stay what they are.
-fn settle(builder: Held, strings: usize, sums: Sums) -> Changed
+fn settle(builder: Held, strings: usize, sums: Sums) -> Result<Held, Refusal>
     ensures { result ≡ resummed builder strings sums.table sums.metadata sums.greatest }
 {
     let table = sums.table;
     let metadata = sums.metadata;
     if !fits(builder.head, table, metadata, builder.bytes, builder.room) {
-        return Changed::Refused(plain(28));
+        return Err(Fault::FileFull.alone());
     }
-    Changed::Into(Held {
+    Ok(Held {
         kind: builder.kind,
         version: builder.version,
         precision: builder.precision,
@@ -47,7 +48,7 @@ pub(crate) fn resum(
     held: &mut [u8],
     words: &mut [u32],
     places: &mut [u32],
-) -> Changed
+) -> Result<Held, Refusal>
     requires { Resumming builder strings (length borders.now) (length lengths.now) (length texts.now) (work_of (length starts.old) (length keys.old) (length spare.old) (length kept.old) (length held.old) (length words.old) (length places.old) (length boxes.now)) }
     ensures { Resums builder strings boxes.now borders.now lengths.now texts.now result }
 {
@@ -71,9 +72,8 @@ pub(crate) fn resum(
         words,
         places,
     );
-    let sums = match summed {
-        Summed::Sums(sums) => sums,
-        Summed::Broken => return Changed::Refused(plain(28)),
+    let Some(sums) = summed else {
+        return Err(Fault::FileFull.alone());
     };
     settle(builder, strings, sums)
 }

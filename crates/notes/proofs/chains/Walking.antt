@@ -1,8 +1,9 @@
 -- A walk along the chain of an item. Assumes nothing.
-use Rattle.numbers.proofs.Prelude.{ℕ, suc, ◌+◌, ◌-◌, ◌*◌, ◌%◌, ◌≤◌, ◌<◌, get_or, Bool, true, false, ◌&&◌, List, ◌≡◌, refl, sym, ap, subst, ◌∙◌, arith}
+use Rattle.numbers.proofs.Prelude.{ℕ, suc, ◌+◌, ◌-◌, ◌*◌, ◌%◌, ◌≤◌, ◌<◌, get_or, Bool, true, false, ◌&&◌, List, ◌≡◌, refl, sym, ap, subst, ◌∙◌, add-one, arith}
+use Rattle.std.specs.Prelude.{Option, Some, None, is_some}
 use Rattle.builder.{proofs.grouping.{Keyed.{alike_hash}, Walks.{fewer_inside, item_among}}, specs.{Grouping.{Items.{item_at, Inside}, Keys.{alike}}, Sharing.{same_texts}}}
 use Rattle.notes.proofs.chains.{Entering.{bucket_has, from_bucket}, Lasts.{never, last_in, last_out, last_most, last_good, last_within}}
-use Rattle.notes.specs.Chains.{Chains.{last_with, in_bucket, Chained, meets, ItemsInside}, Entered.{bucket_of, Walked}}
+use Rattle.notes.specs.Chains.{Chains.{last_with, in_bucket, Chained, meets, word_of, ItemsInside}, Entered.{bucket_of, Walked}}
 
 -- ---- an item and those before it
 pub other_room : (item other width size : ℕ) → (item + 1) * width < size → other ≤ item → other * width + width < size
@@ -103,11 +104,11 @@ module _ (starts texts : List ℕ) (width : ℕ) (chain : List ℕ) (item from :
       stands_here : (entered : ℕ → Bool) (before : ℕ) → Stands starts texts width entered item before at → Stands starts texts width entered item before (suc (at - 1))
       stands_here entered before s = subst (λ (n : ℕ). Stands starts texts width entered item before n) at_is s
 
-      pub walk_found : same ≡ true → Walked starts texts width chain item from at
+      pub walk_found : same ≡ true → Walked starts texts width chain item from (at - 1 + 1)
       walk_found yes' = record {
-        within = w.within;
+        within = omega (arith, some, w.within);
         last = λ entered count before inside c few most e.
-            at_is ∙ stand_found starts texts width entered item count before chain c few (at - 1) (stands_here entered before (w.stands entered count before inside c few most e)) same
+            add-one (at - 1) ∙ stand_found starts texts width entered item count before chain c few (at - 1) (stands_here entered before (w.stands entered count before inside c few most e)) same
             (same_is inside) yes';
       }
 
@@ -132,11 +133,19 @@ module _ (starts texts : List ℕ) (width : ℕ) (chain : List ℕ) (item r : �
   from_head bucket from small is e w =
       w.last entered count count inside c (omega arith) most (e ∙ (c.heads bucket small ∙ ap (λ (k : ℕ). last_with (in_bucket (bucket_of starts texts width) entered k) count) is))
 
-  pub from_found : (found from : ℕ) → 0 < found → from ≡ get_or chain (4095 + found) 0 → Walked starts texts width chain item from r → found ≡ last_with (meets starts texts width entered item) count
-      → r ≡ last_with (meets starts texts width entered item) (found - 1)
-  from_found found from some e w is = let some' : found ≡ suc (found - 1) = omega arith in let place : 4095 + found ≡ 4096 + (found - 1) = omega arith in
-      let low : found ≤ count = omega (arith, is, last_most (meets starts texts width entered item) count) in
-      let good : meets starts texts width entered item (found - 1) ≡ true = last_good (meets starts texts width entered item) count (found - 1) (sym is ∙ some') in
-      let two = from_bucket (bucket_of starts texts width) entered (bucket_of starts texts width item) (found - 1) (meets_bucket starts texts width entered item (found - 1) good) in
-      w.last entered count (found - 1) inside c (omega (arith, low)) most (e ∙ (ap (λ (n : ℕ). get_or chain n 0) place
-      ∙ (c.links (found - 1) (omega (arith, low, some)) two.0 ∙ ap (λ (k : ℕ). last_with (in_bucket (bucket_of starts texts width) entered k) (found - 1)) two.1)))
+  pub from_found : (found from : ℕ) → from ≡ get_or chain (4096 + found) 0 → Walked starts texts width chain item from r → found + 1 ≡ last_with (meets starts texts width entered item) count
+      → r ≡ last_with (meets starts texts width entered item) found
+  from_found found from e w is = let low : found + 1 ≤ count = omega (arith, is, last_most (meets starts texts width entered item) count) in
+      let good : meets starts texts width entered item found ≡ true = last_good (meets starts texts width entered item) count found (sym is ∙ add-one found) in
+      let two = from_bucket (bucket_of starts texts width) entered (bucket_of starts texts width item) found (meets_bucket starts texts width entered item found good) in
+      w.last entered count found inside c (omega (arith, low)) most
+      (e ∙ (c.links found (omega (arith, low)) two.0 ∙ ap (λ (k : ℕ). last_with (in_bucket (bucket_of starts texts width) entered k) found) two.1))
+
+-- ---- what was found, as a word
+pub word_some : (r : Option ℕ) → is_some r ≡ true → 0 < word_of r
+word_some (Some item) e = omega arith
+word_some None e = never (sym e)
+
+pub word_none : (r : Option ℕ) → is_some r ≡ false → word_of r ≤ 0
+word_none (Some item) e = never e
+word_none None e = omega arith

@@ -1,5 +1,5 @@
 -- What the table grows by with the entry of one yard more. Assumes nothing.
-use Rattle.numbers.proofs.Prelude.{ℕ, zero, suc, ◌+◌, ◌-◌, ◌%◌, ◌^◌, ◌≤◌, ◌<◌, leb, ℤ, pos, ◌-ℤ◌, length, get_or, length-append, Bool, true, false, List, [], ◌∷◌, ◌++◌, map, ◌≡◌, refl, sym, ap, ◌∙◌}
+use Rattle.numbers.proofs.Prelude.{ℕ, zero, suc, ◌+◌, ◌-◌, ◌%◌, ◌^◌, ◌≤◌, ◌<◌, leb, ℤ, pos, ◌-ℤ◌, length, get_or, length-append, Bool, true, false, List, [], ◌∷◌, ◌++◌, map, ◌≡◌, refl, sym, ap, ◌∙◌, add-one}
 use Rattle.numbers.{proofs.{Prelude.{arith}, Spelling.{varint_few}}, specs.{Answer.{if◌then◌else◌}, Spelling.{varint_of, signed_form}}}
 use mathlib.Core.Option
 use mathlib.Core.Option.{Option, none, some}
@@ -42,23 +42,22 @@ module _ (begins borders : List ℕ) where
   unfolding places_of
   places_none near e = ap (places_of begins borders) (sym e)
 
-  pub places_some : (near : ℕ) → (near ≡ 0 → ⊥) → record { «record» = get_or begins (near - 1) 0; border = get_or borders (near - 1) 0 } ≡ places_of begins borders near
+  pub places_some : (near yard : ℕ) → near ≡ yard + 1 → record { «record» = get_or begins yard 0; border = get_or borders yard 0 } ≡ places_of begins borders near
   unfolding places_of
-  places_some zero there = absurd (there refl)
-  places_some (suc yard) there = let e : suc yard - 1 ≡ yard = omega arith in rw e
+  places_some near yard is = ap (places_of begins borders) (sym (is ∙ add-one yard))
 
   module _ (boxes : List ℤ) (from : Places) where
     pub size_none : (near : ℕ) → near ≡ 0 → 0 ≡ size_behind boxes begins borders from near
     unfolding size_behind
     size_none near e = ap (size_behind boxes begins borders from) (sym e)
 
-    pub size_some : (near : ℕ) → (near ≡ 0 → ⊥) → (bounds : Bounds) → bounds ≡ bounds_at boxes (near - 1) → (places : Places) → places ≡ places_of begins borders near
+    pub size_some : (near yard : ℕ) → near ≡ yard + 1 → (bounds : Bounds) → bounds ≡ bounds_at boxes yard → (places : Places) → places ≡ places_of begins borders (yard + 1)
         → (size : ℕ) → size ≡ length (entry_bytes from.«record» from.border (entry_at bounds places)) → size ≡ size_behind boxes begins borders from near
     unfolding size_behind places_of
-    size_some zero there bounds eb places ep size is = absurd (there refl)
-    size_some (suc yard) there bounds eb places ep size is = let e : suc yard - 1 ≡ yard = omega arith in
-        is ∙ (ap (λ (b : Bounds). length (entry_bytes from.«record» from.border (entry_at b places))) (eb ∙ ap (bounds_at boxes) e)
-        ∙ ap (λ (p : Places). length (entry_bytes from.«record» from.border (entry_at (bounds_at boxes yard) p))) ep)
+    size_some near yard there bounds eb places ep size is = let e : near ≡ suc yard = there ∙ add-one yard in
+        is ∙ (ap (λ (b : Bounds). length (entry_bytes from.«record» from.border (entry_at b places))) eb
+        ∙ (ap (λ (p : Places). length (entry_bytes from.«record» from.border (entry_at (bounds_at boxes yard) p))) (ep ∙ ap (places_of begins borders) (add-one yard))
+        ∙ ap (size_behind boxes begins borders from) (sym e)))
 
 -- ---- the neighbours of an entry are those of its yard
 module _ {A B : Type 0} (key : A → ℕ) (other : B → ℕ) (f : A → B) (same : (a : A) → other (f a) ≡ key a) (k : ℕ) where

@@ -1,7 +1,7 @@
 -- The greatest lower latitude, with that of one yard more. Assumes nothing.
 use Rattle.numbers.proofs.Prelude.{ℕ, ◌+◌, ◌*◌, ℤ, pos, length, get_or, length-map, lt_z, true, false, List, [], ◌∷◌, ◌++◌, map, ◌≡◌, refl, sym, ap, ◌∙◌, w32, SFits, of_z, to_z}
 use mir.Facts.{to_z-of_z}
-use Rattle.builder.{proofs.{Bests.{greater_second, greater_first}, grouping.Listed.{numbers_many}}, specs.{Entries.{best_by, greater, highest_of}, Grouping.Keys.{numbers_from}}}
+use Rattle.builder.{proofs.{Bests.{greater_second, greater_first}, grouping.Listed.{numbers_many}}, specs.{Entries.{best_by, farthest_of, greater, highest_of}, Grouping.Keys.{numbers_from}}}
 use Rattle.build.proofs.metadata.Shared.{map_more}
 use Rattle.notes.proofs.nearby.Seeks.{numbers_one}
 use Rattle.draft.specs.inner.Summed.Sums.{souths_of}
@@ -12,7 +12,7 @@ best_more best z [] last = refl
 best_more best z (x ∷ zs) last = best_more best (best z x) zs last
 
 highest_more : (zs : List ℤ) (last : ℤ) → (length zs ≡ 0 → ⊥) → highest_of (zs ++ (last ∷ [])) ≡ greater (highest_of zs) last
-unfolding highest_of
+unfolding farthest_of
 highest_more [] last some = absurd (some refl)
 highest_more (z ∷ zs) last some = best_more greater z zs last
 
@@ -29,7 +29,7 @@ module _ (boxes : List ℤ) (count : ℕ) where
     Right r = greatest ≡ highest_of (souths_of boxes count) → r ≡ highest_of (souths_of boxes (count + 1))
 
     pub only : count ≡ 0 → Right (to_z w32 (of_z w32 (get_or boxes (4 * count) (pos 0))))
-    unfolding souths_of highest_of best_by numbers_from
+    unfolding souths_of farthest_of best_by numbers_from
     only z e = to_z-of_z k ∙ sym (ap highest_of souths_more ∙ ap (λ (n : ℕ). highest_of (souths_of boxes n ++ (south ∷ []))) z)
 
     module _ (some : count ≡ 0 → ⊥) (h : SFits w32 greatest) where

@@ -1,11 +1,11 @@
 -- A yard more whose values another yard has, or none: what a search among the records tells. Assumes nothing.
-use Rattle.numbers.proofs.Prelude.{ℕ, suc, ◌+◌, ◌-◌, ◌*◌, ◌^◌, ◌≤◌, ◌<◌, length, get_or, get_or-take, false, List, map, ◌≡◌, sym, ap, subst, ◌∙◌, arith}
+use Rattle.numbers.proofs.Prelude.{ℕ, suc, ◌+◌, ◌*◌, ◌^◌, ◌≤◌, ◌<◌, length, get_or, get_or-take, false, List, map, ◌≡◌, sym, ap, subst, ◌∙◌, arith}
 use Rattle.builder.{proofs.grouping.{Meant.{starts_inside}, Walks.{fewer_inside}}, specs.{Grouping.Items.{item_at, starts_from}, Metadata.{records_of, start_of}, Sharing.{firsts, is_in, same_texts}}}
 use Rattle.builder.specs.Yards.{Text, Yard}
 use Rattle.notes.specs.{Chains.{Chains.{last_with, meets}, Entered.{is_first}}, declared.quick.place.Placing.{Placing}, inner.{Noted.OneMore.{OneMore}, Quick.Placed.{AddsAtMost, Beside, Places}}}
 use Rattle.build.{proofs.{entries.Tabled.{begins_are}, recording.Spreading.{numbered_at}}, specs.Metadata.Kept.{begin_of, values_to}}
 use Rattle.notes.proofs.{noted.{Noting.{Finds}, OneMore.{shared_more}, Sharing.{found_some, groups_shared}}, quick.Owned.{PlacesOwn}}
-use Rattle.notes.specs.declared.quick.place.Placing.TheVariants as P
+use Rattle.std.specs.Prelude.{Option, Some}
 
 module _ (yards : List Yard) (y : Yard) (names count records remote : ℕ) (lengths texts chains groups begins : List ℕ)
     (b : Beside yards y names count records remote lengths (starts_from 0 lengths) texts chains groups begins)
@@ -38,7 +38,7 @@ module _ (yards : List Yard) (y : Yard) (names count records remote : ℕ) (leng
 
 -- ---- what is answered
 module _ (names count records remote : ℕ) (starts texts chains groups begins : List ℕ) (found : ℕ) (finds : Finds starts texts names groups count found) where
-  abbrev PlacesIt : Placing → Type 0
+  abbrev PlacesIt : Option Placing → Type 0
   PlacesIt r = AddsAtMost (2 ^ 41) r × ((yards : List Yard) (y : Yard) (lengths : List ℕ) → Beside yards y names count records remote lengths starts texts chains groups begins → Places yards y r)
 
   module _ (yards : List Yard) (y : Yard) (lengths : List ℕ) (b : Beside yards y names count records remote lengths starts texts chains groups begins) where
@@ -48,15 +48,14 @@ module _ (names count records remote : ℕ) (starts texts chains groups begins :
     finds_plain : Finds (starts_from 0 lengths) texts names groups count found
     finds_plain = subst (λ (s : List ℕ). Finds s texts names groups count found) b.behind.noted.begin finds
 
-  pub shared_at : 0 < found → PlacesIt (P.At 0 (get_or begins (found - 1) 0))
+  pub shared_at : (other : ℕ) → found ≡ suc other → PlacesIt (Some (record { by = 0; begin = get_or begins other 0 }))
   unfolding AddsAtMost Places
-  shared_at h = let next : found ≡ suc (found - 1) = omega arith in (
+  shared_at other next = (
     omega arith,
-    λ yards y lengths b. is_found yards y names count records remote lengths texts chains groups begins (plain yards y lengths b) found (finds_plain yards y lengths b)
-        (found - 1) next,
+    λ yards y lengths b. is_found yards y names count records remote lengths texts chains groups begins (plain yards y lengths b) found (finds_plain yards y lengths b) other next,
   )
 
-  pub own_too : found ≤ 0 → (r : Placing) → PlacesOwn names count records remote starts texts chains r → PlacesIt r
+  pub own_too : found ≤ 0 → (r : Option Placing) → PlacesOwn names count records remote starts texts chains r → PlacesIt r
   own_too h r own = (
     own.0,
     λ yards y lengths b. own.1 yards y lengths b.behind

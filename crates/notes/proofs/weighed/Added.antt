@@ -3,7 +3,8 @@ use Rattle.numbers.proofs.Prelude.{ℕ, ◌+◌, ◌-◌, ◌*◌, ◌^◌, ◌�
 use Rattle.builder.{proofs.grouping.Walks.{item_among}, specs.{Grouping.Items.{text_at, item_at}, Yards.{Text}}}
 use Rattle.build.specs.Metadata.Kept.{fields_to}
 use Rattle.notes.proofs.weighed.{Counted.{item_more}, Weighed.{weighed_sure}}
-use Rattle.notes.specs.{declared.weighed.weigh.Weight.{Weight, TheVariants.{Takes, Unsure}}, inner.Weighed.Weighing.{Noted, weights_of, AtMost, WeighsOne, Weighs, WeighsAs}}
+use Rattle.std.specs.Prelude.{Option, Some, None}
+use Rattle.notes.specs.inner.Weighed.Weighing.{Noted, weights_of, AtMost, WeighsOne, Weighs, WeighsAs}
 use Rattle.notes.specs.inner.Weighed.Weights.{Weight as Known, Weighed, weight_of}
 
 -- a value of a yard stands among those of the yards before it and its own
@@ -37,23 +38,23 @@ module _ (names count word : ℕ) (starts texts chains : List ℕ) where
   unfolding item_at Weighed weights_of
   add_starts = record { index = omega arith; small = omega arith; so = λ lengths n. (tt, refl) }
 
-  pub adds_nothing : AtMost (2 ^ 41) Unsure × ((lengths : List ℕ) → Noted names count lengths starts texts chains → WeighsAs (fields_to names lengths texts count) word (own names) Unsure)
+  pub adds_nothing : AtMost (2 ^ 41) None × ((lengths : List ℕ) → Noted names count lengths starts texts chains → WeighsAs (fields_to names lengths texts count) word (own names) None)
   unfolding WeighsAs AtMost
   adds_nothing = (tt, λ lengths n. tt)
 
   module _ (bytes i : ℕ) (c : Adding bytes i) where
-    sure_ends : names ≤ i → (lengths : List ℕ) → Noted names count lengths starts texts chains → WeighsAs (fields_to names lengths texts count) word (own names) (Takes bytes)
+    sure_ends : names ≤ i → (lengths : List ℕ) → Noted names count lengths starts texts chains → WeighsAs (fields_to names lengths texts count) word (own names) (Some bytes)
     unfolding WeighsAs
     sure_ends h lengths n = let fields : List Text = fields_to names lengths texts count in let e : i ≡ names = omega (arith, c.index) in
         let w = c.so lengths n in
         (weighed_sure fields fields (λ t k. k) (own names) (subst (λ (m : ℕ). Weighed fields fields [] (own m)) e w.0), w.1 ∙ ap (λ (m : ℕ). weights_of fields word (own m)) e)
 
     pub add_ends : names ≤ 255 → names ≤ i →
-        AtMost (2 ^ 41) (Takes bytes) × ((lengths : List ℕ) → Noted names count lengths starts texts chains → WeighsAs (fields_to names lengths texts count) word (own names) (Takes bytes))
+        AtMost (2 ^ 41) (Some bytes) × ((lengths : List ℕ) → Noted names count lengths starts texts chains → WeighsAs (fields_to names lengths texts count) word (own names) (Some bytes))
     unfolding AtMost
     add_ends few h = (omega (arith, few, c.index, c.small), sure_ends h)
 
-    module _ (h : i < names) (r : Weight) (w : Weighs word starts texts chains (count * names) (count * names + i) r) (taken : ℕ) (is : r ≡ Takes taken) where
+    module _ (h : i < names) (r : Option ℕ) (w : Weighs word starts texts chains (count * names) (count * names + i) r) (taken : ℕ) (is : r ≡ Some taken) where
       pub taken_few : taken ≤ 2 ^ 33
       unfolding AtMost
       taken_few = subst (AtMost (2 ^ 33)) is w.few

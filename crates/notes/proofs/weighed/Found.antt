@@ -1,6 +1,6 @@
 -- What the chains find of a value says what it weighs. Assumes nothing.
 use Rattle.numbers.proofs.Prelude.{ℕ, suc, ◌+◌, ◌-◌, ◌*◌, ◌≤◌, eq-eqb, ne_eqb, le-leb, lt-leb, eqb, leb, length, length-append, length-map, Bool, true, false, ◌&&◌, ◌||◌, not, List, [], ◌∷◌, map}
-use Rattle.numbers.{proofs.{Prelude.{◌≡◌, refl, sym, ap, ◌∙◌, arith}, Spelling.{varint_byte}}, specs.{Answer.{if◌then◌else◌}, Spelling.{varint_of}}}
+use Rattle.numbers.{proofs.{Prelude.{◌≡◌, refl, sym, ap, ◌∙◌, add-one, arith}, Spelling.{varint_byte}}, specs.{Answer.{if◌then◌else◌}, Spelling.{varint_of}}}
 use Rattle.builder.specs.{Grouping.Items.{starts_from, text_at}, Metadata.{inlined, is_remote}, Sharing.{same_text, is_in, times_in}, Yards.{Text}}
 use Rattle.notes.specs.{Chains.{Chains.{last_with, meets}, Entered.{is_field}}, inner.Weighed.Weights.{Weight, nothing, behind, unmet, weight_of}}
 use Rattle.header.specs.Utf8.{unmasked}
@@ -25,11 +25,11 @@ module _ (names : ℕ) (lengths starts texts : List ℕ) (begin : starts ≡ sta
   pub met_none : (found : ℕ) → found ≡ last_with met (count * names) → found ≡ 0 → times_in same_text text (fields_to names lengths texts count) ≡ 0
   met_none found e z = sym times_met ∙ count_none met (count * names) (sym e ∙ z)
 
-  pub met_twice : (found before : ℕ) → found ≡ last_with met (count * names) → (found ≡ 0 → ⊥) → before ≡ last_with met (found - 1) → (before ≡ 0 → ⊥) →
+  pub met_twice : (found before : ℕ) → found + 1 ≡ last_with met (count * names) → before ≡ last_with met found → (before ≡ 0 → ⊥) →
       2 ≤ times_in same_text text (fields_to names lengths texts count)
-  met_twice found before e some f more = let last : last_with met (count * names) ≡ suc (found - 1) = sym e ∙ omega (arith, some) in
-      let other : last_with met (found - 1) ≡ suc (before - 1) = sym f ∙ omega (arith, more) in
-      omega (arith, times_met, count_last met (count * names) (found - 1) last, count_last met (found - 1) (before - 1) other)
+  met_twice found before e f more = let last : last_with met (count * names) ≡ suc found = sym e ∙ add-one found in
+      let other : last_with met found ≡ suc (before - 1) = sym f ∙ omega (arith, more) in
+      omega (arith, times_met, count_last met (count * names) found last, count_last met found (before - 1) other)
 
 -- ---- what it weighs
 never_in : (t : Text) (xs : List Text) → times_in same_text t xs ≡ 0 → is_in same_text t xs ≡ false

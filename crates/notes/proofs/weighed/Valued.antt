@@ -2,7 +2,8 @@
 use Rattle.numbers.proofs.Prelude.{ℕ, ◌+◌, ◌-◌, ◌*◌, ◌^◌, ◌≤◌, ◌<◌, length, drop, get_or, length-drop, length-take-le, Bool, false, List, ◌≡◌, sym, ap, subst, ◌∙◌, arith}
 use Rattle.numbers.{proofs.Spelling.{varint_few}, specs.Spelling.{varint_of}}
 use Rattle.builder.{proofs.grouping.{Meant.{starts_inside}, Walks.{fewer_inside, item_among}}, specs.{Grouping.Items.{starts_from, text_at, item_at, Inside}, Sharing.{same_text, is_in}, Yards.{Text}}}
-use Rattle.notes.specs.{Chains.{Chains.{last_with, Chained, meets, ItemsInside}, Entered.{bucket_of, is_field}}, declared.weighed.weigh.Weight.TheVariants.{Takes, Unsure}}
+use Rattle.std.specs.Prelude.{Some, None}
+use Rattle.notes.specs.Chains.{Chains.{last_with, Chained, meets, ItemsInside}, Entered.{bucket_of, is_field}}
 use Rattle.notes.specs.inner.Weighed.Weighing.{Noted, AtMost, WeighsOne, Weighs}
 use Rattle.build.specs.Metadata.Kept.{fields_to}
 use Rattle.notes.proofs.weighed.Found.{met_none, met_twice, empty_weight, new_weight, far_weight}
@@ -38,29 +39,29 @@ module _ (names count : ℕ) (lengths starts texts chains : List ℕ) (n : Noted
   met = meets starts texts 1 (is_field names lengths texts) value
 
   module _ (word : ℕ) (seen : List Text) where
-    pub value_empty : size_at starts value ≡ 0 → WeighsOne fields word seen text (Takes 1)
+    pub value_empty : size_at starts value ≡ 0 → WeighsOne fields word seen text (Some 1)
     unfolding WeighsOne
     value_empty z = empty_weight fields word seen text (text_size ∙ z)
 
     module _ (found : ℕ) (last : found ≡ last_with met (count * names)) where
       pub value_new : found ≡ 0 → is_in same_text text seen ≡ false → (bytes : ℕ) → bytes ≡ length (varint_of (size_at starts value)) + size_at starts value
-          → WeighsOne fields word seen text (Takes bytes)
+          → WeighsOne fields word seen text (Some bytes)
       unfolding WeighsOne
       value_new none own bytes e = let w = new_weight fields word seen text (met_none names lengths starts texts n.begin count value found last none) own in
           (w.0, e ∙ (ap (λ (m : ℕ). length (varint_of m) + m) (sym text_size) ∙ w.1))
 
-      pub value_far : (size_at starts value ≡ 0 → ⊥) → (found ≡ 0 → ⊥) → (before : ℕ) → before ≡ last_with met (found - 1) → (before ≡ 0 → ⊥) → WeighsOne fields word seen text (Takes word)
+      pub value_far : (size_at starts value ≡ 0 → ⊥) → (item : ℕ) → found ≡ item + 1 → (before : ℕ) → before ≡ last_with met item → (before ≡ 0 → ⊥) → WeighsOne fields word seen text (Some word)
       unfolding WeighsOne
-      value_far some one before e two =
-          far_weight fields word seen text (met_twice names lengths starts texts n.begin count value found before last one e two) (λ z. some (sym text_size ∙ z))
+      value_far some item one before e two =
+          far_weight fields word seen text (met_twice names lengths starts texts n.begin count value item before (sym one ∙ last) e two) (λ z. some (sym text_size ∙ z))
 
 -- ---- the ways out
 module _ (word : ℕ) (starts texts chains : List ℕ) (first value : ℕ) where
-  pub not_sure : Weighs word starts texts chains first value Unsure
+  pub not_sure : Weighs word starts texts chains first value None
   unfolding WeighsOne AtMost
   not_sure = record { few = tt; so = λ names count lengths n at h. tt }
 
-  pub is_empty : size_at starts value ≡ 0 → Weighs word starts texts chains first value (Takes 1)
+  pub is_empty : size_at starts value ≡ 0 → Weighs word starts texts chains first value (Some 1)
   unfolding AtMost
   is_empty z = record {
     few = omega arith;
@@ -76,7 +77,7 @@ module _ (word : ℕ) (starts texts chains : List ℕ) (first value : ℕ) where
         last (is_field names lengths texts) (count * names) (noted_item names count lengths starts texts chains n first value at h) n.fields (omega (arith, at, from))
 
     pub is_new : found ≡ 0 → (again : Bool) → (Inside starts texts (value + 1) → again ≡ is_in same_text (text_at starts texts value) (item_at starts texts first (value - first))) → again ≡ false
-        → size_at starts value < 2 ^ 32 → (bytes : ℕ) → bytes ≡ length (varint_of (size_at starts value)) + size_at starts value → Weighs word starts texts chains first value (Takes bytes)
+        → size_at starts value < 2 ^ 32 → (bytes : ℕ) → bytes ≡ length (varint_of (size_at starts value)) + size_at starts value → Weighs word starts texts chains first value (Some bytes)
     unfolding AtMost
     is_new none again own not-again small bytes e = record {
       few = omega (arith, small, e, varint_few (size_at starts value));
@@ -85,15 +86,15 @@ module _ (word : ℕ) (starts texts chains : List ℕ) (first value : ℕ) where
           (sym (own (noted_inside names count lengths starts texts chains n first value at h)) ∙ not-again) bytes e;
     }
 
-    pub is_far : word ≤ 10 → (size_at starts value ≡ 0 → ⊥) → (found ≡ 0 → ⊥) → (before : ℕ) → ((entered : ℕ → Bool) (count : ℕ) → ItemsInside starts texts 1 value
-        → Chained (bucket_of starts texts 1) entered count chains → count ≤ value → found ≡ last_with (meets starts texts 1 entered value) count
-        → before ≡ last_with (meets starts texts 1 entered value) (found - 1)) → (before ≡ 0 → ⊥) → Weighs word starts texts chains first value (Takes word)
+    pub is_far : word ≤ 10 → (size_at starts value ≡ 0 → ⊥) → (item : ℕ) → found ≡ item + 1 → (before : ℕ) → ((entered : ℕ → Bool) (count : ℕ) → ItemsInside starts texts 1 value
+        → Chained (bucket_of starts texts 1) entered count chains → count ≤ value → item + 1 ≡ last_with (meets starts texts 1 entered value) count
+        → before ≡ last_with (meets starts texts 1 entered value) item) → (before ≡ 0 → ⊥) → Weighs word starts texts chains first value (Some word)
     unfolding AtMost
-    is_far short some one before earlier two = record {
+    is_far short some item one before earlier two = record {
       few = omega (arith, short);
       so = λ names count lengths n at h.
-          value_far names count lengths starts texts chains n first value at h word (item_at starts texts first (value - first)) found (last_met names count lengths n at h) some one before
+          value_far names count lengths starts texts chains n first value at h word (item_at starts texts first (value - first)) found (last_met names count lengths n at h) some item one before
           (earlier (is_field names lengths texts) (count * names) (noted_item names count lengths starts texts chains n first value at h) n.fields (omega (arith, at, from))
-          (last_met names count lengths n at h))
+          (sym one ∙ last_met names count lengths n at h))
           two;
     }

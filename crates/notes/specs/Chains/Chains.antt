@@ -1,5 +1,5 @@
 -- Items in chains: for each of 4,096 buckets the last item that was entered, and for each entered item the one before it in its bucket.
-use Rattle.std.specs.Prelude.{if◌then◌else◌, ◌+◌, ◌*◌, ◌≤◌, ◌<◌, ◌&&◌, ◌≡◌}
+use Rattle.std.specs.Prelude.{Option, Some, None, if◌then◌else◌, ◌+◌, ◌*◌, ◌≤◌, ◌<◌, ◌&&◌, ◌≡◌}
 use Rattle.numbers.specs.Prelude.{ℕ, zero, suc, eqb, length, get_or, Bool, true, false, List}
 use Rattle.builder.specs.Grouping.{Items.{Inside}, Keys.{alike}}
 
@@ -22,6 +22,11 @@ module _ (bucket : ℕ → ℕ) (entered : ℕ → Bool) where
     pub rest : (item : ℕ) → count ≤ item → get_or chain (4096 + item) 0 ≡ 0
 
 -- ---- what the functions say
+-- an item as a word of a chain: one more, 0 for none
+abbrev pub word_of : Option ℕ → ℕ
+word_of None = 0
+word_of (Some item) = item + 1
+
 -- an entered item that is the same as this one
 abbrev pub meets : List ℕ → List ℕ → ℕ → (ℕ → Bool) → ℕ → ℕ → Bool
 meets starts texts width entered item other = entered other && alike starts texts width item other

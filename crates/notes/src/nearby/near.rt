@@ -4,15 +4,16 @@ ghost use Rattle.std.specs.Prelude.{◌+◌, ◌*◌, ◌^◌, ◌≤◌, ◌<�
 ghost use Rattle.builder.specs.Entries.{bounds_at, entry_at, entry_bytes, highest_of, table_of};
 ghost use Rattle.notes.specs.inner.Nearby.Nearby.{entries_at, entry_with, south_at, Nears, places_of, size_behind, Reaching};
 ghost use Rattle.draft.specs.inner.Summed.Sums.{souths_of};
+ghost use Rattle.notes.specs.Chains.Chains.{word_of};
 
 use builder::boxes::Bounds;
 use builder::entry::{Places, put_entry};
 
-// A yard and one more, 0 for none.
+// The neighbours of a yard, if it has them.
 #[derive(Clone, Copy)]
 pub(crate) struct Near {
-    low: usize,
-    high: usize,
+    low: Option<usize>,
+    high: Option<usize>,
 }
 
 // A yard's lower latitude, counted from the south, so that 0 is above none and 2 ^ 32 above all.
@@ -27,25 +28,23 @@ fn south_at(boxes: &[i32], yard: usize) -> u64
 // The last yard in the table that is not above yard number `count`, and the first that is. Of yards with equal latitudes the later one stands last.
 fn neighbours(boxes: &[i32], count: usize) -> Near
     requires { (4 * count + 4 ≤ length boxes.now) × (count ≤ 4096) }
-    ensures { Nears boxes.now count result.low result.high }
+    ensures { Nears boxes.now count (word_of result.low) (word_of result.high) }
 {
     let south = south_at(boxes, count);
-    let mut low = 0;
+    let mut low = None;
     let mut below = 0;
-    let mut high = 0;
+    let mut high = None;
     let mut above = 0x1_0000_0000;
-    let mut yard = 0;
-    while yard < count {
+    for yard in 0..count {
         let here = south_at(boxes, yard);
-        yard += 1;
         if here <= south {
             if below <= here {
                 below = here;
-                low = yard;
+                low = Some(yard);
             }
         } else if here < above {
             above = here;
-            high = yard;
+            high = Some(yard);
         }
     }
     Near { low, high }
@@ -66,20 +65,19 @@ fn box_at(boxes: &[i32], yard: usize) -> Bounds
 }
 
 // Where the record and the border of a neighbour begin; 0 where there is none.
-fn places_of(begins: &[u32], borders: &[u32], near: usize) -> Places
-    requires { (near ≤ length begins.now) × (near ≤ length borders.now) }
-    ensures { result ≡ places_of begins.now borders.now near }
+fn places_of(begins: &[u32], borders: &[u32], near: Option<usize>) -> Places
+    requires { (word_of near ≤ length begins.now) × (word_of near ≤ length borders.now) }
+    ensures { result ≡ places_of begins.now borders.now (word_of near) }
 {
-    if near == 0 {
-        return Places {
+    match near {
+        Some(yard) => Places {
+            record: begins[yard],
+            border: borders[yard],
+        },
+        None => Places {
             record: 0,
             border: 0,
-        };
-    }
-    let yard = near - 1;
-    Places {
-        record: begins[yard],
-        border: borders[yard],
+        },
     }
 }
 
@@ -92,18 +90,20 @@ fn entry_size(bounds: Bounds, from: Places, to: Places) -> usize
 }
 
 // The bytes of a neighbour behind an entry with the places `from`.
-fn size_behind(boxes: &[i32], begins: &[u32], borders: &[u32], from: Places, near: usize) -> usize
-    requires { (4 * near ≤ length boxes.now) × (near ≤ length begins.now) × (near ≤ length borders.now) × (near ≤ 4096) }
-    ensures { result ≡ size_behind boxes.now begins.now borders.now from near }
+fn size_behind(
+    boxes: &[i32],
+    begins: &[u32],
+    borders: &[u32],
+    from: Places,
+    near: Option<usize>,
+) -> usize
+    requires { (4 * word_of near ≤ length boxes.now) × (word_of near ≤ length begins.now) × (word_of near ≤ length borders.now) × (word_of near ≤ 4096) }
+    ensures { result ≡ size_behind boxes.now begins.now borders.now from (word_of near) }
 {
-    if near == 0 {
+    let Some(yard) = near else {
         return 0;
-    }
-    entry_size(
-        box_at(boxes, near - 1),
-        from,
-        places_of(begins, borders, near),
-    )
+    };
+    entry_size(box_at(boxes, yard), from, places_of(begins, borders, near))
 }
 
 // The bytes of the table with yard number `count`, whose record begins at `begin`: the new entry, and what it changes of the one behind it.

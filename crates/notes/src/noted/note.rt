@@ -9,18 +9,17 @@ ghost use Rattle.notes.specs.inner.Noted.Noting.{EntersAll, NotesOne, NotesAll};
 
 use crate::chains::enter::enter;
 use crate::chains::find::find;
+use crate::chains::texts::Texts;
 use header::zero::zero_words;
 
 // The values of a yard are entered, field by field.
-fn enter_values(names: usize, yard: usize, starts: &[u32], texts: &[u8], chains: &mut [u32])
-    requires { (names ≤ 255) × (yard < 4096) × ((yard + 1) * names < length starts.now) × (4096 + (yard + 1) * names ≤ length chains.old) }
-    ensures { EntersAll names yard starts.now texts.now chains.old chains.new names }
+fn enter_values(names: usize, yard: usize, texts: Texts, chains: &mut [u32])
+    requires { (names ≤ 255) × (yard < 4096) × ((yard + 1) * names < length texts.starts.now) × (4096 + (yard + 1) * names ≤ length chains.old) }
+    ensures { EntersAll names yard texts.entry.starts.now texts.entry.bytes.now chains.old chains.new names }
 {
     let first = yard * names;
-    let mut field = 0;
-    while field < names {
-        enter(starts, texts, 1, chains, first + field);
-        field += 1;
+    for field in 0..names {
+        enter(texts, 1, chains, first + field);
     }
 }
 
@@ -36,12 +35,15 @@ pub fn note_yard(
     requires { (names ≤ 255) × (yard < 4096) × ((yard + 1) * names < length starts.now) × (4096 + (yard + 1) * names ≤ length chains.old) × (4096 + yard < length groups.old) }
     ensures { NotesOne names yard starts.now texts.now chains.old groups.old chains.new groups.new }
 {
-    let found = find(starts, texts, names, groups, yard);
-    if 0 < found {
+    let texts = Texts {
+        starts,
+        bytes: texts,
+    };
+    if find(texts, names, groups, yard).is_some() {
         return;
     }
-    enter(starts, texts, names, groups, yard);
-    enter_values(names, yard, starts, texts, chains);
+    enter(texts, names, groups, yard);
+    enter_values(names, yard, texts, chains);
 }
 
 // All yards, from nothing.
@@ -58,10 +60,8 @@ pub fn note_yards(
 {
     zero_words(chains);
     zero_words(groups);
-    let mut yard = 0;
-    while yard < count {
+    for yard in 0..count {
         note_yard(names, yard, starts, texts, chains, groups);
-        yard += 1;
     }
 }
 
@@ -71,10 +71,8 @@ pub fn gather(places: &[u32], begins: &mut [u32], count: usize)
     ensures { begins.new ≡ map (λ i. get_or places.now (2 * i) 0) (numbers_from 0 count) ++ zeros (length begins.old - count) }
 {
     zero_words(begins);
-    let mut i = 0;
-    while i < count {
+    for i in 0..count {
         begins[i] = places[2 * i];
-        i += 1;
     }
 }
 
@@ -84,10 +82,8 @@ pub fn mark_more(sizes: &[u32], begin: u32, marks: &mut [u32], at: usize)
     ensures { marks.new ≡ sets marks.old (at + 1) (drop 1 (starts_from begin sizes.now)) }
 {
     let mut end = begin;
-    let mut i = 0;
-    while i < sizes.len() {
-        end += sizes[i];
+    for (i, size) in sizes.iter().enumerate() {
+        end += *size;
         marks[at + 1 + i] = end;
-        i += 1;
     }
 }

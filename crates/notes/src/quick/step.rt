@@ -5,8 +5,9 @@ ghost use Rattle.notes.specs.inner.Nearby.Nearby.{Reaching};
 ghost use Rattle.notes.specs.inner.Noted.OneMore.{OneMore};
 ghost use Rattle.notes.specs.inner.Quick.Steps.{Stepping, Grown, Steps, Room};
 
+use crate::chains::texts::Texts;
 use crate::nearby::near::{greatest_with, table_more};
-use crate::quick::place::{Placing, place_record};
+use crate::quick::place::place_record;
 
 // Of the yards that are held: the bytes of the records, of the metadata and of the table, and the greatest lower latitude.
 #[derive(Clone, Copy)]
@@ -25,13 +26,6 @@ pub struct Stepped {
     pub table: usize,
     pub greatest: i32,
     pub begin: u32,
-}
-
-#[derive(Clone, Copy)]
-pub enum Sureness {
-    Sure(Stepped),
-    // It may change another record, or the length of a word.
-    Unsure,
 }
 
 // With a yard more whose record adds so many bytes and begins there.
@@ -58,7 +52,7 @@ fn grow(
     }
 }
 
-// The numbers may be forged too: they are compared before they are added.
+// None where the yard may change another record, or the length of a word. The numbers may be forged too: they are compared before they are added.
 pub fn step(
     names: usize,
     count: usize,
@@ -70,31 +64,36 @@ pub fn step(
     chains: &[u32],
     groups: &[u32],
     begins: &[u32],
-) -> Sureness
+) -> Option<Stepped>
     requires { Room names count (length boxes.now) (length borders.now) (length starts.now) (length chains.now) (length groups.now) (length begins.now) }
     ensures { (yards : List Yard) (y : Yard) (drawn drawn' : Drawn) (lengths : List ℕ)
         → Stepping yards y drawn drawn' names count numbers boxes.now borders.now lengths starts.now texts.now chains.now groups.now begins.now
         → Steps yards y drawn' result }
 {
+    let texts = Texts {
+        starts,
+        bytes: texts,
+    };
     let records = numbers.records;
     let metadata = numbers.metadata;
     if 0x4000_0000 < metadata {
-        return Sureness::Unsure;
+        return None;
     }
     if 0x4000_0000 < numbers.table {
-        return Sureness::Unsure;
+        return None;
     }
     if metadata < records {
-        return Sureness::Unsure;
+        return None;
     }
     let remote = metadata - records;
-    match place_record(
-        names, count, records, remote, starts, texts, chains, groups, begins,
-    ) {
-        Placing::At { by, begin } => {
-            let stepped = grow(count, numbers, by, begin, boxes, borders, begins);
-            Sureness::Sure(stepped)
-        }
-        Placing::Unsure => Sureness::Unsure,
-    }
+    let placed = place_record(names, count, records, remote, texts, chains, groups, begins)?;
+    Some(grow(
+        count,
+        numbers,
+        placed.by,
+        placed.begin,
+        boxes,
+        borders,
+        begins,
+    ))
 }

@@ -1,14 +1,13 @@
 -- What the functions that add a yard say of each other.
 use Rattle.std.specs.Prelude.{if◌then◌else◌, ◌+◌, ◌^◌, ◌≤◌, ◌<◌, ◌∷◌, ◌++◌, ◌≡◌}
-use Rattle.numbers.specs.{Prelude.{ℕ, leb, ℤ, length, List, []}, Reply.{plain}}
+use Rattle.numbers.specs.{Prelude.{ℕ, leb, ℤ, length, List, []}, Reply.{Reply, given, refused, plain}}
 use Rattle.builder.specs.{Borders.{Drawn}, File.{up_to}, Yards.{Yard}}
-use Rattle.draft.specs.{Held.{State.{Stands, held_with}, Totals.{Totals, totals_for, file_size}}, declared.{held.state.{Changed.{Changed}, Held.{Held}}, summed.sums.Sums.{Sums}}}
+use Rattle.draft.specs.{Held.{State.{Stands, held_with}, Totals.{Totals, totals_for, file_size}}, declared.{held.state.Held.{Held}, summed.sums.Sums.{Sums}}}
 use Rattle.add.specs.{Growing.{Joins.{Renoted}, Notes.{Notes}}, declared.growing.grow.Added.{Added}}
-use Rattle.draft.specs.declared.held.state.Changed.TheVariants as C
 
 -- the numbers with these totals; 28 where the file does not fit
-unfoldable pub measured_as : Held → ℕ → Totals → Changed
-measured_as held strings t = if leb (file_size held.head t) (up_to held.room) then C.Into (held_with held strings t) else C.Refused (plain 28)
+unfoldable pub measured_as : Held → ℕ → Totals → Reply Held
+measured_as held strings t = if leb (file_size held.head t) (up_to held.room) then given (held_with held strings t) else refused (plain 28)
 
 -- so many bytes more of data are not too many
 pub record Grows (held : Held) (size : ℕ) : Type 0 where

@@ -1,14 +1,10 @@
 -- What the functions say that join a yard by a sure step.
-use Rattle.std.specs.Prelude.{◌+◌, ◌-◌, ◌*◌, ◌^◌, ◌≤◌, ◌<◌, ◌∷◌, ◌++◌, ◌≡◌}
-use Rattle.numbers.specs.{Lists.{zeros}, Prelude.{ℕ, ℤ, length, take, List, [], map}}
+use Rattle.std.specs.Prelude.{Option, Some, None, ◌+◌, ◌-◌, ◌*◌, ◌^◌, ◌≤◌, ◌<◌, ◌∷◌, ◌++◌, ◌≡◌}
+use Rattle.numbers.specs.{Lists.{zeros}, Prelude.{ℕ, ℤ, length, take, List, [], map}, Reply.{Reply, given, refused}}
 use Rattle.builder.specs.{Borders.{Drawn}, Yards.{Yard, sum_of}}
-use Rattle.add.specs.{Growing.Notes.{Notes, Noted, NotedBy, NotesRoom}, declared.surely.sure.{Growth.{Growth}, Surely.{Surely}}, inner.Growing.Joins.{Growing, measured_as}}
+use Rattle.add.specs.{Growing.Notes.{Notes, Noted, NotedBy, NotesRoom}, declared.surely.sure.Next.{Next}, inner.Growing.Joins.{Growing, measured_as}}
 use Rattle.draft.specs.{Held.Totals.{Totals, totals_for}, declared.held.state.Held.{Held}}
-use Rattle.notes.specs.{declared.quick.step.{Numbers.{Numbers}, Stepped.{Stepped}, Sureness.{Sureness}}, inner.Quick.Steps.{Stepping, Steps}}
-use Rattle.draft.specs.declared.held.state.Changed.TheVariants as C
-use Rattle.notes.specs.declared.quick.step.Sureness.TheVariants as Q
-use Rattle.add.specs.declared.surely.sure.Growth.TheVariants as G
-use Rattle.add.specs.declared.surely.sure.Surely.TheVariants as S
+use Rattle.notes.specs.{declared.quick.step.{Numbers.{Numbers}, Stepped.{Stepped}}, inner.Quick.Steps.{Stepping, Steps}}
 
 -- a list that is zero from a place on
 abbrev pub ended_at : ℕ → List ℕ → List ℕ
@@ -36,7 +32,7 @@ abbrev pub numbers_of : Held → ℕ → Numbers
 numbers_of held noted = record { records = noted - 1; metadata = held.metadata; table = held.table; greatest = held.greatest }
 
 -- the step of a yard whose values are marked
-abbrev pub Weighing : Held → ℕ → List ℤ → List ℕ → List ℕ → List ℕ → List ℕ → List ℕ → List ℕ → Sureness → Type 0
+abbrev pub Weighing : Held → ℕ → List ℤ → List ℕ → List ℕ → List ℕ → List ℕ → List ℕ → List ℕ → Option Stepped → Type 0
 Weighing held noted boxes borders texts marks chains groups begins r =
     (yards : List Yard) (y : Yard) (drawn drawn' : Drawn) (lengths : List ℕ)
     → Stepping yards y drawn drawn' held.names held.yards (numbers_of held noted) boxes borders lengths (take ((held.yards + 1) * held.names + 1) marks) texts chains groups begins
@@ -47,20 +43,20 @@ abbrev pub totals_by : Held → ℕ → Stepped → Totals
 totals_by held size s = record { table = s.table; metadata = s.metadata; bytes = held.bytes + size; yards = held.yards + 1; greatest = s.greatest }
 
 -- what a sure step makes of a builder's numbers, or the refusal
-unfoldable pub Growths : Held → ℕ → ℕ → Sureness → Growth → Type 0
-Growths held strings size weighed (G.Into next) =
-    (s : Stepped) × ((weighed ≡ Q.Sure s) × ((C.Into next.held ≡ measured_as held strings (totals_by held size s)) × ((next.noted ≡ 1 + s.records) × (next.begin ≡ s.begin))))
-Growths held strings size weighed (G.Refused why) = (s : Stepped) × ((weighed ≡ Q.Sure s) × (C.Refused why ≡ measured_as held strings (totals_by held size s)))
-Growths held strings size weighed G.Unsure = Unit {0}
+unfoldable pub Growths : Held → ℕ → ℕ → Option Stepped → Reply (Option Next) → Type 0
+Growths held strings size weighed (given (Some next)) =
+    (s : Stepped) × ((weighed ≡ Some s) × ((given next.held ≡ measured_as held strings (totals_by held size s)) × ((next.noted ≡ 1 + s.records) × (next.begin ≡ s.begin))))
+Growths held strings size weighed (refused why) = (s : Stepped) × ((weighed ≡ Some s) × (refused why ≡ measured_as held strings (totals_by held size s)))
+Growths held strings size weighed (given None) = Unit {0}
 
 -- the builder with the yard and its notes, or the refusal; where it was refused or is not sure, the notes are as they were
-unfoldable pub SurelyAs : Held → ℕ → List Yard → Drawn → Notes → Notes → Surely → Type 0
-SurelyAs held strings yards drawn before after (S.Into next noted) = (C.Into next ≡ measured_as held strings (totals_for yards drawn)) × Noted held.names yards noted after
-SurelyAs held strings yards drawn before after (S.Refused why) = (C.Refused why ≡ measured_as held strings (totals_for yards drawn)) × (after ≡ before)
-SurelyAs held strings yards drawn before after S.Unsure = after ≡ before
+unfoldable pub SurelyAs : Held → ℕ → List Yard → Drawn → Notes → Notes → Reply (Option Next) → Type 0
+SurelyAs held strings yards drawn before after (given (Some next)) = (given next.held ≡ measured_as held strings (totals_for yards drawn)) × Noted held.names yards next.noted after
+SurelyAs held strings yards drawn before after (refused why) = (refused why ≡ measured_as held strings (totals_for yards drawn)) × (after ≡ before)
+SurelyAs held strings yards drawn before after (given None) = after ≡ before
 
 -- for yards that lie in the lists, with one more, and notes that are right
-abbrev pub Joins : Held → ℕ → ℕ → ℕ → List ℕ → List ℤ → List ℕ → List ℕ → Notes → Notes → Surely → Type 0
+abbrev pub Joins : Held → ℕ → ℕ → ℕ → List ℕ → List ℤ → List ℕ → List ℕ → Notes → Notes → Reply (Option Next) → Type 0
 Joins held noted strings size sizes boxes borders texts before after r =
     (yards : List Yard) (y : Yard) (drawn drawn' : Drawn) (lengths : List ℕ) → Growing yards y drawn drawn' held size boxes borders lengths texts → sizes ≡ map length y.values
     → held.strings - held.front + sum_of sizes ≡ length texts → NotedBy held.names yards noted before → SurelyAs held strings (yards ++ (y ∷ [])) drawn' before after r

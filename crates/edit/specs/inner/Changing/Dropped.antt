@@ -1,9 +1,8 @@
 -- What the functions that drop a yard say of each other.
 use Rattle.std.specs.Prelude.{◌+◌, ◌-◌, ◌*◌, ◌≤◌, ◌<◌, ◌≡◌}
-use Rattle.numbers.specs.{Prelude.{ℕ, ℤ, length, get_or, true, false, List}, Reply.{plain, refused}}
-use Rattle.draft.specs.{Held.{Builder.{Builder, drop_last}, Space.{long_enough, standing}, State.{Holds, Lists, held_with}}, declared.held.{room.Rooms.{Rooms}, state.{Changed.{Changed}, Held.{Held}}}}
+use Rattle.numbers.specs.{Prelude.{ℕ, ℤ, length, get_or, true, false, List}, Reply.{Reply, given, plain, refused}}
+use Rattle.draft.specs.{Held.{Builder.{Builder, drop_last}, Space.{long_enough, standing}, State.{Holds, Lists, held_with}}, declared.held.{room.Rooms.{Rooms}, state.Held.{Held}}}
 use Rattle.edit.specs.{Changing.Dropped.{last_size, left_space}, declared.changing.cut.Ends.{Ends}}
-use Rattle.draft.specs.declared.held.state.Changed.TheVariants as C
 
 -- the numbers with a yard less, and the sums as they were
 unfoldable pub short_of : Held → ℕ → ℕ → Held
@@ -36,9 +35,9 @@ pub record Shortened (builder : Held) (rooms : Rooms) (borders lengths : List �
   pub room : long_enough rooms builder.names (builder.yards - 1) builder.front (builder.strings - last_size builder lengths) ≡ true
   pub is : held ≡ short_of builder (builder.strings - last_size builder lengths) (get_or borders (builder.yards - 1) 0)
 
-unfoldable pub Shortens : Held → Rooms → List ℕ → List ℕ → Changed → Type 0
-Shortens builder rooms borders lengths (C.Into held) = Shortened builder rooms borders lengths held
-Shortens builder rooms borders lengths (C.Refused why) =
+unfoldable pub Shortens : Held → Rooms → List ℕ → List ℕ → Reply Held → Type 0
+Shortens builder rooms borders lengths (given held) = Shortened builder rooms borders lengths held
+Shortens builder rooms borders lengths (refused why) =
     (standing builder rooms ≡ false → why ≡ plain 29)
     × ((b : Builder) (before : Lists) → before.borders ≡ borders → before.lengths ≡ lengths → Lent rooms before → Holds b builder before
     → drop_last b (left_space builder rooms lengths) ≡ refused why)

@@ -1,10 +1,9 @@
 -- Where a value lies in a builder's lists, and whether a text may stand there.
 use Rattle.std.specs.Prelude.{◌+◌, ◌-◌, ◌*◌, ◌^◌, ◌&&◌}
-use Rattle.numbers.specs.{Prelude.{ℕ, ltb, leb, length, take, get_or, Bool, List}, Reply.{Reply, given, refused, plain, demand, ◌>>◌}}
+use Rattle.numbers.specs.{Prelude.{ℕ, ltb, leb, length, take, get_or, Bool, List}, Reply.{Reply, given, plain, demand, ◌>>◌}}
 use Rattle.builder.specs.{File.{is_text}, Yards.{Text, sum_of}}
 use Rattle.draft.specs.{Held.Space.{long_enough, standing}, declared.held.{room.Rooms.{Rooms}, state.Held.{Held}}}
-use Rattle.edit.specs.declared.replacing.check.{Checked.{Checked}, Spot.{Spot}}
-use Rattle.edit.specs.declared.replacing.check.Checked.TheVariants as C
+use Rattle.edit.specs.declared.replacing.check.Spot.{Spot}
 
 -- behind the names and the notice, yard by yard
 abbrev pub text_at : ℕ → ℕ → ℕ → ℕ
@@ -29,7 +28,3 @@ checked_of held rooms out yard field text lengths = do
   demand (within held (spot_in (text_at held.names yard field) lengths)) (plain 28)
   demand (leb held.strings out && long_enough rooms held.names held.yards held.front (size_with held (spot_in (text_at held.names yard field) lengths) (length text))) (plain 28)
   given (spot_in (text_at held.names yard field) lengths)
-
-abbrev pub told : Checked → Reply Spot
-told (C.At spot) = given spot
-told (C.Refused why) = refused why

@@ -1,11 +1,10 @@
 -- Where the record of a yard more begins, and what it adds, by the notes of the yards before it.
-use Rattle.std.specs.Prelude.{◌*◌, ◌≤◌, ◌≡◌}
+use Rattle.std.specs.Prelude.{Option, Some, None, ◌*◌, ◌≤◌, ◌≡◌}
 use Rattle.numbers.specs.Prelude.{ℕ, length, take, List, map, flat_map}
 use Rattle.builder.specs.{Grouping.Items.{item_at}, Metadata.{inlined, layout_of, remotes}, Yards.{Yard}}
 use Rattle.notes.specs.{Chains.{Chains.{Chained}, Entered.{bucket_of, is_first}}, Noted.Records.{fields_in, begin_in}, declared.quick.place.Placing.{Placing}, inner.Noted.OneMore.{OneMore}}
 use Rattle.notes.specs.inner.Weighed.Weighing.{Noted}
 use Rattle.build.specs.Metadata.Kept.{values_to}
-use Rattle.notes.specs.declared.quick.place.Placing.TheVariants as P
 
 -- some yards and one more by their values, the notes of the fields, and the lengths of the records and of the texts behind them without that one
 pub record Behind (yards : List Yard) (y : Yard) (names count records remote : ℕ) (lengths starts texts chains : List ℕ) : Type 0 where
@@ -22,11 +21,11 @@ pub record Beside (yards : List Yard) (y : Yard) (names count records remote : �
   pub begins_are : take count begins ≡ map (begin_in yards) yards
 
 -- no other record changes, and this one begins there; of an unsure one nothing is said
-unfoldable pub Places : List Yard → Yard → Placing → Type 0
-Places yards y (P.At by begin) = OneMore yards y by begin
-Places yards y P.Unsure = Unit {0}
+unfoldable pub Places : List Yard → Yard → Option Placing → Type 0
+Places yards y (Some p) = OneMore yards y p.by p.begin
+Places yards y None = Unit {0}
 
 -- no more than this, whatever the lists hold
-unfoldable pub AddsAtMost : ℕ → Placing → Type 0
-AddsAtMost most (P.At by begin) = by ≤ most
-AddsAtMost most P.Unsure = Unit {0}
+unfoldable pub AddsAtMost : ℕ → Option Placing → Type 0
+AddsAtMost most (Some p) = p.by ≤ most
+AddsAtMost most None = Unit {0}

@@ -1,10 +1,9 @@
 -- What a yard more makes of the totals of those that are held, where its step is sure: no other record changes.
-use Rattle.std.specs.Prelude.{◌+◌, ◌*◌, ◌≤◌, ◌<◌, ◌∷◌, ◌++◌, ◌≡◌}
+use Rattle.std.specs.Prelude.{Option, Some, None, ◌+◌, ◌*◌, ◌≤◌, ◌<◌, ◌∷◌, ◌++◌, ◌≡◌}
 use Rattle.numbers.specs.Prelude.{ℕ, ℤ, length, take, List, [], map}
 use Rattle.builder.specs.{Borders.{Drawn}, Grouping.Items.{starts_from}, Metadata.{layout_of}, Yards.{Yard}}
-use Rattle.notes.specs.{Chains.Entered.{Indexed}, Noted.Records.{fields_in, begin_in}, declared.quick.step.{Numbers.{Numbers}, Stepped.{Stepped}, Sureness.{Sureness}}}
+use Rattle.notes.specs.{Chains.Entered.{Indexed}, Noted.Records.{fields_in, begin_in}, declared.quick.step.{Numbers.{Numbers}, Stepped.{Stepped}}}
 use Rattle.draft.specs.Held.{State.{Stands}, Totals.{totals_for}}
-use Rattle.notes.specs.declared.quick.step.Sureness.TheVariants as S
 
 -- some yards and one more, as they lie in a builder's lists; the totals of the yards without that one, and what is noted of them
 pub record Stepping (yards : List Yard) (y : Yard) (drawn drawn' : Drawn) (names count : ℕ) (numbers : Numbers) (boxes : List ℤ)
@@ -31,9 +30,9 @@ pub record Grown (yards : List Yard) (y : Yard) (drawn' : Drawn) (s : Stepped) :
   pub begins : map (begin_in (yards ++ (y ∷ []))) (yards ++ (y ∷ [])) ≡ map (begin_in yards) yards ++ (s.begin ∷ [])
 
 -- a sure step grows the totals so; of an unsure one nothing is said
-unfoldable pub Steps : List Yard → Yard → Drawn → Sureness → Type 0
-Steps yards y drawn' (S.Sure s) = Grown yards y drawn' s
-Steps yards y drawn' S.Unsure = Unit {0}
+unfoldable pub Steps : List Yard → Yard → Drawn → Option Stepped → Type 0
+Steps yards y drawn' (Some s) = Grown yards y drawn' s
+Steps yards y drawn' None = Unit {0}
 
 -- so many names and yards, and lists that are long enough for one yard more
 pub record Room (names count boxes borders starts chains groups begins : ℕ) : Type 0 where

@@ -1,8 +1,8 @@
 -- What the functions that weigh a new record say.
-use Rattle.std.specs.Prelude.{◌+◌, ◌-◌, ◌*◌, ◌^◌, ◌≤◌, ◌<◌, ◌∷◌, ◌≡◌}
+use Rattle.std.specs.Prelude.{Option, Some, None, ◌+◌, ◌-◌, ◌*◌, ◌^◌, ◌≤◌, ◌<◌, ◌∷◌, ◌≡◌}
 use Rattle.numbers.specs.Prelude.{ℕ, length, List, []}
 use Rattle.builder.specs.{Grouping.Items.{starts_from, text_at, item_at}, Yards.{Text, sum_of}}
-use Rattle.notes.specs.{Chains.{Chains.{Chained}, Entered.{bucket_of, is_field}}, declared.weighed.weigh.Weight.{Weight, TheVariants.{Takes, Unsure}}}
+use Rattle.notes.specs.Chains.{Chains.{Chained}, Entered.{bucket_of, is_field}}
 use Rattle.notes.specs.inner.Weighed.Weights.{Weight as Known, weight_of}
 use Rattle.draft.proofs.held.Sure.{Sure}
 use Rattle.layout.proofs.Everyone.{Every}
@@ -21,22 +21,22 @@ weights_of fields word [] = 0
 weights_of fields word (t ∷ ts) = weight_of fields word t + weights_of fields word ts
 
 -- what is said of a value behind others of its record
-unfoldable pub WeighsOne : List Text → ℕ → List Text → Text → Weight → Type 0
-WeighsOne fields word seen t (Takes bytes) = Known fields fields seen t × (bytes ≡ weight_of fields word t)
-WeighsOne fields word seen t Unsure = Unit {0}
+unfoldable pub WeighsOne : List Text → ℕ → List Text → Text → Option ℕ → Type 0
+WeighsOne fields word seen t (Some bytes) = Known fields fields seen t × (bytes ≡ weight_of fields word t)
+WeighsOne fields word seen t None = Unit {0}
 
 -- no more than this, whatever the lists hold
-unfoldable pub AtMost : ℕ → Weight → Type 0
-AtMost most (Takes bytes) = bytes ≤ most
-AtMost most Unsure = Unit {0}
+unfoldable pub AtMost : ℕ → Option ℕ → Type 0
+AtMost most (Some bytes) = bytes ≤ most
+AtMost most None = Unit {0}
 
 -- what is said of a value, whatever the lists hold, and where the notes are right
-pub record Weighs (word : ℕ) (starts texts chains : List ℕ) (first value : ℕ) (r : Weight) : Type 0 where
+pub record Weighs (word : ℕ) (starts texts chains : List ℕ) (first value : ℕ) (r : Option ℕ) : Type 0 where
   pub few : AtMost (2 ^ 33) r
   pub so : (names count : ℕ) (lengths : List ℕ) → Noted names count lengths starts texts chains → first ≡ count * names → value < first + names
       → WeighsOne (fields_to names lengths texts count) word (item_at starts texts first (value - first)) (text_at starts texts value) r
 
 -- what is said of a record: its step is sure, and it takes so many bytes
-unfoldable pub WeighsAs : List Text → ℕ → List Text → Weight → Type 0
-WeighsAs fields word own (Takes bytes) = Every (Sure fields own) own × (bytes ≡ weights_of fields word own)
-WeighsAs fields word own Unsure = Unit {0}
+unfoldable pub WeighsAs : List Text → ℕ → List Text → Option ℕ → Type 0
+WeighsAs fields word own (Some bytes) = Every (Sure fields own) own × (bytes ≡ weights_of fields word own)
+WeighsAs fields word own None = Unit {0}

@@ -7,4 +7,4 @@ use Rattle.office.proofs.yards.uskelzar_build.Goals as goal
 pub returns : goal.returns
 unfolding Builds room_of
 returns c =
-    (beside _ c.speak.ensures c.say_built.ensures ∙ ap built_spoken c.build-built.ensures.0, c.build-built.ensures.1)
+    (beside _ c.speak.ensures c.say_length.ensures ∙ ap built_spoken c.build-built.ensures.0, c.build-built.ensures.1)

@@ -1,11 +1,11 @@
 -- `add::afresh::join::join_afresh` meets its contract.
-use Rattle.numbers.proofs.Prelude.{rules, arith}
+use Rattle.numbers.proofs.Prelude.{sym, ◌∙◌, arith}
 use Rattle.add.proofs.afresh.{Joining.{measured_notable, grew_not, grew_into}}
 use Rattle.add.proofs.afresh.join.join_afresh.Goals as goal
 
-pub returns-in-Refused : goal.returns-in-Refused
-returns-in-Refused c =
-    grew_not c.args.builder c.args.strings c.args.size _ _ _ _ _ c.measure-measured.result c.measure-measured.ensures ((search rules)) _ _
+pub returns-then-is_err : goal.returns-then-is_err
+returns-then-is_err c =
+    grew_not c.args.builder c.args.strings c.args.size _ _ _ _ _ c.measure-measured.result c.measure-measured.ensures (sym c.is_err.ensures.value ∙ c.if-is_err.true) _ _
 
 pub overflow_add-builder : goal.overflow_add-builder
 overflow_add-builder c =
@@ -17,4 +17,4 @@ note_afresh-requires c =
 
 pub returns : goal.returns
 returns c =
-    grew_into c.args.builder c.args.strings c.args.size _ _ _ _ _ c.measure-measured.result c.measure-measured.ensures ((search rules)) _ _ _ c.note_afresh.ensures
+    grew_into c.args.builder c.args.strings c.args.size _ _ _ _ _ c.measure-measured.result c.measure-measured.ensures (sym c.is_err.ensures.value ∙ c.if-is_err.false) _ _ _ c.note_afresh.ensures

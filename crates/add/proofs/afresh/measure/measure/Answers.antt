@@ -1,11 +1,10 @@
 -- `add::afresh::measure::measure` meets its contract.
-use Rattle.numbers.proofs.Prelude.{rules}
 use Rattle.add.proofs.afresh.{Measured.{measures_sums, measures_broken}}
 use Rattle.add.proofs.afresh.measure.measure.Goals as goal
 
-pub returns-in-Broken : goal.returns-in-Broken
-returns-in-Broken c =
-    measures_broken c.args.builder c.args.strings c.args.size _ _ _ _ _ c.sum_up-summed.result c.sum_up-summed.ensures ((search rules)) _
+pub returns-in_default : goal.returns-in_default
+returns-in_default c =
+    measures_broken c.args.builder c.args.strings c.args.size _ _ _ _ _ c.sum_up-summed.result c.sum_up-summed.ensures c.in_default.is _
 
 pub grow-requires : goal.grow-requires
 grow-requires c =
@@ -13,4 +12,4 @@ grow-requires c =
 
 pub returns : goal.returns
 returns c =
-    measures_sums c.args.builder c.args.strings c.args.size _ _ _ _ _ c.sum_up-summed.result c.sum_up-summed.ensures _ c.in-Sums.is _ c.grow.ensures
+    measures_sums c.args.builder c.args.strings c.args.size _ _ _ _ _ c.sum_up-summed.result c.sum_up-summed.ensures _ c.in-Some.is _ c.grow.ensures

@@ -1,8 +1,8 @@
 -- `add::joining::settle::settle` meets its contract.
-use Rattle.numbers.proofs.Prelude.{rules, refl, arith}
+use Rattle.numbers.proofs.Prelude.{refl, arith}
 use Rattle.draft.proofs.summed.Resting.{idle_as}
 use Rattle.add.specs.Joining.Joins.{idle, untouched}
-use Rattle.add.proofs.joining.{Settling.{values_few, joinable, measurable, notes_as, settled_into, settled_not, settled_afresh, unsure_tag}}
+use Rattle.add.proofs.joining.{Settling.{values_few, joinable, measurable, notes_as, settled_into, settled_not, settled_afresh}}
 use Rattle.add.proofs.joining.settle.settle.Goals as goal
 
 pub overflow_mul-last : goal.overflow_mul-last
@@ -17,13 +17,13 @@ pub join_sure-sure-requires : goal.join_sure-sure-requires
 join_sure-sure-requires c =
     joinable _ _ _ _ _ c.args.lengths.now c.args.texts.now _ _ _ _ _ c.requires
 
-pub returns-in-Into : goal.returns-in-Into
-returns-in-Into c =
-    (settled_into _ _ _ _ _ _ _ _ _ _ _ _ c.requires _ _ _ _ _ _ c.join_sure-sure.ensures _ _ c.in-Into.is, untouched refl)
+pub returns-in-Ok-Some : goal.returns-in-Ok-Some
+returns-in-Ok-Some c =
+    (settled_into _ _ _ _ _ _ _ _ _ _ _ _ c.requires _ _ _ _ _ _ c.join_sure-sure.ensures c.in-Ok-Some.next (rw (c.in-Ok-Some.is, rw c.in-Ok-Some.is at c.in-Ok-Some.field-0-is) refl), untouched refl)
 
-pub returns-in-Refused : goal.returns-in-Refused
-returns-in-Refused c =
-    (settled_not _ _ _ _ _ _ _ _ _ _ _ _ c.requires _ _ _ _ _ _ c.join_sure-sure.ensures _ c.in-Refused.is, untouched refl)
+pub returns-in-Err : goal.returns-in-Err
+returns-in-Err c =
+    (settled_not _ _ _ _ _ _ _ _ _ _ _ _ c.requires _ _ _ _ _ _ c.join_sure-sure.ensures _ c.in-Err.is, untouched refl)
 
 pub slice_bounds-join_afresh-end : goal.slice_bounds-join_afresh-end
 slice_bounds-join_afresh-end c =
@@ -47,7 +47,7 @@ join_afresh-added-requires c =
 
 pub returns : goal.returns
 returns c = (
-  settled_afresh _ _ _ _ _ _ _ _ _ _ _ _ c.requires _ _ _ _ _ _ c.join_sure-sure.ensures (unsure_tag _ ((search rules))) _ _ c.join_afresh-added.ensures,
+  settled_afresh _ _ _ _ _ _ _ _ _ _ _ _ c.requires _ _ _ _ _ _ c.join_sure-sure.ensures (rw (c.in-Ok-None.is, rw c.in-Ok-None.is at c.in-Ok-None.field-0-is) refl) _ _ c.join_afresh-added.ensures,
   idle
       (idle_as _ _ _ c.starts-1.given c.keys-1.given c.spare-1.given c.kept-1.given c.held-1.given c.words-1.given c.places-1.given c.rest_work.ensures),
 )

@@ -24,10 +24,10 @@ put_words-requires c =
 pub returns : goal.returns
 returns c =
     record {
-      boxes_are = corners_put _ c.args.lats.now c.args.lons.now c.box_of-bounds.ensures c.args.boxes.now _ (4 * c.args.builder.yards) c.put_corners.ensures;
+      boxes_are = corners_put _ c.args.yard.lats.now c.args.yard.lons.now c.box_of-bounds.ensures c.args.boxes.now _ (4 * c.args.builder.yards) c.put_corners.ensures;
       borders_are = refl;
       lengths_are = c.put_words.ensures.stored;
-      texts_are = put_back c.args.texts.now _ c.args.values.now c.args.builder.strings
+      texts_are = put_back c.args.texts.now _ c.args.yard.values.now c.args.builder.strings
           c.requires.texts_room c.put_bytes.ensures.stored;
       bytes_are = c.put_bytes-2.ensures.stored;
     }

@@ -1,5 +1,5 @@
 -- `add::surely::sure::join_sure` meets its contract.
-use Rattle.numbers.proofs.Prelude.{arith}
+use Rattle.numbers.proofs.Prelude.{refl, arith}
 use Rattle.notes.proofs.noted.Noting.{yard_next}
 use Rattle.add.proofs.surely.{Joined.{joins_none, joins_unsure, joins_refused, joins_into, sure_marked}}
 use Rattle.add.proofs.surely.sure.join_sure.Goals as goal
@@ -27,17 +27,17 @@ unmark_yard-requires c = (
   ),
 )
 
-pub returns-in-Refused : goal.returns-in-Refused
-returns-in-Refused c =
+pub returns-in-Err : goal.returns-in-Err
+returns-in-Err c =
     joins_refused c.args.builder c.args.noted c.args.strings c.args.size c.args.sizes.now c.args.boxes.now c.args.borders.now c.args.texts.now c.args.marks.now
     c.args.chains.now c.args.groups.now c.args.begins.now _ _ _ c.requires c.if-noted-eq0.false c.mark_yard.ensures c.weigh_yard-weighed.ensures
-    c.grow_surely-growth.ensures _ c.unmark_yard.ensures _ c.in-Refused.is
+    c.grow_surely-growth.ensures _ c.unmark_yard-in-Err.ensures _ c.in-Err.is
 
-pub returns-in-Unsure : goal.returns-in-Unsure
-returns-in-Unsure c =
+pub returns-in-Ok-None : goal.returns-in-Ok-None
+returns-in-Ok-None c =
     joins_unsure c.args.builder c.args.noted c.args.strings c.args.size c.args.sizes.now c.args.boxes.now c.args.borders.now c.args.texts.now c.args.marks.now
     c.args.chains.now c.args.groups.now c.args.begins.now _ _ _ c.requires c.if-noted-eq0.false c.mark_yard.ensures c.weigh_yard-weighed.ensures
-    c.grow_surely-growth.ensures _ c.unmark_yard-in-Unsure.ensures
+    c.grow_surely-growth.ensures _ c.unmark_yard.ensures
 
 pub note_step-requires : goal.note_step-requires
 note_step-requires c =
@@ -47,4 +47,4 @@ pub returns : goal.returns
 returns c =
     joins_into c.args.builder c.args.noted c.args.strings c.args.size c.args.sizes.now c.args.boxes.now c.args.borders.now c.args.texts.now c.args.marks.now
     c.args.chains.now c.args.groups.now c.args.begins.now _ _ _ c.requires c.if-noted-eq0.false c.mark_yard.ensures c.weigh_yard-weighed.ensures
-    c.grow_surely-growth.ensures _ c.in-Into.is _ _ _ c.note_step.ensures.0 c.note_step.ensures.1
+    c.grow_surely-growth.ensures c.in-Ok-Some.next (rw (c.in-Ok-Some.is, rw c.in-Ok-Some.is at c.in-Ok-Some.field-0-is) refl) _ _ _ c.note_step.ensures.0 c.note_step.ensures.1

@@ -1,10 +1,11 @@
 -- `edit::changing::clear::clear` meets its contract.
+use Rattle.numbers.{proofs.Prelude.{ap}, specs.Reply.{refused}}
 use Rattle.edit.proofs.changing.{Emptying.{clear_done, clear_inside, clear_refused}}
 use Rattle.edit.proofs.changing.clear.clear.Goals as goal
 
 pub returns-then-not-stands : goal.returns-then-not-stands
 returns-then-not-stands c =
-    clear_refused _ _ _ c.stands.ensures c.if-not-stands.true _ c.refused.ensures
+    clear_refused _ _ _ c.stands.ensures c.if-not-stands.true _ (ap refused c.alone.ensures)
 
 pub cut_lists-requires : goal.cut_lists-requires
 cut_lists-requires c =

@@ -3,26 +3,26 @@ use Rattle.numbers.proofs.Prelude.{arith}
 use Rattle.edit.proofs.changing.{Sums.{bounded_starts, bounded_over, bounded_goes, bounded_ends}}
 use Rattle.edit.proofs.changing.sum.sum_within.Goals as goal
 
-pub loop-i-init : goal.loop-i-init
-loop-i-init c =
+pub loop-length-init : goal.loop-length-init
+loop-length-init c =
     bounded_starts _ _
 
 pub overflow_cast-length : goal.overflow_cast-length
 overflow_cast-length c =
-    omega (arith, c.type_inv.lengths c.loop-i.i)
+    omega (arith, c.type_inv.lengths c.loop-length.length-index)
 
 pub overflow_sub-most : goal.overflow_sub-most
 overflow_sub-most c =
-    c.loop-i.invariant.inside
+    c.loop-length.invariant.inside
 
 pub returns-then-most-sum : goal.returns-then-most-sum
 returns-then-most-sum c =
-    bounded_over _ _ _ _ c.loop-i.invariant c.loop-i-test.true c.if-most-sum.true
+    bounded_over _ _ _ _ c.loop-length.invariant c.loop-length-test.true c.if-most-sum.true
 
-pub loop-i-preserved : goal.loop-i-preserved
-loop-i-preserved c =
-    bounded_goes _ _ _ _ c.loop-i.invariant c.loop-i-test.true c.if-most-sum.false
+pub loop-length-preserved : goal.loop-length-preserved
+loop-length-preserved c =
+    bounded_goes _ _ _ _ c.loop-length.invariant c.loop-length-test.true c.if-most-sum.false
 
 pub returns : goal.returns
 returns c =
-    bounded_ends _ _ _ _ c.loop-i.invariant c.loop-i-test.false
+    bounded_ends _ _ _ _ c.loop-length.invariant c.loop-length-test.false

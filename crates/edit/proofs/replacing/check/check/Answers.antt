@@ -1,28 +1,28 @@
 -- `edit::replacing::check::check` meets its contract.
-use Rattle.numbers.{proofs.Prelude.{◌+◌, ◌-◌, length, sym, ap, ◌∙◌, arith}, specs.Reply.{given}}
+use Rattle.numbers.{proofs.Prelude.{◌+◌, ◌-◌, length, sym, ap, ◌∙◌, arith}, specs.Reply.{given, refused}}
 use Rattle.edit.proofs.replacing.Spots.{index_inside, index_few, spot_ordered, within_parts, fallen, no_yard, no_field, no_text, outside, no_aside, no_space, spotted}
-use Rattle.edit.specs.{declared.replacing.check.Spot.{Spot}, inner.Replacing.Spot.{within, told}}
+use Rattle.edit.specs.{declared.replacing.check.Spot.{Spot}, inner.Replacing.Spot.{within}}
 use Rattle.draft.{proofs.held.{Standing.{text_short}, Stood.{stood}}, specs.Held.Space.{long_enough}}
 use Rattle.edit.proofs.replacing.check.check.Goals as goal
 
 pub returns-then-not-stands : goal.returns-then-not-stands
 returns-then-not-stands c =
-    ap told c.refuse.ensures ∙ fallen c.args.builder c.args.rooms c.args.out c.args.yard c.args.field c.args.text.now c.args.lengths.now (sym c.stands.ensures
+    ap refused c.alone.ensures ∙ fallen c.args.builder c.args.rooms c.args.out c.args.yard c.args.field c.args.text.now c.args.lengths.now (sym c.stands.ensures
     ∙ c.if-not-stands.true)
 
 pub returns-then-builder-yard : goal.returns-then-builder-yard
 returns-then-builder-yard c =
-    ap told c.refuse-then-builder-yard.ensures ∙ no_yard c.args.builder c.args.rooms c.args.out c.args.yard c.args.field c.args.text.now c.args.lengths.now (sym
+    ap refused c.alone-then-builder-yard.ensures ∙ no_yard c.args.builder c.args.rooms c.args.out c.args.yard c.args.field c.args.text.now c.args.lengths.now (sym
     c.stands.ensures ∙ c.if-not-stands.false) c.if-builder-yard.true
 
 pub returns-then-builder-field : goal.returns-then-builder-field
 returns-then-builder-field c =
-    ap told c.refuse-then-builder-field.ensures ∙ no_field c.args.builder c.args.rooms c.args.out c.args.yard c.args.field c.args.text.now c.args.lengths.now (sym
+    ap refused c.alone-then-builder-field.ensures ∙ no_field c.args.builder c.args.rooms c.args.out c.args.yard c.args.field c.args.text.now c.args.lengths.now (sym
     c.stands.ensures ∙ c.if-not-stands.false) c.if-builder-yard.false c.if-builder-field.true
 
 pub returns-then-not-is_value : goal.returns-then-not-is_value
 returns-then-not-is_value c =
-    ap told c.refuse-then-not-is_value.ensures ∙ no_text c.args.builder c.args.rooms c.args.out c.args.yard c.args.field c.args.text.now c.args.lengths.now (sym
+    ap refused c.alone-then-not-is_value.ensures ∙ no_text c.args.builder c.args.rooms c.args.out c.args.yard c.args.field c.args.text.now c.args.lengths.now (sym
     c.stands.ensures ∙ c.if-not-stands.false) c.if-builder-yard.false c.if-builder-field.false (sym c.is_value.ensures ∙ c.if-not-is_value.true)
 
 pub overflow_mul-index : goal.overflow_mul-index
@@ -73,13 +73,13 @@ is_within-requires c =
 
 pub returns-then-not-is_within : goal.returns-then-not-is_within
 returns-then-not-is_within c =
-    ap told c.refuse-then-not-is_within.ensures ∙ outside c.args.builder c.args.rooms c.args.out c.args.yard c.args.field c.args.text.now c.args.lengths.now (sym
+    ap refused c.alone-then-not-is_within.ensures ∙ outside c.args.builder c.args.rooms c.args.out c.args.yard c.args.field c.args.text.now c.args.lengths.now (sym
     c.stands.ensures ∙ c.if-not-stands.false) c.if-builder-yard.false c.if-builder-field.false (sym c.is_value.ensures
     ∙ c.if-not-is_value.false) (ap (within c.args.builder) (sym c.spot_of-spot.ensures.0) ∙ (sym c.is_within.ensures ∙ c.if-not-is_within.true))
 
 pub returns-then-out-builder : goal.returns-then-out-builder
 returns-then-out-builder c =
-    ap told c.refuse-then-out-builder.ensures ∙ no_aside c.args.builder c.args.rooms c.args.out c.args.yard c.args.field c.args.text.now c.args.lengths.now (sym
+    ap refused c.alone-then-out-builder.ensures ∙ no_aside c.args.builder c.args.rooms c.args.out c.args.yard c.args.field c.args.text.now c.args.lengths.now (sym
     c.stands.ensures ∙ c.if-not-stands.false) c.if-builder-yard.false c.if-builder-field.false (sym c.is_value.ensures
     ∙ c.if-not-is_value.false) (ap (within c.args.builder) (sym c.spot_of-spot.ensures.0) ∙ (sym c.is_within.ensures ∙ c.if-not-is_within.false)) c.if-out-builder.true
 
@@ -125,7 +125,7 @@ has_space-requires c = (
 
 pub returns-then-not-has_space : goal.returns-then-not-has_space
 returns-then-not-has_space c =
-    ap told c.refuse-then-not-has_space.ensures ∙ no_space c.args.builder c.args.rooms c.args.out c.args.yard c.args.field c.args.text.now c.args.lengths.now (sym
+    ap refused c.alone-then-not-has_space.ensures ∙ no_space c.args.builder c.args.rooms c.args.out c.args.yard c.args.field c.args.text.now c.args.lengths.now (sym
     c.stands.ensures ∙ c.if-not-stands.false) c.if-builder-yard.false c.if-builder-field.false (sym c.is_value.ensures
     ∙ c.if-not-is_value.false) (ap (within c.args.builder) (sym c.spot_of-spot.ensures.0) ∙ (sym c.is_within.ensures
     ∙ c.if-not-is_within.false)) c.if-out-builder.false (ap (λ (s : Spot). long_enough c.args.rooms c.args.builder.names c.args.builder.yards c.args.builder.front

@@ -6,7 +6,7 @@ use Rattle.edit.proofs.replacing.resum.settle.Goals as goal
 
 pub returns-then-not-fits : goal.returns-then-not-fits
 returns-then-not-fits c =
-    settle_long c.args.builder c.args.strings c.args.sums (sym c.fits.ensures ∙ c.if-not-fits.true) _ c.plain.ensures
+    settle_long c.args.builder c.args.strings c.args.sums (sym c.fits.ensures ∙ c.if-not-fits.true) _ c.alone.ensures
 
 pub returns : goal.returns
 returns c =

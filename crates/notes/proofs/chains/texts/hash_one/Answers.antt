@@ -3,14 +3,6 @@ use Rattle.numbers.proofs.Prelude.{◌+◌, arith}
 use Rattle.builder.specs.Grouping.Items.{text_at}
 use Rattle.notes.proofs.chains.texts.hash_one.Goals as goal
 
-pub overflow_cast-begin : goal.overflow_cast-begin
-overflow_cast-begin c =
-    omega (arith, c.type_inv.starts c.args.text)
-
-pub overflow_cast-end : goal.overflow_cast-end
-overflow_cast-end c =
-    omega (arith, c.type_inv.starts (c.args.text + 1))
-
 pub returns-then-end-begin : goal.returns-then-end-begin
 returns-then-end-begin c inside =
     absurd (omega (arith, c.if-end-begin.true, inside.rise c.args.text (omega arith)))

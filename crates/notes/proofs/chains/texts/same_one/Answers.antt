@@ -3,22 +3,6 @@ use Rattle.numbers.proofs.Prelude.{◌+◌, arith}
 use Rattle.builder.specs.Grouping.Items.{text_at}
 use Rattle.notes.proofs.chains.texts.same_one.Goals as goal
 
-pub overflow_cast-begin : goal.overflow_cast-begin
-overflow_cast-begin c =
-    omega (arith, c.type_inv.starts c.args.a)
-
-pub overflow_cast-end : goal.overflow_cast-end
-overflow_cast-end c =
-    omega (arith, c.type_inv.starts (c.args.a + 1))
-
-pub overflow_cast-from : goal.overflow_cast-from
-overflow_cast-from c =
-    omega (arith, c.type_inv.starts c.args.b)
-
-pub overflow_cast-to : goal.overflow_cast-to
-overflow_cast-to c =
-    omega (arith, c.type_inv.starts (c.args.b + 1))
-
 pub returns-then-end-begin : goal.returns-then-end-begin
 returns-then-end-begin c one other =
     absurd (omega (arith, c.if-end-begin.true, one.rise c.args.a (omega arith)))

@@ -1,11 +1,13 @@
 -- `notes::nearby::near::places_of` meets its contract.
+use Rattle.numbers.proofs.Prelude.{ap}
+use Rattle.notes.specs.Chains.Chains.{word_of}
 use Rattle.notes.proofs.nearby.{Grown.{places_none, places_some}}
 use Rattle.notes.proofs.nearby.near.places_of.Goals as goal
 
-pub returns-then-near-eq0 : goal.returns-then-near-eq0
-returns-then-near-eq0 c =
-    places_none _ _ _ c.if-near-eq0.true
+pub returns-in-Some : goal.returns-in-Some
+returns-in-Some c =
+    places_some _ _ _ _ (ap word_of c.in-Some.is)
 
-pub returns : goal.returns
-returns c =
-    places_some _ _ _ c.if-near-eq0.false
+pub returns-in-None : goal.returns-in-None
+returns-in-None c =
+    places_none _ _ _ (ap word_of c.in-None.is)

@@ -15,15 +15,15 @@ pub returns-then-metadata-records : goal.returns-then-metadata-records
 returns-then-metadata-records c =
     λ yards y drawn drawn' lengths s. steps-unsure yards y drawn'
 
-pub grow-stepped-requires : goal.grow-stepped-requires
-grow-stepped-requires c =
-    let few = adds-few _ c.place_record.ensures.0 _ _ c.in-At.is in
+pub grow-requires : goal.grow-requires
+grow-requires c =
+    let few = adds-few _ c.place_record.ensures.0 _ c.in_ok-placed.was in
     (search rules, omega arith, omega arith, omega arith, few)
 
-pub returns-in-At : goal.returns-in-At
-returns-in-At c =
-    steps-sure _ _ _ _ _ _ _ _ _ _ _ c.place_record.ensures.1 _ _ c.in-At.is _ c.grow-stepped.ensures
+pub returns : goal.returns
+returns c =
+    steps-sure _ _ _ _ _ _ _ _ _ _ _ c.place_record.ensures.1 _ c.in_ok-placed.was _ c.grow.ensures
 
-pub returns-in-Unsure : goal.returns-in-Unsure
-returns-in-Unsure c =
-    λ yards y drawn drawn' lengths s. steps-unsure yards y drawn'
+pub returns-in_err-placed : goal.returns-in_err-placed
+returns-in_err-placed c =
+    λ yards y drawn drawn' lengths s. rw c.from_residual.ensures (steps-unsure yards y drawn')

@@ -4,7 +4,7 @@ use Rattle.notes.proofs.weighed.{Repeated.{Repeating}}
 use Rattle.notes.proofs.weighed.weigh.is_repeated.Given as goal
 
 abbrev pub invariant-loop-i : goal.invariant-loop-i
-invariant-loop-i l = Repeating l.starts l.texts l.first l.value l.i
+invariant-loop-i l = Repeating l.texts.starts.now l.texts.bytes.now l.first l.value l.i
 
 abbrev pub decreases-loop-i : goal.decreases-loop-i
 decreases-loop-i l = l.value - l.i

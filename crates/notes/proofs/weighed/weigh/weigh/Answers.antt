@@ -21,9 +21,9 @@ weigh_value-requires c =
     let room = value_room c.args.names c.args.count c.loop-i.i c.loop-i-test.true in
     (c.requires.1, omega (arith, room, c.requires.2), omega (arith, room, c.requires.3), omega arith)
 
-pub returns-in-Unsure : goal.returns-in-Unsure
-returns-in-Unsure c =
-    adds_nothing _ _ _ _ _ _
+pub returns-in_err-bytes : goal.returns-in_err-bytes
+returns-in_err-bytes c =
+    rw c.from_residual.ensures (adds_nothing _ _ _ _ _ _)
 
 pub overflow_add-bytes : goal.overflow_add-bytes
 overflow_add-bytes c =
@@ -33,12 +33,12 @@ overflow_add-bytes c =
       c.loop-i-test.true,
       c.requires.0,
       taken_few _ _ _ _ _ _ _ _ c.loop-i.invariant c.loop-i-test.true _
-          c.weigh_value.ensures _ c.in-Takes.is,
+          c.weigh_value.ensures _ c.in_ok-bytes.was,
     )
 
 pub loop-i-preserved : goal.loop-i-preserved
 loop-i-preserved c =
-    add_goes _ _ _ _ _ _ _ _ c.loop-i.invariant c.loop-i-test.true _ c.weigh_value.ensures _ c.in-Takes.is
+    add_goes _ _ _ _ _ _ _ _ c.loop-i.invariant c.loop-i-test.true _ c.weigh_value.ensures _ c.in_ok-bytes.was
 
 pub returns : goal.returns
 returns c =
