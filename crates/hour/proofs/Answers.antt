@@ -1,21 +1,20 @@
 -- The line for an answer: which it is, that there is one, and that it has room. Assumes nothing.
 use Rattle.numbers.proofs.Prelude.{ℕ, zero, suc, ◌-◌, ◌≤◌, ◌<◌, eq-eqb, ne_eqb, lt-ltb, le-ltb, ℤ, pos, negsuc, length, take, drop, length-append, length-drop, length-map, length-replicate}
 use Rattle.numbers.{proofs.Prelude.{length-take-le, take_all, List, [], ◌∷◌, ◌++◌, map, ◌≡◌, refl, sym, ap, subst, ◌∙◌, le_refl, arith}, specs.Lists.{zeros}}
-use Rattle.calendar.{proofs.SameCivil.{same_civil}, specs.{Civil.{CivilOf}, declared.civil.{Civil.{Civil}, Reading.{Reading}}}}
+use Rattle.calendar.{proofs.SameCivil.{same_civil}, specs.{Civil.{CivilOf}, declared.civil.Reading.{Reading}}}
 use Rattle.localtime.specs.{Local.{local_time, scale_at}, declared.scale.Scale.{Scale}}
 use Rattle.hour.specs.{Hour.{instant_of, on_scale, shown_by, answer_of, civil_line, LineFor, Answered, Printed}, Line.{clock_text, signed_text, hour_line, unknown_line, refused_line}}
 use Rattle.line.{proofs.{Decimals.{decimal_short}, Puts.{put_length, put_front}}, specs.{Clock.{date_text, time_text, shown}, Put.{Put, decimal}}}
-use Rattle.tzif.specs.{Local.{Replied, replied}, Reply.{refusal}, declared.{local.{Local.{Local}, LocalTime.{LocalTime}}, refusal.Refusal.{Refusal}}}
-use Rattle.calendar.specs.declared.civil.Civil.TheVariants as C
-use Rattle.tzif.specs.declared.local.LocalTime.TheVariants as L
+use Rattle.tzif.specs.{Local.{Replied, replied}, Reply.{Reply, given, refused, refusal}, declared.{local.Local.{Local}, refusal.Refusal.{Refusal}}}
+use Rattle.std.specs.Prelude.{Option, Some, None}
 
 -- two lines that the promise permits are equal
-pub one_line : (instant : ℤ) (reply : LocalTime) (text a b : List ℕ) → LineFor instant reply text a → LineFor instant reply text b → a ≡ b
+pub one_line : (instant : ℤ) (reply : Reply (Option Local)) (text a b : List ℕ) → LineFor instant reply text a → LineFor instant reply text b → a ≡ b
 unfolding LineFor
-one_line instant (L.Local local) text a b p q =
+one_line instant (given (Some local)) text a b p q =
     p.is ∙ ap (civil_line local (take local.length text)) (same_civil instant local.offset p.civil q.civil p.shows q.shows) ∙ sym q.is
-one_line instant L.Unknown text a b p q = p ∙ sym q
-one_line instant (L.Refused why) text a b p q = p ∙ sym q
+one_line instant (given None) text a b p q = p ∙ sym q
+one_line instant (refused why) text a b p q = p ∙ sym q
 
 -- two buffers that the promise of the program permits begin with the same line, of the same length
 pub one_printed : {input : List ℕ} {room : ℕ} {out out' : List ℕ} {used used' : ℕ} → Printed input room out used → Printed input room out' used' → (take used out ≡
@@ -56,10 +55,10 @@ hour-short reading local name h = let clock = clock_text reading in let offset =
       length-append shows (10 ∷ []),
     )
 
-civil-short : (local : Local) (name : List ℕ) (civil : Civil) → length name ≤ 256 → length (civil_line local name civil) ≤ 512
+civil-short : (local : Local) (name : List ℕ) (civil : Option Reading) → length name ≤ 256 → length (civil_line local name civil) ≤ 512
 unfolding civil_line
-civil-short local name (C.Shown reading) h = hour-short reading local name h
-civil-short local name C.Outside h = refused_short (refusal 61 0)
+civil-short local name (Some reading) h = hour-short reading local name h
+civil-short local name None h = refused_short (refusal 61 0)
 
 taken-short : (n : ℕ) (text : List ℕ) → length (take n text) ≤ length text
 taken-short zero text = omega arith
@@ -67,53 +66,53 @@ taken-short (suc n) [] = omega arith
 taken-short (suc n) (x ∷ text) = omega (arith, taken-short n text)
 
 -- with 256 bytes for the abbreviation every line has room in 512
-pub line_short : (instant : ℤ) (reply : LocalTime) (text line : List ℕ) → LineFor instant reply text line → length text ≤ 256 → length line ≤ 512
+pub line_short : (instant : ℤ) (reply : Reply (Option Local)) (text line : List ℕ) → LineFor instant reply text line → length text ≤ 256 → length line ≤ 512
 unfolding LineFor
-line_short instant (L.Local local) text line p h =
+line_short instant (given (Some local)) text line p h =
     omega (arith, ap length p.is, civil-short local (take local.length text) p.civil (omega (arith, h, taken-short local.length text)))
-line_short instant L.Unknown text line p h = omega (arith, ap length p)
-line_short instant (L.Refused why) text line p h = omega (arith, ap length p, refused_short why)
+line_short instant (given None) text line p h = omega (arith, ap length p)
+line_short instant (refused why) text line p h = omega (arith, ap length p, refused_short why)
 
 -- ---- the ways of `put_local` and `put_answer`
-moved : {instant at o offset : ℤ} (civil : Civil) → at ≡ instant → offset ≡ o → CivilOf at offset civil → CivilOf instant o civil
+moved : {instant at o offset : ℤ} (civil : Option Reading) → at ≡ instant → offset ≡ o → CivilOf at offset civil → CivilOf instant o civil
 moved {instant} {at} {o} {offset} civil i e s = subst (λ (z : ℤ). CivilOf z o civil) i (subst (λ (z : ℤ). CivilOf at z civil) e s)
 
 module _ {before after : List ℕ} {next : ℕ} where
-  pub answered-hour : {instant at offset : ℤ} (local : Local) (text : List ℕ) → at ≡ instant → offset ≡ local.offset → {civil : Civil} → CivilOf at offset civil
-      → {reading : Reading} → civil ≡ C.Shown reading → Put before 0 (hour_line reading local (take local.length text)) after next
-      → Answered instant (replied (L.Local local) text) before after next
+  pub answered-hour : {instant at offset : ℤ} (local : Local) (text : List ℕ) → at ≡ instant → offset ≡ local.offset → {civil : Option Reading} → CivilOf at offset civil
+      → {reading : Reading} → civil ≡ Some reading → Put before 0 (hour_line reading local (take local.length text)) after next
+      → Answered instant (replied (given (Some local)) text) before after next
   unfolding LineFor civil_line
   answered-hour {instant} local text i o {civil} s {reading} e p =
       record {
         line = hour_line reading local (take local.length text);
-        is = record { civil = C.Shown reading; shows = subst (CivilOf instant local.offset) e (moved civil i o s); is = refl };
+        is = record { civil = Some reading; shows = subst (CivilOf instant local.offset) e (moved civil i o s); is = refl };
         put = p;
       }
 
-  pub answered-outside : {instant at offset : ℤ} (local : Local) (text : List ℕ) → at ≡ instant → offset ≡ local.offset → {civil : Civil} → CivilOf at offset civil
-      → civil ≡ C.Outside → Put before 0 (refused_line (refusal 61 0)) after next → Answered instant (replied (L.Local local) text) before after next
+  pub answered-outside : {instant at offset : ℤ} (local : Local) (text : List ℕ) → at ≡ instant → offset ≡ local.offset → {civil : Option Reading} → CivilOf at offset civil
+      → civil ≡ None → Put before 0 (refused_line (refusal 61 0)) after next → Answered instant (replied (given (Some local)) text) before after next
   unfolding LineFor civil_line
   answered-outside {instant} local text i o {civil} s e p =
       record {
         line = refused_line (refusal 61 0);
-        is = record { civil = C.Outside; shows = subst (CivilOf instant local.offset) e (moved civil i o s); is = refl };
+        is = record { civil = None; shows = subst (CivilOf instant local.offset) e (moved civil i o s); is = refl };
         put = p;
       }
 
-  pub answered-unknown : (instant : ℤ) (text : List ℕ) {reply : LocalTime} → reply ≡ L.Unknown → Put before 0 unknown_line after next → Answered instant (replied
+  pub answered-unknown : (instant : ℤ) (text : List ℕ) {reply : Reply (Option Local)} → reply ≡ (given None) → Put before 0 unknown_line after next → Answered instant (replied
       reply text) before after next
   unfolding LineFor
-  answered-unknown instant text e p = subst (λ (r : LocalTime). Answered instant (replied r text) before after next) (sym e) (record {
+  answered-unknown instant text e p = subst (λ (r : Reply (Option Local)). Answered instant (replied r text) before after next) (sym e) (record {
     line = unknown_line;
     is =
         refl;
     put = p;
   })
 
-  pub answered-refused : (instant : ℤ) (text : List ℕ) {reply : LocalTime} (why : Refusal) → reply ≡ L.Refused why → Put before 0 (refused_line why) after next
+  pub answered-refused : (instant : ℤ) (text : List ℕ) {reply : Reply (Option Local)} (why : Refusal) → reply ≡ refused why → Put before 0 (refused_line why) after next
       → Answered instant (replied reply text) before after next
   unfolding LineFor
-  answered-refused instant text why e p = subst (λ (r : LocalTime). Answered instant (replied r text) before after next) (sym e) (record {
+  answered-refused instant text why e p = subst (λ (r : Reply (Option Local)). Answered instant (replied r text) before after next) (sym e) (record {
     line = refused_line why;
     is = refl;
     put = p;
@@ -125,8 +124,8 @@ module _ {before after : List ℕ} {next : ℕ} where
       after next) e a)
 
 -- ---- the two ways of `on_scale`
-module _ (kind : ℕ) (time : LocalTime) where
-  pub own_scale : kind ≡ 2 → L.Refused (refusal 91 0) ≡ on_scale kind time
+module _ (kind : ℕ) (time : Reply (Option Local)) where
+  pub own_scale : kind ≡ 2 → refused (refusal 91 0) ≡ on_scale kind time
   unfolding on_scale
   own_scale e = simp (eq-eqb kind 2 e)
 
@@ -136,11 +135,11 @@ module _ (kind : ℕ) (time : LocalTime) where
 
 -- ---- the ways of `hour`
 module _ (input : List ℕ) (room : ℕ) where
-  too_long : 65536 < length input → replied (L.Refused (refusal 1 0)) (zeros room) ≡ answer_of input room
+  too_long : 65536 < length input → replied (refused (refusal 1 0)) (zeros room) ≡ answer_of input room
   unfolding answer_of
   too_long h = rw (lt-ltb 65536 (length input) h) refl
 
-  too_short : length input ≤ 65536 → length input < 8 → replied (L.Refused (refusal 2 (length input))) (zeros room) ≡ answer_of input room
+  too_short : length input ≤ 65536 → length input < 8 → replied (refused (refusal 2 (length input))) (zeros room) ≡ answer_of input room
   unfolding answer_of
   too_short l h = rw (le-ltb 65536 (length input) l, lt-ltb (length input) 8 h) refl
 
@@ -155,7 +154,7 @@ module _ (input : List ℕ) (room : ℕ) where
         let front = put_front a.put (omega (arith, short, large)) in
         record { line = a.line; is = a.is; fits = omega (arith, front.0, short, large, put_length a.put); whole = front.1 }
 
-    zeroed : {why : Refusal} → replied (L.Refused why) (zeros room) ≡ answer_of input room → room ≤ 256 → 512 ≤ length before → Put before 0 (refused_line why) after next
+    zeroed : {why : Refusal} → replied (refused why) (zeros room) ≡ answer_of input room → room ≤ 256 → 512 ≤ length before → Put before 0 (refused_line why) after next
         → Printed input room after next
     zeroed {why} e small large p =
         printed (answered-as refl e (answered-refused (instant_of input) (zeros room) why refl p)) (omega (
@@ -173,12 +172,12 @@ module _ (input : List ℕ) (room : ℕ) where
         next → Printed input room after next
     printed-short l h = zeroed (too_short l h)
 
-    pub printed-answer : length input ≤ 65536 → 8 ≤ length input → {at at' : ℤ} {file text : List ℕ} {time reply : LocalTime} {scale : Scale} → at ≡ instant_of input
+    pub printed-answer : length input ≤ 65536 → 8 ≤ length input → {at at' : ℤ} {file text : List ℕ} {time reply : Reply (Option Local)} {scale : Scale} → at ≡ instant_of input
         → at' ≡ instant_of input → file ≡ drop 8 input → replied time text ≡ local_time file at room → scale ≡ scale_at file at → reply ≡ on_scale scale.kind time
         → length text ≤ 256 → 512 ≤ length before → Answered at' (replied reply text) before after next → Printed input room after next
     printed-answer l h {at} {at'} {file} {text} {time} {reply} {scale} i i' f e s r small large a =
         let shows : replied reply text ≡ shown_by file at room =
-        ap (λ (x : LocalTime). replied x text) (r ∙ ap (λ (x : Scale). on_scale x.kind time) s)
+        ap (λ (x : Reply (Option Local)). replied x text) (r ∙ ap (λ (x : Scale). on_scale x.kind time) s)
         ∙ ap (λ (x : Replied). replied (on_scale (scale_at file at).kind x.reply) x.text) e in
         let same = shows ∙ (λ k. shown_by (f k) (i k) room) ∙ asked l h in
         printed (answered-as i' same a) (omega (arith, ap (λ (x : Replied). length x.text) same, small)) large

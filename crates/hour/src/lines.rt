@@ -1,16 +1,16 @@
 // The lines that are printed, into a lent buffer.
 ghost use mathlib.Core.{List.{◌∷◌, map}, Path.{◌≡◌}};
-ghost use Rattle.std.specs.Prelude.{take, min};
+ghost use Rattle.std.specs.Prelude.{Some, take};
 ghost use Rattle.hour.specs.{Hour.{Answered}, Line.{clock_text, signed_text, hour_line, refused_line}};
 ghost use Rattle.line.specs.{Clock.{shown}, Put.{Put}};
-ghost use Rattle.tzif.specs.Local.{replied};
-ghost use Rattle.tzif.specs.declared.local.LocalTime.TheVariants as L;
+ghost use Rattle.tzif.specs.{Local.{replied}, Reply.{given}};
 
-use calendar::civil::{Civil, Reading, civil_time};
+use calendar::civil::{Reading, civil_time};
 use line::clock::{put_date, put_shown, put_time};
 use line::put::{put, put_all, put_decimal, put_number};
-use tzif::local::{Local, LocalTime, offset_bits};
-use tzif::refusal::Refusal;
+use numbers::fault::Fault;
+use tzif::local::{Local, offset_bits};
+use tzif::refusal::{Refusal, refuse};
 
 // A space and the seconds east of UT.
 fn put_offset(out: &mut [u8], at: usize, local: Local) -> usize
@@ -26,17 +26,11 @@ fn put_offset(out: &mut [u8], at: usize, local: Local) -> usize
     put_decimal(out, start, bits)
 }
 
-fn least(a: usize, b: usize) -> usize
-    ensures { result ≡ min a b }
-{
-    if a < b { a } else { b }
-}
-
 // A space and so many bytes of a text, or all.
 fn put_name(out: &mut [u8], at: usize, text: &[u8], most: usize) -> usize
     ensures { Put out.old at (32 ∷ map shown (take most text.now)) out.new result }
 {
-    let size = least(most, text.len());
+    let size = most.min(text.len());
     let start = put(out, at, b' ');
     put_shown(out, start, &text[..size], 0)
 }
@@ -73,27 +67,25 @@ pub fn put_refusal(out: &mut [u8], why: Refusal) -> usize
 
 // What a clock shows; 61 outside the years 1 to 9999.
 fn put_local(out: &mut [u8], instant: i64, local: Local, text: &[u8]) -> usize
-    ensures { Answered instant (replied (L.Local local) text.now) out.old out.new result }
+    ensures { Answered instant (replied (given (Some local)) text.now) out.old out.new result }
 {
-    let civil = civil_time(instant, local.offset);
-    match civil {
-        Civil::Shown(reading) => put_hour(out, reading, local, text),
-        Civil::Outside => put_refusal(
-            out,
-            Refusal {
-                number: 61,
-                detail: 0,
-            },
-        ),
+    match civil_time(instant, local.offset) {
+        Some(reading) => put_hour(out, reading, local, text),
+        None => put_refusal(out, refuse(Fault::YearOutside, 0)),
     }
 }
 
-pub fn put_answer(out: &mut [u8], instant: i64, answer: LocalTime, text: &[u8]) -> usize
+pub fn put_answer(
+    out: &mut [u8],
+    instant: i64,
+    answer: Result<Option<Local>, Refusal>,
+    text: &[u8],
+) -> usize
     ensures { Answered instant (replied answer text.now) out.old out.new result }
 {
     match answer {
-        LocalTime::Local(local) => put_local(out, instant, local, text),
-        LocalTime::Unknown => put_all(out, 0, b"unknown\n"),
-        LocalTime::Refused(why) => put_refusal(out, why),
+        Ok(Some(local)) => put_local(out, instant, local, text),
+        Ok(None) => put_all(out, 0, b"unknown\n"),
+        Err(why) => put_refusal(out, why),
     }
 }

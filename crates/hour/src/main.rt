@@ -12,8 +12,9 @@ use line::input::read_full;
 use line::output::say;
 use lines::{put_answer, put_refusal};
 use localtime::local::{Timed, local_time};
-use tzif::local::LocalTime;
-use tzif::refusal::Refusal;
+use numbers::fault::Fault;
+use tzif::local::Local;
+use tzif::refusal::{Refusal, refuse};
 
 // One byte more than is taken, so that a longer input is seen.
 fn input_space() -> [u8; 65537]
@@ -36,18 +37,13 @@ fn line_space() -> [u8; 512]
 }
 
 // What may be shown: a file that reads the instant on its own scale is refused.
-fn on_scale(timed: Timed) -> LocalTime
+fn on_scale(timed: Timed) -> Result<Option<Local>, Refusal>
     ensures { result ≡ on_scale timed.scale.kind timed.time }
 {
-    let scale = timed.scale;
-    let time = timed.time;
-    if scale.kind == 2 {
-        return LocalTime::Refused(Refusal {
-            number: 91,
-            detail: 0,
-        });
+    if timed.scale.kind == 2 {
+        return Err(refuse(Fault::LeapSeconds, 0));
     }
-    time
+    timed.time
 }
 
 // The line for an input, and how many bytes it has.
@@ -57,22 +53,10 @@ fn hour(input: &[u8], text: &mut [u8], out: &mut [u8]) -> usize
 {
     let size = input.len();
     if 65536 < size {
-        return put_refusal(
-            out,
-            Refusal {
-                number: 1,
-                detail: 0,
-            },
-        );
+        return put_refusal(out, refuse(Fault::FileTooLarge, 0));
     }
     if size < 8 {
-        return put_refusal(
-            out,
-            Refusal {
-                number: 2,
-                detail: size,
-            },
-        );
+        return put_refusal(out, refuse(Fault::FileTooShort, size));
     }
     let instant = instant_of(input);
     let timed = local_time(&input[8..], instant, text);

@@ -88,10 +88,8 @@ pub fn put_shown(out: &mut [u8], at: usize, text: &[u8], mask: u8) -> usize
     ensures { Put out.old at (map (λ byte. shown (bit_xor byte mask)) text.now) out.new result }
 {
     let mut next = at;
-    let mut i = 0;
-    while i < text.len() {
-        next = put(out, next, shown(text[i] ^ mask));
-        i += 1;
+    for byte in text {
+        next = put(out, next, shown(*byte ^ mask));
     }
     next
 }

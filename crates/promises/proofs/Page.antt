@@ -4,29 +4,24 @@ use Prim.Native.Nat.{ℕ, ◌+◌, ◌*◌, ◌-◌, ◌<◌, ◌≤◌}
 use lib.{Dec.{eqb}, Ieee.{Float}, IntN.{ℤ}, ListN.{length, get_or, take}, Signed.{mag, lt_z}}
 use mathlib.Core.{Bool.{Bool, true, false, ◌||◌}, List.{List, [], ◌∷◌}, Logic.{◌↔◌, ◌⊎◌}, Path.{◌≡◌}}
 use mir.{Syntax.{w64}, Val.{SFits}}
+use Rattle.std.specs.Prelude.{Option, Some}
 use Rattle.atlas.specs.{Atlas.{atlas_made, is_atlas_of}, Beside.{NoneOrAtlas, simply_beside}, Looked.{looked_atlas}}
 use Rattle.batch.specs.{Many.{is_taken, fixes_of, many_beside, looked_up_many}, OneByOne.{one_by_one}}
 use Rattle.border.specs.{Box.{Box, holds}, Encoding.{encoding_of}, Trace.{Trace, point}, declared.place.{FixedLat.{FixedLat}, FixedLon.{FixedLon}, Point.{Point}}}
 use Rattle.builder.specs.{File.{Room, built_of}, Yards.{Lent, Plan, Yard, plan_of}}
 use Rattle.bundle.specs.{Bundle.{find_of}, First.{FoundAt}, declared.find.File.{File}}
-use Rattle.bundle.specs.Told as B
-use Rattle.bundle.specs.declared.find.Found.TheVariants as F
-use Rattle.calendar.specs.{Calendar.{days_of_years}, Civil.{CivilOf}, Epoch.{forwards, backwards}, declared.civil.Civil.{Civil}}
+use Rattle.calendar.specs.{Calendar.{days_of_years}, Civil.{CivilOf}, Epoch.{forwards, backwards}, declared.civil.Reading.{Reading}}
 use Rattle.draft.specs.{Held.{Builder.{Builder, finish, holding}, Sound.{Sound, room_for}, Space.{Space}, Totals.{totals_of}}, Summed.Ends.{Files, Finishes, space_of}}
 use Rattle.draft.specs.declared.held.room.Rooms.{Rooms}
 use Rattle.header.specs.{Header.{head_by, head_of}, declared.header.Head.{Head}}
-use Rattle.index.specs.{Index.{indexed, indexed_of, told_built}, Own.{is_index_of}, Through.{looked_indexed}, Tied.{told_tied}, declared.{build.Built.{Built}, tied.Tied.{Tied}}}
+use Rattle.index.specs.{Index.{indexed, indexed_of}, Own.{is_index_of}, Through.{looked_indexed}}
 use Rattle.localtime.specs.{Found.{found_of}, Local.{rules_in, local_time}}
-use Rattle.localtime.specs.declared.rule.Rules.TheVariants as R
-use Rattle.numbers.specs.{Lists.{zeros}, Reply.{given, refused}, Spoken.{spoken}, declared.refusal.Refusal.{Refusal}}
+use Rattle.numbers.specs.{Lists.{zeros}, Reply.{Reply, given, refused}, Spoken.{spoken}, declared.refusal.Refusal.{Refusal}}
 use Rattle.promises.specs.Built.Finds.{FindsInto}
 use Rattle.request.specs.{Clock.{Date, Time, utc}, Nearest.{Nearest}, Only.{OnlyAt}, Request.{Spelt, request_of, spelt_of}, Text.{line_of}, declared.read.Fix.{Fix}}
-use Rattle.request.specs.Told as Q
-use Rattle.request.specs.declared.read.Asked.TheVariants as A
-use Rattle.salvage.specs.{Kept.{kept_of}, Promises.{ListOf, KeptFile}, Salvage.{Counts, salvaged}}
-use Rattle.slip.specs.{Says.{from, Meant, Whole, Agreed, Clocked, Short, is_at_number, is_slip_number}, Slip.{slipped_at, slipped}, declared.slip.{Stamped.{Stamped}, Slipped.{Slipped}}}
+use Rattle.salvage.specs.{Kept.{kept_of}, Promises.{ListOf, KeptFile}, Salvage.{salvaged}, declared.rescue.reply.Counts.{Counts}}
+use Rattle.slip.specs.{Says.{from, Meant, Whole, Agreed, Clocked, Short, is_at_number, is_slip_number}, Slip.{slipped_at, slipped}, declared.slip.Stamped.{Stamped}}
 use Rattle.slip.specs.Slip as Z
-use Rattle.slip.specs.Told as K
 use Rattle.table.specs.{Rows.{rows_in}, declared.location.Location.{Location}}
 use Rattle.tzif.specs.{Check.{correction_at}, Local.{type_behind, named}, Number.{lift}, Times.{transitions_of, last_not_after}, Zone.{read_zone}, declared.{block.Block.{Block}, zone.Zone.{Zone}}}
 use Rattle.tzif.specs.Last.{Octets, transition_time, LastNotAfter}
@@ -36,7 +31,7 @@ use Rattle.office.specs.{Calls.{Shelf, Called, Made, TotalsIn}, Draft.{Ends}}
 use Rattle.uskelzar.specs.{Slips.{Printed, slip_spoken}, Spoken.{zones_values, found_spoken}}
 use Rattle.verdict.specs.{Stretch.{Stretch}, Verdict.{after, judge, judged_at}, declared.step.Tally.{Tally}}
 use Rattle.writer.specs.WrittenAt.{WrittenAt}
-use Rattle.zones.specs.{Lookup.{looked_up, told_looked}, Simple.{simply_looked}, Unstopped.{looked_through_all}, declared.lookup.{Looked.{Looked}, Zones.{Zones}}}
+use Rattle.zones.specs.{Lookup.{looked_up}, Simple.{simply_looked}, Unstopped.{looked_through_all}, declared.lookup.Zones.{Zones}}
 use Rattle.zones.specs.Lent as L
 use Rattle.atlas.proofs.AtlasIsPlain as atlas
 use Rattle.atlas.proofs.BesideIsPlain as beside
@@ -130,15 +125,15 @@ pub slip_at_atlas_is_plain : (fix : Fix) (map atlas zones : List ℕ) → is_atl
 slip_at_atlas_is_plain = slip.slip_at_atlas_is_plain
 
 -- With any words at all a lookup through them has one reply, with all lent output; it takes them all, so that it ends and stays inside what it was lent.
-pub atlas_safe : (file words : List ℕ) (location : Location) (asked : Bool) (n room : ℕ) (r r' : Looked) (hs hs' ts ts' : List ℕ)
-    → L.replied (told_looked r) hs ts ≡ looked_atlas file words location asked n room → L.replied (told_looked r') hs' ts' ≡ looked_atlas file words location asked n room
+pub atlas_safe : (file words : List ℕ) (location : Location) (asked : Bool) (n room : ℕ) (r r' : Reply Zones) (hs hs' ts ts' : List ℕ)
+    → L.replied r hs ts ≡ looked_atlas file words location asked n room → L.replied r' hs' ts' ≡ looked_atlas file words location asked n room
     → (r ≡ r') × (hs ≡ hs') × (ts ≡ ts')
 atlas_safe = theorems.atlas_safe
 
 -- So is what `build_atlas` and `is_atlas` answer and leave.
 pub same_atlas : (file words : List ℕ) (n : ℕ)
-    → ((r r' : Built) (ws ws' : List ℕ) → indexed (told_built r) ws ≡ atlas_made file n → indexed (told_built r') ws' ≡ atlas_made file n → (r ≡ r') × (ws ≡ ws'))
-    × ((r r' : Tied) → told_tied r ≡ is_atlas_of file words → told_tied r' ≡ is_atlas_of file words → r ≡ r')
+    → ((r r' : Reply ℕ) (ws ws' : List ℕ) → indexed r ws ≡ atlas_made file n → indexed r' ws' ≡ atlas_made file n → (r ≡ r') × (ws ≡ ws'))
+    × ((r r' : Reply (Unit {0})) → r ≡ is_atlas_of file words → r' ≡ is_atlas_of file words → r ≡ r')
 same_atlas file words n = (theorems.same_atlas_built file n, theorems.same_atlas_held file words)
 
 -- Where it is refused, then with 1 to 18, as a plain lookup, or with 36,
@@ -194,7 +189,7 @@ finish_made = calls.finish_made
 -- ---- What is left of a damaged file?
 -- The file that was written opens strictly, and its table is that of the old file's whole entries, in the old order, each as it was.
 pub salvage_kept : (file : List ℕ) (words room : ℕ) (counts : Counts) → (salvaged file words room).reply ≡ given counts → (head : Head) → head_by true file ≡ given head
-    → KeptFile file head (take counts.length' (salvaged file words room).out) (kept_of file head (rows_in file head))
+    → KeptFile file head (take counts.size (salvaged file words room).out) (kept_of file head (rows_in file head))
 salvage_kept file words room counts e head opens = salvage.lent_kept file words room counts e head opens
 
 -- The words that were written are exactly the old file's entries that do not read whole, each with the first reason met.
@@ -209,7 +204,7 @@ pub last_not_after_lem : (file : List ℕ) → Octets file → (block : Block) (
 last_not_after_lem file octets block instant fits = tzif.last_not_after_lem file octets block instant fits
 
 -- after the last transition local time is the TZ string's clock, in the years 1 to 9999;
-pub after_last_by_string : (file : List ℕ) (instant : ℤ) (room : ℕ) {zone : Zone} → read_zone file ≡ T.given zone → {tz : Tz} → rules_in file zone ≡ T.given (R.By tz) → Octets file → SFits w64 instant
+pub after_last_by_string : (file : List ℕ) (instant : ℤ) (room : ℕ) {zone : Zone} → read_zone file ≡ T.given zone → {tz : Tz} → rules_in file zone ≡ T.given (Some tz) → Octets file → SFits w64 instant
     → 0 < zone.block.timecnt → lt_z (transition_time file zone.block (zone.block.timecnt - 1)) instant ≡ true
     → in_years (corrected (lift instant) (correction_at file zone.block (lift instant))) ≡ true
     → local_time file instant room ≡ named file room (found_of (clock_at tz (corrected (lift instant) (correction_at file zone.block (lift instant)))))
@@ -221,7 +216,7 @@ summer_some rule instant good = tzrule.summer_some rule instant good
 
 -- ---- Is the date?
 -- What a clock shows is the one date and time whose seconds give instant and offset back.
-pub same_civil : (instant offset : ℤ) (a b : Civil) → CivilOf instant offset a → CivilOf instant offset b → a ≡ b
+pub same_civil : (instant offset : ℤ) (a b : Option Reading) → CivilOf instant offset a → CivilOf instant offset b → a ≡ b
 same_civil = calendar.same_civil
 
 -- The days before 1 January of a year are counted from 1970, year by year, forwards and backwards; years before the year 1 are told by one whole rounds of 400 years later.
@@ -231,29 +226,29 @@ days_from_1970 = epoch.days_from_1970
 
 -- ---- Is it the fix, the instant and the zone's file that were asked for?
 -- The two floats of a fix are the f32 nearest to the fractions that the request spells, ties to even;
-pub request_nearest : (text : List ℕ) {fix : Fix} {spelt : Spelt} → Q.told (A.Fix fix) ≡ request_of text → given spelt ≡ spelt_of (line_of text)
+pub request_nearest : (text : List ℕ) {fix : Fix} {spelt : Spelt} → given fix ≡ request_of text → given spelt ≡ spelt_of (line_of text)
     → Nearest spelt.lat fix.lat × Nearest spelt.lon fix.lon
 request_nearest text e s = request.request_nearest text e s
 
 -- its instant is the one at which a clock in UTC shows the date and time that the request spells;
-pub request_instant : (text : List ℕ) {fix : Fix} {spelt : Spelt} {date : Date} {time : Time} → Q.told (A.Fix fix) ≡ request_of text → given spelt ≡ spelt_of (line_of text)
+pub request_instant : (text : List ℕ) {fix : Fix} {spelt : Spelt} {date : Date} {time : Time} → given fix ≡ request_of text → given spelt ≡ spelt_of (line_of text)
     → spelt.when ≡ utc date time → OnlyAt date time fix.instant
 request_instant text e s w = request.request_instant text e s w
 
 -- and the file that is found in a bundle lies in its data, where the first entry of the name says.
-pub found_first : (bundle name : List ℕ) {file : File} → B.told (F.At file) ≡ find_of bundle name → FoundAt bundle name file
+pub found_first : (bundle name : List ℕ) {file : File} → given file ≡ find_of bundle name → FoundAt bundle name file
 found_first = bundle.found_first
 
 -- ---- Is the line right for this sentence, this map and these zones?
 -- Two replies of the slip that are permitted for a request, a map, an atlas or none, and zones are one, with all lent output;
-pub one_slip : (request map atlas zones : List ℕ) (n room size : ℕ) (r r' : Slipped) (hs hs' ts ts' os os' : List ℕ)
-    → Z.replied (K.told r) hs ts os ≡ slipped request map atlas zones n room size → Z.replied (K.told r') hs' ts' os' ≡ slipped request map atlas zones n room size
+pub one_slip : (request map atlas zones : List ℕ) (n room size : ℕ) (r r' : Reply Stamped) (hs hs' ts ts' os os' : List ℕ)
+    → Z.replied r hs ts os ≡ slipped request map atlas zones n room size → Z.replied r' hs' ts' os' ≡ slipped request map atlas zones n room size
     → (r ≡ r') × (hs ≡ hs') × (ts ≡ ts') × (os ≡ os')
 one_slip = slip.one_slip
 
 -- and so of the slip at a fix.
-pub one_slip_at : (fix : Fix) (map atlas zones : List ℕ) (n room size : ℕ) (r r' : Slipped) (hs hs' ts ts' os os' : List ℕ)
-    → Z.replied (K.told r) hs ts os ≡ slipped_at fix map atlas zones n room size → Z.replied (K.told r') hs' ts' os' ≡ slipped_at fix map atlas zones n room size
+pub one_slip_at : (fix : Fix) (map atlas zones : List ℕ) (n room size : ℕ) (r r' : Reply Stamped) (hs hs' ts ts' os os' : List ℕ)
+    → Z.replied r hs ts os ≡ slipped_at fix map atlas zones n room size → Z.replied r' hs' ts' os' ≡ slipped_at fix map atlas zones n room size
     → (r ≡ r') × (hs ≡ hs') × (ts ≡ ts') × (os ≡ os')
 one_slip_at = slip.one_slip_at
 

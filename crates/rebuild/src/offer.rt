@@ -1,11 +1,10 @@
 // The steps that take something: a yard that is added, and a text.
 ghost use Rattle.std.specs.Prelude.{◌≤◌};
 
-use crate::calls::{add_yard, replace_value};
+use crate::desk::{Desk, Yard};
 use recorded::lists::{coordinates, lengths_at, piece_words};
 use recorded::record::{size_at, word_at};
 use recorded::reply::{Reply, refused};
-use std::num::wrapping_add_usize;
 
 // How many there are of each: latitudes, longitudes, words of pieces, values, bytes of values.
 #[derive(Clone, Copy)]
@@ -33,124 +32,45 @@ fn times_5(count: usize) -> usize {
 
 pub(crate) fn offered_at(record: &[u8], at: usize) -> Offer {
     Offer {
-        lats: size_at(record, wrapping_add_usize(at, 1)),
-        lons: size_at(record, wrapping_add_usize(at, 5)),
-        pieces: times_5(size_at(record, wrapping_add_usize(at, 9))),
-        values: size_at(record, wrapping_add_usize(at, 13)),
-        bytes: size_at(record, wrapping_add_usize(at, 17)),
+        lats: size_at(record, at.wrapping_add(1)),
+        lons: size_at(record, at.wrapping_add(5)),
+        pieces: times_5(size_at(record, at.wrapping_add(9))),
+        values: size_at(record, at.wrapping_add(13)),
+        bytes: size_at(record, at.wrapping_add(17)),
     }
 }
 
 // Where the bytes of the values begin.
 pub(crate) fn values_at(offer: Offer, at: usize) -> usize {
-    let lons = wrapping_add_usize(wrapping_add_usize(at, 21), times_4(offer.lats));
-    let pieces = wrapping_add_usize(lons, times_4(offer.lons));
-    let sizes = wrapping_add_usize(pieces, times_4(offer.pieces));
-    wrapping_add_usize(sizes, times_4(offer.values))
+    let lons = at.wrapping_add(21).wrapping_add(times_4(offer.lats));
+    let pieces = lons.wrapping_add(times_4(offer.lons));
+    let sizes = pieces.wrapping_add(times_4(offer.pieces));
+    sizes.wrapping_add(times_4(offer.values))
 }
 
-// The lists cut to what is the yard's.
-fn add_cut(
-    offer: Offer,
-    lats: &[i32],
-    lons: &[i32],
-    pieces: &[u32],
-    sizes: &[u32],
-    values: &[u8],
-    state: &mut [u64; 14],
-    boxes: &mut [i32],
-    borders: &mut [u32],
-    lengths: &mut [u32],
-    texts: &mut [u8],
-    bytes: &mut [u8],
-    marks: &mut [u32],
-    chains: &mut [u32],
-    groups: &mut [u32],
-    begins: &mut [u32],
-) -> Reply {
-    let a = offer.lats;
-    let b = offer.lons;
-    let c = offer.pieces;
-    let d = offer.values;
-    if lats.len() < a {
-        return unread();
-    }
-    if lons.len() < b {
-        return unread();
-    }
-    if pieces.len() < c {
-        return unread();
-    }
-    if sizes.len() < d {
-        return unread();
-    }
-    add_yard(
-        &lats[0..a],
-        &lons[0..b],
-        &pieces[0..c],
-        &sizes[0..d],
-        values,
-        state,
-        boxes,
-        borders,
-        lengths,
-        texts,
-        bytes,
-        marks,
-        chains,
-        groups,
-        begins,
-    )
-}
-
-// Its lists, which stand one behind the other.
-fn add_lists(
-    record: &[u8],
-    at: usize,
-    offer: Offer,
-    values: &[u8],
-    state: &mut [u64; 14],
-    boxes: &mut [i32],
-    borders: &mut [u32],
-    lengths: &mut [u32],
-    texts: &mut [u8],
-    bytes: &mut [u8],
-    marks: &mut [u32],
-    chains: &mut [u32],
-    groups: &mut [u32],
-    begins: &mut [u32],
-) -> Reply
+// Its lists, which stand one behind the other, cut to what is the yard's.
+fn add_lists(record: &[u8], at: usize, offer: Offer, values: &[u8], desk: &mut Desk) -> Reply
     requires { (offer.lats ≤ 1024) × (offer.lons ≤ 1024) × (offer.pieces ≤ 160) × (offer.values ≤ 1024) }
 {
-    let x = wrapping_add_usize(at, 21);
-    let y = wrapping_add_usize(x, times_4(offer.lats));
-    let z = wrapping_add_usize(y, times_4(offer.lons));
-    let w = wrapping_add_usize(z, times_4(offer.pieces));
+    let x = at.wrapping_add(21);
+    let y = x.wrapping_add(times_4(offer.lats));
+    let z = y.wrapping_add(times_4(offer.lons));
+    let w = z.wrapping_add(times_4(offer.pieces));
     let lats = coordinates(record, x, offer.lats);
     let lons = coordinates(record, y, offer.lons);
     let pieces = piece_words(record, z, offer.pieces);
     let sizes = lengths_at(record, w, offer.values);
-    add_cut(
-        offer, &lats, &lons, &pieces, &sizes, values, state, boxes, borders, lengths, texts, bytes,
-        marks, chains, groups, begins,
-    )
+    desk.add(Yard {
+        lats: &lats[..offer.lats],
+        lons: &lons[..offer.lons],
+        pieces: &pieces[..offer.pieces],
+        sizes: &sizes[..offer.values],
+        values,
+    })
 }
 
 // The yard of the step at a place.
-pub(crate) fn add_at(
-    record: &[u8],
-    at: usize,
-    state: &mut [u64; 14],
-    boxes: &mut [i32],
-    borders: &mut [u32],
-    lengths: &mut [u32],
-    texts: &mut [u8],
-    bytes: &mut [u8],
-    marks: &mut [u32],
-    chains: &mut [u32],
-    groups: &mut [u32],
-    begins: &mut [u32],
-) -> Reply {
+pub(crate) fn add_at(record: &[u8], at: usize, desk: &mut Desk) -> Reply {
     let offer = offered_at(record, at);
     if 1024 < offer.lats {
         return unread();
@@ -165,59 +85,21 @@ pub(crate) fn add_at(
         return unread();
     }
     let from = values_at(offer, at);
-    let to = wrapping_add_usize(from, offer.bytes);
-    if to < from {
-        return unread();
+    let to = from.wrapping_add(offer.bytes);
+    match record.get(from..to) {
+        Some(values) => add_lists(record, at, offer, values, desk),
+        None => unread(),
     }
-    if record.len() < to {
-        return unread();
-    }
-    add_lists(
-        record,
-        at,
-        offer,
-        &record[from..to],
-        state,
-        boxes,
-        borders,
-        lengths,
-        texts,
-        bytes,
-        marks,
-        chains,
-        groups,
-        begins,
-    )
 }
 
 // The text of the step at a place.
-pub(crate) fn replace_at(
-    record: &[u8],
-    at: usize,
-    state: &mut [u64; 14],
-    boxes: &mut [i32],
-    borders: &mut [u32],
-    lengths: &mut [u32],
-    texts: &mut [u8],
-    bytes: &mut [u8],
-) -> Reply {
-    let from = wrapping_add_usize(at, 13);
-    let to = wrapping_add_usize(from, size_at(record, wrapping_add_usize(at, 9)));
-    if to < from {
-        return unread();
+pub(crate) fn replace_at(record: &[u8], at: usize, desk: &mut Desk) -> Reply {
+    let from = at.wrapping_add(13);
+    let to = from.wrapping_add(size_at(record, at.wrapping_add(9)));
+    let yard = word_at(record, at.wrapping_add(1));
+    let field = word_at(record, at.wrapping_add(5));
+    match record.get(from..to) {
+        Some(text) => desk.replace(yard, field, text),
+        None => unread(),
     }
-    if record.len() < to {
-        return unread();
-    }
-    replace_value(
-        word_at(record, wrapping_add_usize(at, 1)),
-        word_at(record, wrapping_add_usize(at, 5)),
-        &record[from..to],
-        state,
-        boxes,
-        borders,
-        lengths,
-        texts,
-        bytes,
-    )
 }

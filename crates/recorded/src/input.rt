@@ -20,19 +20,12 @@ pub struct Came {
     pub size: usize,
 }
 
-fn least(a: usize, b: usize) -> usize
-    ensures first { result ≤ a }
-    ensures second { result ≤ b }
-{
-    a.min(b)
-}
-
 // Reads so many bytes into the space, or as many as it holds or the input has, and answers how many came.
 fn read_some<R: Read>(reader: &mut R, space: &mut [u8], size: usize) -> usize
     ensures asked { result ≤ size }
     ensures within { IsPrefixLen result space.new }
 {
-    let step = least(size, space.len());
+    let step = size.min(space.len());
     read_full(reader, &mut space[..step])
 }
 

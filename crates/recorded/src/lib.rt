@@ -5,5 +5,6 @@ pub mod input;
 pub mod lists;
 pub mod record;
 pub mod reply;
+pub mod run;
 pub mod tally;
 pub mod verdict;

@@ -23,12 +23,12 @@ pub fn coordinates(record: &[u8], at: usize, count: usize) -> [i32; 1024]
     list
 }
 
-// So many words of pieces, or of yards.
-pub fn piece_words(record: &[u8], at: usize, count: usize) -> [u32; 160]
-    requires { count ≤ 160 }
-    ensures { length result ≡ 160 }
+// So many words from a place of the record on.
+fn words_at<const N: usize>(record: &[u8], at: usize, count: usize) -> [u32; N]
+    requires { count ≤ N }
+    ensures { length result ≡ N }
 {
-    let mut list = [0; 160];
+    let mut list = [0; N];
     let mut place = at;
     for i in 0..count {
         list[i] = word_at(record, place);
@@ -37,16 +37,18 @@ pub fn piece_words(record: &[u8], at: usize, count: usize) -> [u32; 160]
     list
 }
 
+// So many words of pieces, or of yards.
+pub fn piece_words(record: &[u8], at: usize, count: usize) -> [u32; 160]
+    requires { count ≤ 160 }
+    ensures { length result ≡ 160 }
+{
+    words_at(record, at, count)
+}
+
 // So many lengths from a place of the record on.
 pub fn lengths_at(record: &[u8], at: usize, count: usize) -> [u32; 1024]
     requires { count ≤ 1024 }
     ensures { length result ≡ 1024 }
 {
-    let mut list = [0; 1024];
-    let mut place = at;
-    for i in 0..count {
-        list[i] = word_at(record, place);
-        place = place.wrapping_add(4);
-    }
-    list
+    words_at(record, at, count)
 }

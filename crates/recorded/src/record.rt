@@ -1,13 +1,9 @@
 // Numbers in a record, low byte first.
 ghost use Rattle.std.specs.Prelude.{◌≡◌, ◌↔◌, IsTrue};
 
-fn wide(byte: u8) -> u32 {
-    u32::from(byte)
-}
-
 // The byte at a place; 0 past the end.
 pub fn byte_at(record: &[u8], at: usize) -> u8 {
-    if at < record.len() { record[at] } else { 0 }
+    record.get(at).copied().unwrap_or(0)
 }
 
 // The four bytes at a place; 0 where one of them is past the end.
@@ -18,10 +14,10 @@ pub fn word_at(record: &[u8], at: usize) -> u32 {
     if record.len() - 4 < at {
         return 0;
     }
-    wide(record[at])
-        | wide(record[at + 1]) << 8
-        | wide(record[at + 2]) << 16
-        | wide(record[at + 3]) << 24
+    u32::from(record[at])
+        | u32::from(record[at + 1]) << 8
+        | u32::from(record[at + 2]) << 16
+        | u32::from(record[at + 3]) << 24
 }
 
 // The same, and as an index.
@@ -33,18 +29,13 @@ pub fn size_at(record: &[u8], at: usize) -> usize {
     word_at(record, at) as usize
 }
 
-// The i64 that has these bits.
-fn with_bits(bits: u64) -> i64 {
-    bits.cast_signed()
-}
-
 // The eight bytes at a place as a signed number.
 pub fn instant_at(record: &[u8], at: usize) -> i64 {
     let next = at.wrapping_add(4);
-    with_bits(long_at(record, at) | long_at(record, next) << 32)
+    (long_at(record, at) | long_at(record, next) << 32).cast_signed()
 }
 
-// Whether a record has these words from a place on.
+// Whether a record has these words from a place on. It and the next stay two: past the end both a word and a byte are 0, each by its own reader.
 pub fn same_words_at(words: &[u32], record: &[u8], from: usize) -> bool {
     let mut at = from;
     for word in words {

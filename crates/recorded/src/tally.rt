@@ -16,7 +16,7 @@ fn count(tally: &mut [u64], which: usize) {
 }
 
 fn counted(tally: &[u64], which: usize) -> u64 {
-    if which < tally.len() { tally[which] } else { 0 }
+    tally.get(which).copied().unwrap_or(0)
 }
 
 // One more case of an op; a skipped one is of none.

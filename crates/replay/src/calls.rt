@@ -2,52 +2,32 @@
 // Open, both lookups and local time are those that firmware calls.
 ghost use Rattle.std.specs.Prelude.{◌≡◌, ◌≤◌, length};
 
-use header::text::{String, read_string};
+use header::text::read_string;
 use header::utf8::is_utf8;
 use numbers::float::bits::of_bits;
 use recorded::record::{byte_at, instant_at, size_at, word_at};
 use recorded::reply::{
     Reply, answered, answered_none, described, known, refused, spoken, unspoken,
 };
-use tzif::local::{Local, LocalTime, local_time, offset_bits};
+use tzif::local::{Local, local_time, offset_bits};
+use tzif::refusal::Refusal;
 use uskelzar::{
     uskelzar_local_time, uskelzar_lookup, uskelzar_lookup_strict, uskelzar_open,
     uskelzar_open_strict, uskelzar_simple_lookup,
 };
 
-fn run_open(file: &[u8], text: &mut [u8]) -> Reply {
+// A call by its number and the words that it leaves.
+fn said<F: FnOnce(&mut [u64; 5]) -> u8>(call: F) -> Reply
+    requires { F.IsAlwaysCallable call }
+{
     let mut words = unspoken();
-    let number = uskelzar_open(file, text, &mut words);
-    spoken(number, words)
-}
-
-fn run_open_strict(file: &[u8], text: &mut [u8]) -> Reply {
-    let mut words = unspoken();
-    let number = uskelzar_open_strict(file, text, &mut words);
+    let number = call(&mut words);
     spoken(number, words)
 }
 
 // A coordinate of a record.
 fn coordinate(record: &[u8], at: usize) -> f32 {
     of_bits(word_at(record, at))
-}
-
-fn run_lookup(record: &[u8], file: &[u8], slots: &mut [u32], text: &mut [u8]) -> Reply {
-    let lat = coordinate(record, 5);
-    let lon = coordinate(record, 9);
-    let asked = byte_at(record, 13) != 0;
-    let mut words = unspoken();
-    let number = uskelzar_lookup(file, lat, lon, asked, slots, text, &mut words);
-    spoken(number, words)
-}
-
-fn run_lookup_strict(record: &[u8], file: &[u8], slots: &mut [u32], text: &mut [u8]) -> Reply {
-    let lat = coordinate(record, 5);
-    let lon = coordinate(record, 9);
-    let asked = byte_at(record, 13) != 0;
-    let mut words = unspoken();
-    let number = uskelzar_lookup_strict(file, lat, lon, asked, slots, text, &mut words);
-    spoken(number, words)
 }
 
 fn run_simple(record: &[u8], file: &[u8], slots: &mut [u32], text: &mut [u8]) -> Reply {
@@ -59,9 +39,12 @@ fn run_simple(record: &[u8], file: &[u8], slots: &mut [u32], text: &mut [u8]) ->
 }
 
 fn run_either(record: &[u8], file: &[u8], slots: &mut [u32], text: &mut [u8]) -> Reply {
+    let lat = coordinate(record, 5);
+    let lon = coordinate(record, 9);
+    let asked = byte_at(record, 13) != 0;
     match byte_at(record, 0) {
-        2 | 14 => run_lookup(record, file, slots, text),
-        8 | 16 => run_lookup_strict(record, file, slots, text),
+        2 | 14 => said(|words| uskelzar_lookup(file, lat, lon, asked, slots, text, words)),
+        8 | 16 => said(|words| uskelzar_lookup_strict(file, lat, lon, asked, slots, text, words)),
         _ => run_simple(record, file, slots, text),
     }
 }
@@ -81,13 +64,13 @@ pub fn filled_words() -> [u32; 5464]
 
 // A word of a list; 0 past the end.
 fn word_in(words: &[u32], at: usize) -> u32 {
-    if at < words.len() { words[at] } else { 0 }
+    words.get(at).copied().unwrap_or(0)
 }
 
 // The list with three words a hit: the place is left out.
 pub fn leave_out(words: &[u32], slots: &mut [u32]) {
     for i in 0..slots.len() {
-        slots[i] = word_in(words, std::num::wrapping_add_usize(i, i / 3));
+        slots[i] = word_in(words, i.wrapping_add(i / 3));
     }
 }
 
@@ -113,19 +96,21 @@ fn run_in_three(record: &[u8], file: &[u8], slots: &mut [u32], text: &mut [u8]) 
 // As many bytes as the text has, from a place of the file on, each XOR 0x80.
 fn unmask(file: &[u8], start: usize, text: &mut [u8]) {
     for i in 0..text.len() {
-        text[i] = byte_at(file, std::num::wrapping_add_usize(start, i)) ^ 0x80;
+        text[i] = byte_at(file, start.wrapping_add(i)) ^ 0x80;
     }
 }
 
 // Size and next place, and the bytes in the text.
 fn run_string(file: &[u8], metadata: u32, place: usize, text: &mut [u8]) -> Reply {
     match read_string(file, false, metadata, place) {
-        String::Text(string) => {
+        Ok(string) => {
             unmask(file, string.start, text);
             answered([string.size as u64, string.next as u64, 0, 0, 0])
         }
-        String::Failed => answered_none([0; 5]),
-        String::Refused(number) => refused(number, [0; 5]),
+        Err(stop) => match stop.refusal() {
+            Some(why) => refused(why.number, [0; 5]),
+            None => answered_none([0; 5]),
+        },
     }
 }
 
@@ -145,11 +130,11 @@ fn local_of(local: Local) -> Reply {
     answered([offset, daylight, length, 0, 0])
 }
 
-fn told_local(time: LocalTime) -> Reply {
+fn told_local(time: Result<Option<Local>, Refusal>) -> Reply {
     match time {
-        LocalTime::Local(local) => local_of(local),
-        LocalTime::Unknown => answered_none([0; 5]),
-        LocalTime::Refused(why) => refused(why.number, [0, why.detail as u64, 0, 0, 0]),
+        Ok(Some(local)) => local_of(local),
+        Ok(None) => answered_none([0; 5]),
+        Err(why) => refused(why.number, [0, why.detail as u64, 0, 0, 0]),
     }
 }
 
@@ -169,8 +154,8 @@ fn run_listed(record: &[u8], file: &[u8], text: &mut [u8]) -> Reply {
 // in the place of both, and 21 local time by the transitions alone.
 pub fn run(record: &[u8], file: &[u8], slots: &mut [u32], text: &mut [u8]) -> Reply {
     match byte_at(record, 0) {
-        1 => run_open(file, text),
-        7 => run_open_strict(file, text),
+        1 => said(|words| uskelzar_open(file, text, words)),
+        7 => said(|words| uskelzar_open_strict(file, text, words)),
         2 | 3 | 8 => run_in_three(record, file, slots, text),
         14 | 15 | 16 => run_either(record, file, slots, text),
         20 => run_local(record, file, text),

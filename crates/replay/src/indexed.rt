@@ -8,7 +8,6 @@ use office::tiles::uskelzar_build_index;
 use recorded::record::{byte_at, long_at, same_bytes_at, same_words_at, size_at, word_at};
 use recorded::reply::{Reply, print_reply, recorded_at, same_reply, spoken, unspoken};
 use std::io::Stdout;
-use std::num::{wrapping_add_u64, wrapping_add_usize};
 use uskelzar::tiles::{uskelzar_index_tied, uskelzar_lookup_indexed, uskelzar_lookup_through};
 
 // So many words' and so many fixes' bytes.
@@ -23,10 +22,12 @@ fn times_17(count: usize) -> usize {
 // FNV-1a: times 2^40 + 2^8 + 2^7 + 2^5 + 2^4 + 2 + 1, modulo 2^64.
 fn mixed(sum: u64, byte: u64) -> u64 {
     let x = sum ^ byte;
-    let low = wrapping_add_u64(x, x << 1);
-    let next = wrapping_add_u64(x << 4, x << 5);
-    let high = wrapping_add_u64(x << 7, x << 8);
-    wrapping_add_u64(wrapping_add_u64(low, next), wrapping_add_u64(high, x << 40))
+    let low = x.wrapping_add(x << 1);
+    let next = (x << 4).wrapping_add(x << 5);
+    let high = (x << 7).wrapping_add(x << 8);
+    low.wrapping_add(next)
+        .wrapping_add(high)
+        .wrapping_add(x << 40)
 }
 
 fn mixed_word(sum: u64, word: u64) -> u64 {
@@ -39,17 +40,16 @@ fn mixed_word(sum: u64, word: u64) -> u64 {
 // A word that is counted goes into the sum; another must be zero, and adds something where it is not.
 fn added(sum: u64, word: u32, counts: bool) -> u64 {
     if counts {
-        return mixed_word(sum, word as u64);
+        return mixed_word(sum, u64::from(word));
     }
-    wrapping_add_u64(sum, word as u64)
+    sum.wrapping_add(u64::from(word))
 }
 
 // The sum of the first so many words, with all others zero.
 fn sum_of(index: &[u32], used: u64) -> u64 {
     let mut sum = 0xCBF2_9CE4_8422_2325;
-    for i in 0..index.len() {
-        let counts = (i as u64) < used;
-        sum = added(sum, index[i], counts);
+    for (i, word) in index.iter().enumerate() {
+        sum = added(sum, *word, (i as u64) < used);
     }
     sum
 }
@@ -71,8 +71,8 @@ fn built_right(record: &[u8], at: usize, file: &[u8], index: &mut [u32]) -> bool
     let mut words = unspoken();
     let number = uskelzar_build_index(file, index, &mut words);
     let got = spoken(number, words);
-    let low = long_at(record, wrapping_add_usize(at, 18));
-    let high = long_at(record, wrapping_add_usize(at, 22));
+    let low = long_at(record, at.wrapping_add(18));
+    let high = long_at(record, at.wrapping_add(22));
     if !same_reply(got, recorded_built(record, at)) {
         return false;
     }
@@ -82,80 +82,55 @@ fn built_right(record: &[u8], at: usize, file: &[u8], index: &mut [u32]) -> bool
     sum_of(index, 0) == 0xCBF2_9CE4_8422_2325
 }
 
-// By the function that holds the words against the file at each call, and by that which does not.
-fn ask(
+// The fix of a record, looked up; how is for the caller to say.
+fn ask<F: Fn(f32, f32, bool, &mut [u32], &mut [u8], &mut [u64; 5]) -> u8>(
     record: &[u8],
     fix: usize,
-    file: &[u8],
-    index: &[u32],
-    compares: bool,
+    look: &F,
     slots: &mut [u32],
     text: &mut [u8],
-) -> Reply {
+) -> Reply
+    requires { F.IsAlwaysCallable look.now }
+{
     let lat = of_bits(word_at(record, fix));
-    let lon = of_bits(word_at(record, wrapping_add_usize(fix, 4)));
-    let asked = byte_at(record, wrapping_add_usize(fix, 8)) != 0;
+    let lon = of_bits(word_at(record, fix.wrapping_add(4)));
+    let asked = byte_at(record, fix.wrapping_add(8)) != 0;
     let mut words = unspoken();
-    if compares {
-        let number = uskelzar_lookup_indexed(file, index, lat, lon, asked, slots, text, &mut words);
-        return spoken(number, words);
-    }
-    let number = uskelzar_lookup_through(file, index, lat, lon, asked, slots, text, &mut words);
+    let number = look(lat, lon, asked, slots, text, &mut words);
     spoken(number, words)
 }
 
-fn ask_without_places(
+// With three words a hit.
+fn ask_in_three<F: Fn(f32, f32, bool, &mut [u32], &mut [u8], &mut [u64; 5]) -> u8>(
     record: &[u8],
     fix: usize,
-    file: &[u8],
-    index: &[u32],
-    compares: bool,
-    words: &mut [u32],
+    look: &F,
     slots: &mut [u32],
     text: &mut [u8],
-) -> Reply {
-    let reply = ask(record, fix, file, index, compares, words, text);
-    leave_out(words, slots);
+) -> Reply
+    requires { F.IsAlwaysCallable look.now }
+{
+    let size = in_four(slots.len());
+    let mut words = filled_words();
+    let lent = &mut words[..size];
+    let reply = ask(record, fix, look, lent, text);
+    leave_out(lent, slots);
     reply
 }
 
-// With three words a hit.
-fn ask_in_three(
+fn ask_either<F: Fn(f32, f32, bool, &mut [u32], &mut [u8], &mut [u64; 5]) -> u8>(
     record: &[u8],
     fix: usize,
-    file: &[u8],
-    index: &[u32],
-    compares: bool,
+    look: &F,
     slots: &mut [u32],
     text: &mut [u8],
-) -> Reply {
-    let size = in_four(slots.len());
-    let mut words = filled_words();
-    ask_without_places(
-        record,
-        fix,
-        file,
-        index,
-        compares,
-        &mut words[..size],
-        slots,
-        text,
-    )
-}
-
-fn ask_either(
-    record: &[u8],
-    fix: usize,
-    file: &[u8],
-    index: &[u32],
-    compares: bool,
-    slots: &mut [u32],
-    text: &mut [u8],
-) -> Reply {
+) -> Reply
+    requires { F.IsAlwaysCallable look.now }
+{
     if byte_at(record, 0) == 13 {
-        return ask_in_three(record, fix, file, index, compares, slots, text);
+        return ask_in_three(record, fix, look, slots, text);
     }
-    ask(record, fix, file, index, compares, slots, text)
+    ask(record, fix, look, slots, text)
 }
 
 fn filled_bytes() -> [u8; 1024]
@@ -171,109 +146,113 @@ fn filled_index() -> [u32; 8448]
 }
 
 // A lookup's reply, slots and text, as the record has them from a place on.
-fn looked_right(
+fn looked_right<F: Fn(f32, f32, bool, &mut [u32], &mut [u8], &mut [u64; 5]) -> u8>(
     to: Stdout,
     record: &[u8],
     fix: usize,
     at: usize,
-    file: &[u8],
-    index: &[u32],
-    compares: bool,
+    look: &F,
     slots: &mut [u32],
     text: &mut [u8],
-) -> bool {
-    let got = ask_either(record, fix, file, index, compares, slots, text);
+) -> bool
+    requires { F.IsAlwaysCallable look.now }
+{
+    let got = ask_either(record, fix, look, slots, text);
     if !same_reply(got, recorded_at(record, at)) {
         print_reply(to, got);
         return false;
     }
-    let words = wrapping_add_usize(at, 34);
+    let words = at.wrapping_add(34);
     if !same_words_at(slots, record, words) {
         return false;
     }
-    same_bytes_at(
-        text,
-        record,
-        wrapping_add_usize(words, times_4(slots.len())),
-    )
+    same_bytes_at(text, record, words.wrapping_add(times_4(slots.len())))
 }
 
-// A fix: the bytes of what is expected, or 0 where it is another.
-fn fix_right(
+// A fix: the bytes of what is expected; none where it came out otherwise.
+fn fix_right<F: Fn(f32, f32, bool, &mut [u32], &mut [u8], &mut [u64; 5]) -> u8>(
     to: Stdout,
     record: &[u8],
     fix: usize,
     at: usize,
-    file: &[u8],
-    index: &[u32],
-    compares: bool,
-) -> usize {
-    let count = size_at(record, wrapping_add_usize(fix, 9));
-    let room = size_at(record, wrapping_add_usize(fix, 13));
+    look: &F,
+) -> Option<usize>
+    requires { F.IsAlwaysCallable look.now }
+{
+    let count = size_at(record, fix.wrapping_add(9));
+    let room = size_at(record, fix.wrapping_add(13));
     if 4096 < count {
-        return 0;
+        return None;
     }
     if 1024 < room {
-        return 0;
+        return None;
     }
     let mut slots = filled_words();
     let mut text = filled_bytes();
-    let right = looked_right(
-        to,
-        record,
-        fix,
-        at,
-        file,
-        index,
-        compares,
-        &mut slots[..count],
-        &mut text[..room],
-    );
-    if right { 34 + 4 * count + room } else { 0 }
+    let lent = &mut slots[..count];
+    if looked_right(to, record, fix, at, look, lent, &mut text[..room]) {
+        Some(34 + 4 * count + room)
+    } else {
+        None
+    }
 }
 
 // Every fix, and nothing behind the last.
-fn fixes_right(
+fn fixes_right<F: Fn(f32, f32, bool, &mut [u32], &mut [u8], &mut [u64; 5]) -> u8>(
     to: Stdout,
     record: &[u8],
     first: usize,
     from: usize,
-    count: usize,
-    file: &[u8],
-    index: &[u32],
-    compares: bool,
-) -> bool {
+    look: F,
+) -> bool
+    requires { F.IsAlwaysCallable look }
+{
     let mut fix = first;
     let mut at = from;
-    for _ in 0..count {
-        let size = fix_right(to, record, fix, at, file, index, compares);
-        if size == 0 {
+    for _ in 0..size_at(record, 21) {
+        let Some(size) = fix_right(to, record, fix, at, &look) else {
             return false;
-        }
-        at = wrapping_add_usize(at, size);
-        fix = wrapping_add_usize(fix, 17);
+        };
+        at = at.wrapping_add(size);
+        fix = fix.wrapping_add(17);
     }
     at == record.len()
 }
 
-// All fixes with a comparison, and again without one where the words go with the file.
+// All fixes by the function that holds the words against the file at each call, and again by that which does not, where the words go with the file.
 fn lookups_right(
     to: Stdout,
     record: &[u8],
     first: usize,
     from: usize,
-    count: usize,
     file: &[u8],
     index: &[u32],
 ) -> bool {
-    if !fixes_right(to, record, first, from, count, file, index, true) {
+    let compared = fixes_right(
+        to,
+        record,
+        first,
+        from,
+        |lat: f32, lon: f32, asked: bool, slots: &mut [u32], text: &mut [u8], words: &mut [u64; 5]| {
+            uskelzar_lookup_indexed(file, index, lat, lon, asked, slots, text, words)
+        },
+    );
+    if !compared {
         return false;
     }
     let mut words = unspoken();
-    if uskelzar_index_tied(file, index, &mut words) == 0 {
-        return fixes_right(to, record, first, from, count, file, index, false);
+    if uskelzar_index_tied(file, index, &mut words) != 0 {
+        return true;
     }
-    true
+    fixes_right(
+        to,
+        record,
+        first,
+        from,
+        |lat: f32, lon: f32, asked: bool, slots: &mut [u32], text: &mut [u8], words: &mut [u64; 5]| {
+            uskelzar_lookup_through(file, index, lat, lon, asked, slots, text, words)
+        },
+    )
 }
 
 // Through so many of the words as are lent.
@@ -285,12 +264,10 @@ fn lent_right(
     file: &[u8],
     index: &[u32],
 ) -> bool {
-    let lent = size_at(record, 9);
-    let count = size_at(record, 21);
-    if index.len() < lent {
-        return false;
+    match index.get(..size_at(record, 9)) {
+        Some(lent) => lookups_right(to, record, first, from, file, lent),
+        None => false,
     }
-    lookups_right(to, record, first, from, count, file, &index[0..lent])
 }
 
 // Builds, and looks up in the other file.
@@ -303,18 +280,11 @@ fn run_index(
     index: &mut [u32],
 ) -> bool {
     let fixes = times_17(size_at(record, 21));
-    let from = wrapping_add_usize(first, fixes);
+    let from = first.wrapping_add(fixes);
     if !built_right(record, from, file, index) {
         return false;
     }
-    lent_right(
-        to,
-        record,
-        first,
-        wrapping_add_usize(from, 26),
-        other,
-        index,
-    )
+    lent_right(to, record, first, from.wrapping_add(26), other, index)
 }
 
 // In as many words as the record says.

@@ -11,32 +11,10 @@ mod write;
 mod yards;
 
 use case::judge;
-use recorded::input::{Found, next_record};
 use recorded::record::byte_at;
-use recorded::tally::{note, print_end, print_op};
-use recorded::verdict::Verdict;
-use std::io::{Stdin, Stdout};
-
-// The next record, and whether there may be more.
-fn run_next(input: &mut Stdin, to: Stdout, space: &mut [u8], tally: &mut [u64]) -> bool {
-    let came = next_record(input, space);
-    let size = came.size;
-    match came.found {
-        Found::Record => note(tally, byte_at(&space[..size], 0), judge(to, &space[..size])),
-        Found::TooLong => note(tally, 0, Verdict::Skipped),
-        Found::Nothing => return false,
-    }
-    true
-}
-
-// Nothing says that the input ends, so the turns are counted up to a number that no run comes to.
-fn run_all(input: &mut Stdin, to: Stdout, space: &mut [u8], tally: &mut [u64]) {
-    for _ in 0..u64::MAX {
-        if !run_next(input, to, space, tally) {
-            return;
-        }
-    }
-}
+use recorded::run::run_all;
+use recorded::tally::{print_end, print_op};
+use std::io::Stdout;
 
 fn report(to: Stdout, tally: &[u64]) {
     print_op(to, tally, b"open", 1);
@@ -68,6 +46,8 @@ fn main(rt: HostRuntime) {
     let to = rt.stdout();
     let mut space = [0u8; 131072];
     let mut tally = [0u64; 28];
-    run_all(&mut rt.stdin(), to, &mut space, &mut tally);
+    run_all(&mut rt.stdin(), &mut space, &mut tally, |record| {
+        (byte_at(record, 0), judge(to, record))
+    });
     report(to, &tally);
 }

@@ -16,7 +16,7 @@ pub fn fixes_at(record: &[u8], at: usize, count: usize) -> [f32; 4097]
     let mut place = at;
     for i in 0..count {
         list[i] = of_bits(word_at(record, place));
-        place = std::num::wrapping_add_usize(place, 4);
+        place = place.wrapping_add(4);
     }
     list
 }

@@ -64,18 +64,11 @@ fn with_digit(value: u64, byte: u8) -> u64 {
 
 // The digits of a word; a sign is passed over.
 pub fn decimal(word: &[u8]) -> u64 {
-    let mut value: u64 = 0;
-    for byte in word {
-        value = with_digit(value, *byte);
-    }
-    value
+    word.iter().fold(0, |value, byte| with_digit(value, *byte))
 }
 
 pub fn is_negative(word: &[u8]) -> bool {
-    if word.len() == 0 {
-        return false;
-    }
-    word[0] == b'-'
+    word.first() == Some(&b'-')
 }
 
 // -size, for a size up to 2^63: as an i64 the least one is no negation.

@@ -6,8 +6,7 @@ use Rattle.line.{proofs.Puts.{put_none, put_then, put_as, put_length, same_put},
 use Rattle.table.{proofs.Words.{slots_size}, specs.{Hits.{width, slots, no_hit}, declared.hits.Hit.{Hit}}}
 use Rattle.zone.specs.{Answer.{answer_of}, Lines.{hex_byte, digits_text, bytes_text, size_of, field_line, field_lines, behind_fields, Behind, match_line, match_lines, refused_line, lines_of}}
 use Rattle.zone.specs.Printed.{count_of, printed_of, Printed}
-use Rattle.zones.specs.{Lent.{Replied, replied}, Lookup.{told_looked}, declared.lookup.{Looked.{Looked}, Zones.{Zones}}}
-use Rattle.zones.specs.declared.lookup.Looked.TheVariants as L
+use Rattle.zones.specs.{Lent.{Replied, replied}, declared.lookup.Zones.{Zones}}
 
 -- ---- some of all bytes went into a buffer, and these are still to come
 pub record Partly (before : List ℕ) (at : ℕ) (all now : List ℕ) (next : ℕ) (rest : List ℕ) : Type 0 where
@@ -158,20 +157,20 @@ module _ (input : List ℕ) (n room : ℕ) {before hits text after : List ℕ} {
         text_is = ap (λ (r : Replied Zones). r.text) e;
       }
 
-  pub printed_zones : {looked : Looked} {zones : Zones} → looked ≡ L.Zones zones → replied (told_looked looked) hits text ≡ answer_of input n room → count ≡ get_or input 14 0
+  pub printed_zones : {looked : Reply Zones} {zones : Zones} → looked ≡ given zones → replied looked hits text ≡ answer_of input n room → count ≡ get_or input 14 0
       → Put before 0 (lines_of count (given zones) hits text) after used → Printed input n room before hits text after used
   printed_zones {looked} {zones} is e c p =
-      printed (given zones) (ap (λ (l : Looked). replied (told_looked l) hits text) (sym is) ∙ e) (c ∙ sym (get_or-drop 8 input 6 0)) p
+      printed (given zones) (ap (λ (l : Reply Zones). replied l hits text) (sym is) ∙ e) (c ∙ sym (get_or-drop 8 input 6 0)) p
 
   printed_by : (why : Refusal) → replied (refused why) hits text ≡ answer_of input n room → count ≡ count_of input → Put before 0 (refused_line why) after used
       → Printed input n room before hits text after used
   unfolding lines_of
   printed_by why e c p = printed (refused why) e c p
 
-pub printed_refused : (input : List ℕ) (n room : ℕ) {before hits text after : List ℕ} {used : ℕ} {looked : Looked} {why : Refusal} → looked ≡ L.Refused why
-    → replied (told_looked looked) hits text ≡ answer_of input n room → Put before 0 (refused_line why) after used → Printed input n room before hits text after used
+pub printed_refused : (input : List ℕ) (n room : ℕ) {before hits text after : List ℕ} {used : ℕ} {looked : Reply Zones} {why : Refusal} → looked ≡ refused why
+    → replied looked hits text ≡ answer_of input n room → Put before 0 (refused_line why) after used → Printed input n room before hits text after used
 printed_refused input n room {hits = hits} {text = text} {why = why} is e p =
-    printed_by input n room why (ap (λ (l : Looked). replied (told_looked l) hits text) (sym is) ∙ e) refl p
+    printed_by input n room why (ap (λ (l : Reply Zones). replied l hits text) (sym is) ∙ e) refl p
 
 -- two outputs that the promise permits for an input are equal: what is printed, how much, and both lent buffers
 pub one_output : {input : List ℕ} {n room : ℕ} {before hits hits' text text' after after' : List ℕ} {used used' : ℕ}

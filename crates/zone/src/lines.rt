@@ -23,9 +23,10 @@ fn hex_digit(n: u8) -> u8
 {
     let digit = n % 16;
     if digit < 10 {
-        return 48 + digit;
+        b'0' + digit
+    } else {
+        b'A' - 10 + digit
     }
-    55 + digit
 }
 
 fn put_hex(out: &mut [u8], at: usize, byte: u8) -> usize
@@ -63,10 +64,8 @@ fn put_digits(out: &mut [u8], at: usize, bytes: &[u8]) -> usize
     ensures { Put out.old at (digits_text bytes.now) out.new result }
 {
     let mut next = at;
-    let mut i = 0;
-    while i < bytes.len() {
-        next = put_hex(out, next, bytes[i]);
-        i += 1;
+    for byte in bytes {
+        next = put_hex(out, next, *byte);
     }
     next
 }
@@ -75,17 +74,11 @@ fn put_digits(out: &mut [u8], at: usize, bytes: &[u8]) -> usize
 fn put_bytes(out: &mut [u8], at: usize, bytes: &[u8]) -> usize
     ensures { Put out.old at (bytes_text bytes.now) out.new result }
 {
-    if bytes.len() == 0 {
+    if bytes.is_empty() {
         return at;
     }
     let next = put(out, at, b' ');
     put_digits(out, next, bytes)
-}
-
-pub fn least(a: usize, b: usize) -> usize
-    ensures { result ≡ min a b }
-{
-    if a < b { a } else { b }
 }
 
 // Where a text's first field ends, or the text: a tag, a length in two bytes, the high one first, and so many bytes.
@@ -94,14 +87,14 @@ fn field_end(text: &[u8]) -> usize
 {
     let high = byte_at(text, 1);
     let low = byte_at(text, 2);
-    least(3 + (high as usize * 256 + low as usize), text.len())
+    (3 + (high as usize * 256 + low as usize)).min(text.len())
 }
 
 fn put_field(out: &mut [u8], at: usize, text: &[u8]) -> usize
     ensures { Put out.old at (field_line text.now) out.new result }
 {
     let end = field_end(text);
-    let start = least(3, end);
+    let start = end.min(3);
     let tag = byte_at(text, 0);
     let name = put_all(out, at, b"field");
     let index = put_number(out, name, tag as u64);
@@ -115,12 +108,10 @@ fn put_fields(out: &mut [u8], at: usize, text: &[u8], count: u8) -> Places
 {
     let mut next = at;
     let mut place = 0;
-    let mut more = count;
-    while 0 < more {
+    for _ in 0..count {
         let end = field_end(&text[place..]);
         next = put_field(out, next, &text[place..]);
         place += end;
-        more -= 1;
     }
     Places {
         out: next,
@@ -151,17 +142,15 @@ fn put_matches(
 ) -> usize
     ensures { Put out.old at (match_lines count (take matches (slots hits.now)) text.now) out.new result }
 {
-    let all = least(matches, room(hits));
+    let all = matches.min(room(hits));
     let mut next = at;
     let mut place = 0;
-    let mut i = 0;
-    while i < all {
+    for i in 0..all {
         let hit = hit_at(hits, i);
         let fields = put_match(out, next, hit);
         let places = put_fields(out, fields, &text[place..], count);
         next = places.out;
         place += places.text;
-        i += 1;
     }
     next
 }

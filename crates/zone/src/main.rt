@@ -12,10 +12,9 @@ use answer::answer;
 use line::bytes::byte_at;
 use line::input::read_full;
 use line::output::say;
-use lines::{least, put_refusal, put_zones};
+use lines::{put_refusal, put_zones};
 use std::io::Stdout;
 use table::hits::WIDTH;
-use zones::lookup::Looked;
 
 // One byte more than is taken, so that a longer input is seen.
 fn input_space() -> [u8; 65537]
@@ -52,14 +51,14 @@ fn zone(input: &[u8], hits: &mut [u32], text: &mut [u8], out: &mut [u8]) -> usiz
         hits.new text.new out.new result }
 {
     match answer(input, hits, text) {
-        Looked::Zones(zones) => put_zones(out, zones, byte_at(input, 14), hits, text),
-        Looked::Refused(why) => put_refusal(out, why),
+        Ok(zones) => put_zones(out, zones, byte_at(input, 14), hits, text),
+        Err(why) => put_refusal(out, why),
     }
 }
 
 // So many bytes, or as many as there are.
 fn print_front(to: Stdout, out: &[u8], used: usize) {
-    let size = least(used, out.len());
+    let size = used.min(out.len());
     say(to, &out[..size]);
 }
 

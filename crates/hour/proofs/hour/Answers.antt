@@ -6,11 +6,11 @@ use Rattle.hour.proofs.hour.Goals as goal
 
 pub returns-then-size-gt65536 : goal.returns-then-size-gt65536
 returns-then-size-gt65536 c =
-    printed-long c.args.input.now (length c.args.text.now) c.if-size-gt65536.true c.requires.0 c.requires.1 c.put_refusal.ensures
+    printed-long c.args.input.now (length c.args.text.now) c.if-size-gt65536.true c.requires.0 c.requires.1 (rw c.refuse.ensures at c.put_refusal.ensures)
 
 pub returns-then-size-lt8 : goal.returns-then-size-lt8
 returns-then-size-lt8 c =
-    printed-short c.args.input.now (length c.args.text.now) c.if-size-gt65536.false c.if-size-lt8.true c.requires.0 c.requires.1 c.put_refusal-then-size-lt8.ensures
+    printed-short c.args.input.now (length c.args.text.now) c.if-size-gt65536.false c.if-size-lt8.true c.requires.0 c.requires.1 (rw c.refuse-then-size-lt8.ensures at c.put_refusal-then-size-lt8.ensures)
 
 pub returns : goal.returns
 returns c =

@@ -3,7 +3,7 @@ use Rattle.numbers.proofs.Prelude.{ℕ, suc, ◌^◌, ◌≤◌, ◌<◌, le-leb
 use Rattle.numbers.{proofs.{Prelude.{List, [], ◌∷◌, zip_with, ◌≡◌, refl, sym, ap, ◌∙◌, arith}, Tests.{both}}, specs.Answer.{if◌then◌else◌}}
 use Rattle.border.specs.{Box.{min_z, max_z, box_over}, Place.{point_at}}
 use Rattle.writer.specs.{Moves.{points_of}, Writer.{every, sized, near}}
-use Rattle.builder.specs.Entries.{lesser, greater, best_by, lowest_of, highest_of, box_of, from_south}
+use Rattle.builder.specs.Entries.{lesser, greater, best_by, farthest_of, lowest_of, highest_of, box_of, from_south}
 use Rattle.promises.specs.Built.Seats.{bounds_in}
 use Rattle.table.specs.Ordered.{bounds_around}
 use Rattle.border.specs.Box as B
@@ -61,7 +61,7 @@ box_over_lem (y ∷ lats) [] e a b c d = absurd (omega arith)
 box_over_lem (y ∷ lats) (x ∷ lons) e a b c d = box_over_lem lats lons (omega arith) (min_z a y) (min_z b x) (max_z c y) (max_z d x)
 
 pub boxes_same : (lats lons : List ℤ) → sized lats lons ≡ true → bounds_in (box_of lats lons) ≡ bounds_around (B.box_of (points_of lats lons))
-unfolding sized lowest_of highest_of points_of zip_with B.box_of
+unfolding sized farthest_of points_of zip_with B.box_of
 boxes_same [] lons h = let z = (both (eqb (length {A = ℤ} []) (length lons)) _ h).1 in let w : ◌≡◌ {A = ℕ} 0 1 = cc in absurd (omega arith)
 boxes_same (y ∷ lats) [] h = let e = eqb-true (suc (length lats)) 0 (both (eqb (suc (length lats)) 0) (ltb 0 (suc (length lats)) && leb (suc (length lats)) 65535) h).0 in absurd (omega arith)
 boxes_same (y ∷ lats) (x ∷ lons) h =
@@ -84,13 +84,13 @@ best_near f keeps z [] h k = h
 best_near f keeps z (x ∷ zs) h k = let now = both (near x) (every near zs) k in best_near f keeps (f z x) zs (keeps z x h now.0) now.1
 
 pub lowest_small : (zs : List ℤ) → every near zs ≡ true → nat_abs (lowest_of zs) < 2 ^ 30
-unfolding lowest_of every lesser
+unfolding farthest_of every lesser
 lowest_small [] h = omega arith
 lowest_small (z ∷ zs) h = let now = both (near z) (every near zs) h in
     near_small (best_by lesser z zs) (best_near lesser (λ a b p q. chosen_near (lt_z b a) b a q p) z zs now.0 now.1)
 
 pub highest_small : (zs : List ℤ) → every near zs ≡ true → nat_abs (highest_of zs) < 2 ^ 30
-unfolding highest_of every greater
+unfolding farthest_of every greater
 highest_small [] h = omega arith
 highest_small (z ∷ zs) h = let now = both (near z) (every near zs) h in
     near_small (best_by greater z zs) (best_near greater (λ a b p q. chosen_near (lt_z a b) b a q p) z zs now.0 now.1)

@@ -3,7 +3,7 @@ use Rattle.numbers.proofs.Prelude.{ℕ, ◌+◌, ◌-◌, ◌*◌, ◌/◌, ◌�
 use Rattle.numbers.{proofs.Replies.{given_one}, specs.{Lists.{zeros, padded}, Reply.{Reply, given, refused}}}
 use Rattle.header.specs.{Header.{head_by}, Opening.{opened_by}, declared.header.Head.{Head}}
 use Rattle.salvage.{proofs.Listing.{salvage_list, two_words}, specs.{Kept.{entry_good, line_if, kept_of, lines_from}, Promises.{ListOf, KeptFile}}}
-use Rattle.salvage.specs.Salvage.{Salvaged, salvaged_of, Counts, replied_of, salvaged}
+use Rattle.salvage.specs.{Salvage.{Salvaged, salvaged_of, replied_of, salvaged}, declared.rescue.reply.Counts.{Counts}}
 use Rattle.promises.proofs.Salvaged.{Again.{salvage_again}, KeptAgain.{salvage_kept}, Opens.{salvaged_strict, salvaged_opens_alike}, Parts.{Made, made_from}}
 use Rattle.promises.proofs.Salvaged.SameLookups.{salvage_same, salvage_same_simply}
 use Rattle.promises.specs.Salvaged.{Opens.{OpensStrictly}, Same.{SameAnswers, SameSimply}}
@@ -13,7 +13,7 @@ use Rattle.table.specs.Rows as T
 pub record Answered (file : List ℕ) (words room : ℕ) (counts : Counts) : Type 0 where
   pub s : Salvaged
   pub is : salvaged_of file words room ≡ given s
-  pub counted : counts ≡ record { length' = length s.file; lines = length s.lines / 2; kept = length s.kept }
+  pub counted : counts ≡ record { size = length s.file; lines = length s.lines / 2; kept = length s.kept }
   pub list : (salvaged file words room).list ≡ padded words s.lines
   pub out : (salvaged file words room).out ≡ padded room s.file
 
@@ -54,13 +54,13 @@ nothing_dropped {file} {words} {room} {counts} a zero_lines = let m = made_from 
       go m few (inr some) = absurd (omega (arith, few, some, ap length m.lines_are))
 
 -- ---- the file that was written, and theorems in the words of the lent outputs
-pub written_file : {file : List ℕ} {words room : ℕ} {counts : Counts} (a : Answered file words room counts) → take counts.length' (salvaged file words room).out ≡ a.s.file
+pub written_file : {file : List ℕ} {words room : ℕ} {counts : Counts} (a : Answered file words room counts) → take counts.size (salvaged file words room).out ≡ a.s.file
 written_file {file} {words} {room} {counts} a =
-    ap (λ (c : Counts). take c.length' (salvaged file words room).out) a.counted ∙ ap (take (length a.s.file)) a.out ∙ take-append_seam a.s.file (zeros (room - length a.s.file))
+    ap (λ (c : Counts). take c.size (salvaged file words room).out) a.counted ∙ ap (take (length a.s.file)) a.out ∙ take-append_seam a.s.file (zeros (room - length a.s.file))
 
 module _ (file : List ℕ) (words room : ℕ) (counts : Counts) (e : (salvaged file words room).reply ≡ given counts) where
   abbrev pub written : List ℕ
-  written = take counts.length' (salvaged file words room).out
+  written = take counts.size (salvaged file words room).out
 
   a : Answered file words room counts
   a = answered_from file words room counts e
@@ -116,21 +116,21 @@ module _ (file : List ℕ) (words room : ℕ) (counts : Counts) (e : (salvaged f
     lent_list_rest = a.list ∙ ap (padded words) (sym written_list)
 
   -- Salvaged again, with room for it, it is answered with its length, no line and as many entries; the list is all zero, and the output is the same file.
-  pub lent_again : (words' room' : ℕ) → counts.length' ≤ room'
-      → salvaged written words' room' ≡ record { reply = given (record { length' = counts.length'; lines = 0; kept = counts.kept }); list = padded words' []; out = padded room' written }
+  pub lent_again : (words' room' : ℕ) → counts.size ≤ room'
+      → salvaged written words' room' ≡ record { reply = given (record { size = counts.size; lines = 0; kept = counts.kept }); list = padded words' []; out = padded room' written }
   unfolding salvaged
   lent_again words' room' fits = let same = written_file a in
-      let long : length a.s.file ≡ counts.length' = sym (ap (λ (c : Counts). c.length') a.counted) in
+      let long : length a.s.file ≡ counts.size = sym (ap (λ (c : Counts). c.size) a.counted) in
       let many : length a.s.kept ≡ counts.kept = sym (ap (λ (c : Counts). c.kept) a.counted) in
       let g = salvage_again file words words' room room' a.s a.is (omega (arith, long, fits)) in
       ap (λ (f : List ℕ). replied_of words' room' (salvaged_of f words' room')) same
       ∙ ap (replied_of words' room') g.answered
       ∙ (λ i. record {
-        reply = given (record { length' = length (g.same.same_file i); lines = length (g.same.no_lines i) / 2; kept = g.same.same_count i });
+        reply = given (record { size = length (g.same.same_file i); lines = length (g.same.no_lines i) / 2; kept = g.same.same_count i });
         list = padded words' (g.same.no_lines i);
         out = padded room' (g.same.same_file i);
       })
-      ∙ (λ i. record { reply = given (record { length' = long i; lines = 0; kept = many i }); list = padded words' []; out = padded room' (sym same i) })
+      ∙ (λ i. record { reply = given (record { size = long i; lines = 0; kept = many i }); list = padded words' []; out = padded room' (sym same i) })
 
   -- No line: the same answers of lookups in it and in the old file.
   module _ (dropped : counts.lines ≡ 0) where

@@ -1,23 +1,22 @@
 -- Simple lookups in two files with like rows and the same names give the same matches and description, or the same refusal. Assumes nothing.
 use Rattle.numbers.proofs.Prelude.{ℕ, suc, ◌+◌, ◌/◌, eqb, length, length-map, Bool, true, false, List, [], ◌∷◌, ◌++◌, ◌≡◌, refl, sym, ap, subst, ◌∙◌, arith}
 use Rattle.numbers.specs.{Answer.{if◌then◌else◌}, Reply.{Reply, given, ◌>>=◌, ◌>>◌}}
-use mathlib.Core.Option.{Option, some}
+use Rattle.std.specs.Prelude.{Option, Some, None}
 use Rattle.header.specs.{Header.{blame_of}, Text.{bytes_of, text_at}, declared.{header.{Head.{Head}, Preamble.{Preamble}}, text.Text.{Text}}}
 use Rattle.table.{proofs.Merged.{Each, next}, specs.{Find.{Matched, matched_with}, Hits.{width}, Rows.{rows_in, as_rows}, declared.{hits.Hit.{Hit}, location.Location.{Location}, rows.Row.{Row}}}}
 use Rattle.zones.proofs.PlaceLeftOut.{bare_hit, bare}
 use Rattle.zones.specs.{Fields.{fields_place}, Lent.{Outcome}, Simple.{part_of, begun, newer, joined, picked_from, picked_of, checked, description_of, bytes_in}}
-use Rattle.zones.specs.{Simple.{length_in, fitting, worded_of, described_with}, declared.simple.{Described.{Described}, Picked.{Picked}, Value.{Value}}}
+use Rattle.zones.specs.{Simple.{length_in, fitting, worded_of, described_with}, declared.simple.{Described.{Described}, Picked.{Picked}}}
 use Rattle.promises.proofs.Salvaged.{Alike.{compared, bare_matched, both_given, SameRecord, AllLike}, Carried.{SameTexts, no_more, one_more}}
 use Rattle.promises.proofs.Salvaged.{LookedAlike.{Read, MatchesRead, matched_like, matched_each}, TextsAgain.{SameNames, no_names, one_name}}
 use Rattle.promises.specs.Salvaged.Same.{unmarked_simple}
 use Rattle.numbers.specs.Reply as R
-use Rattle.zones.specs.declared.simple.Value.TheVariants as X
 
 module _ (f f' : List ℕ) (h h' : Head) (preamble : h'.preamble ≡ h.preamble) where
   -- ---- what is picked has the same bytes
-  data LikeValue : Value → Value → Type 0 where
-    missing : LikeValue X.Missing X.Missing
-    at : {t t' : Text} → bytes_of f' t' ≡ bytes_of f t → LikeValue (X.At t) (X.At t')
+  data LikeValue : Option Text → Option Text → Type 0 where
+    missing : LikeValue None None
+    at : {t t' : Text} → bytes_of f' t' ≡ bytes_of f t → LikeValue (Some t) (Some t')
 
   record LikePicked (p p' : Picked) : Type 0 where
     one : LikeValue p.one p'.one
@@ -26,23 +25,23 @@ module _ (f f' : List ℕ) (h h' : Head) (preamble : h'.preamble ≡ h.preamble)
   begun_like : (kind : ℕ) → LikePicked (begun kind) (begun kind)
   unfolding bytes_of
   begun_like kind = go (eqb kind 0x54) where
-    go : (t : Bool) → LikePicked (record { one = X.Missing; two = if t then X.Missing else X.At (record { start = 0; size = 0; next = 0 }) })
-        (record { one = X.Missing; two = if t then X.Missing else X.At (record { start = 0; size = 0; next = 0 }) })
+    go : (t : Bool) → LikePicked (record { one = None; two = if t then None else Some (record { start = 0; size = 0; next = 0 }) })
+        (record { one = None; two = if t then None else Some (record { start = 0; size = 0; next = 0 }) })
     go true = record { one = missing; two = missing }
     go false = record { one = missing; two = at refl }
 
   newer_like : (part : ℕ) (v v' : Text) {p p' : Picked} → bytes_of f' v' ≡ bytes_of f v → LikePicked p p' → LikePicked (newer part v p) (newer part v' p')
   newer_like part v v' {p} {p'} e l = go (eqb part 1) (eqb part 2) where
-    go : (s t : Bool) → LikePicked (if s then record { one = X.At v; two = p.two } else (if t then record { one = p.one; two = X.At v } else p))
-        (if s then record { one = X.At v'; two = p'.two } else (if t then record { one = p'.one; two = X.At v' } else p'))
+    go : (s t : Bool) → LikePicked (if s then record { one = Some v; two = p.two } else (if t then record { one = p.one; two = Some v } else p))
+        (if s then record { one = Some v'; two = p'.two } else (if t then record { one = p'.one; two = Some v' } else p'))
     go true t = record { one = at e; two = l.two }
     go false true = record { one = l.one; two = at e }
     go false false = l
 
-  joined_like : {a a' b b' : Value} → LikeValue a a' → LikeValue b b' → joined f' a' b' ≡ joined f a b
+  joined_like : {a a' b b' : Option Text} → LikeValue a a' → LikeValue b b' → joined f' a' b' ≡ joined f a b
   joined_like missing l = refl
   joined_like (at e) missing = refl
-  joined_like (at e) (at g) = λ i. some (e i ++ g i)
+  joined_like (at e) (at g) = λ i. Some (e i ++ g i)
 
   -- ---- the fields of a record, each beside its name
   record Picks (r r' : Reply Picked) : Type 0 where

@@ -1,7 +1,7 @@
 -- Names and notice, written inline, are read back, plainly and strictly. Assumes nothing.
 use Rattle.numbers.proofs.Prelude.{ℕ, zero, suc, ◌+◌, ◌≤◌, ◌<◌, lt-ltb, le-leb, leb-true, eqb-true, eqb-false, eqb, leb, length, take, drop, length-append, length-drop, length-take-le, Bool, true}
 use Rattle.numbers.proofs.Prelude.{false, List, [], ◌∷◌, ◌++◌, map, append_assoc, ◌≡◌, refl, sym, ap, subst, ◌∙◌, add-zero, arith}
-use Rattle.numbers.{proofs.Replies.{given_from, demanded}, specs.{Answer.{Answer, found, failed, refused, if◌then◌else◌}, Reply.{given, refusal, plain, ◌or_else◌}, Spelling.{varint_of}}}
+use Rattle.numbers.{proofs.Replies.{given_from, demanded}, specs.{Answer.{Answer, found, failed, refused, if◌then◌else◌}, Reply.{Reply, given, refusal, plain, ◌or_else◌}, Spelling.{varint_of}}}
 use Rattle.border.proofs.{AtPlace.{at_as, at_inside, at_take, number_at}, OnWay.{At, at_first, at_next}}
 use Rattle.header.{proofs.Strings.{string_lies}, specs.{Field.{entry}, Header.{blame_of, Texts, texts_from}, Text.{within, string_at, bytes_of, or_blamed, text_at}, Utf8.{unmasked, is_utf8}}}
 use Rattle.header.specs.declared.{header.Head.{Head}, text.{Blame.{Blame}, Text.{Text}}}
@@ -175,8 +175,8 @@ module _ (file : List ℕ) (head : Head) (is_strict : head.strict ≡ true) (new
       let five = given_from (texts_inline file head more three.it.next) _ four.1 in
       go one.it was two.it (sym two.is) two.onto three.it same (leb-true _ _ four.0) five.it (sym five.is) five.onto (texts_again names more) where
         go : (text : Text) → TextFound true file 0 place text → (rest : Texts) → texts_from true file names more (index + 1) text.next ≡ given rest
-            → given texts ≡ given (record { bytes = entry (bytes_of file text) ++ rest.bytes; place = rest.place }) → (t : Text) → text ≡ t → t.size ≤ 255
-            → (later : List ℕ) → texts_inline file head more t.next ≡ given later → given bytes ≡ given (varint_of t.size ++ (take t.size (drop t.start file) ++ later))
+            → ◌≡◌ {A = Reply Texts} (given texts) (given (record { bytes = entry (bytes_of file text) ++ rest.bytes; place = rest.place })) → (t : Text) → text ≡ t → t.size ≤ 255
+            → (later : List ℕ) → texts_inline file head more t.next ≡ given later → ◌≡◌ {A = Reply (List ℕ)} (given bytes) (given (varint_of t.size ++ (take t.size (drop t.start file) ++ later)))
             → ((index place place' : ℕ) (texts : Texts) (bytes : List ℕ) → texts_from true file names more index place ≡ given texts → texts_inline file head more
             place ≡ given bytes → At new place' bytes → Both file head new head' names more index place place' texts.bytes bytes) → Both file head new head'
             names (suc more) index place place' texts.bytes bytes

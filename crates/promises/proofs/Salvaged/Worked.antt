@@ -10,7 +10,7 @@ use Rattle.salvage.specs.File.{texts_inline, border_bytes, box_bytes, entry_byte
 use Rattle.salvage.specs.Kept.{border_good, span_inside, string_inside, field_good, fields_good, entry_good, kept_of}
 use Rattle.salvage.specs.{Kept.{lines_from}, Moves.Moves.{end_of, steps_from, moves_by, moves_at, step_number, step_bytes, moves_bytes}, Promises.{ListOf, KeptFile, Again}}
 use Rattle.salvage.specs.Salvage.{Salvaged, salvaged_of}
-use Rattle.salvage.specs.Salvage.{Counts, Replied, replied_of, salvaged}
+use Rattle.salvage.specs.{Salvage.{Replied, replied_of, salvaged}, declared.rescue.reply.Counts.{Counts}}
 use Rattle.promises.proofs.Salvaged.{Again.{salvage_again}, Answered.{written, listed, lent_opens_alike, lent_kept, lent_list, lent_again, lent_same}, KeptAgain.{salvage_kept}}
 use Rattle.promises.proofs.Salvaged.{Opens.{salvaged_strict, salvaged_opens_alike}, PlainlyKept.{salvage_kept_plainly}, SameLookups.{salvage_same, salvage_same_simply}}
 use Rattle.promises.specs.Salvaged.{Opens.{OpensStrictly, KeptPlainly}, Same.{SameAnswers, SameSimply}}
@@ -96,10 +96,10 @@ undamaged_simply = salvage_same_simply undamaged 0 25 none_dropped undamaged_sal
 
 -- ---- and in the words of the lent outputs
 abbrev one_line : Counts
-one_line = record { length' = 25; lines = 1; kept = 1 }
+one_line = record { size = 25; lines = 1; kept = 1 }
 
 abbrev no_line : Counts
-no_line = record { length' = 25; lines = 0; kept = 1 }
+no_line = record { size = 25; lines = 0; kept = 1 }
 
 pub damaged_answered : (salvaged damaged 2 25).reply ≡ given one_line
 unfolding salvaged

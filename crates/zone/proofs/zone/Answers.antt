@@ -3,10 +3,10 @@ use Rattle.numbers.proofs.Prelude.{length}
 use Rattle.zone.proofs.{Printing.{printed_zones, printed_refused}}
 use Rattle.zone.proofs.zone.Goals as goal
 
-pub returns-in-Zones : goal.returns-in-Zones
-returns-in-Zones c =
-    printed_zones c.args.input.now (length c.args.hits.now) (length c.args.text.now) c.in-Zones.is c.answer.ensures c.byte_at.ensures c.put_zones.ensures
+pub returns-in-Ok : goal.returns-in-Ok
+returns-in-Ok c =
+    printed_zones c.args.input.now (length c.args.hits.now) (length c.args.text.now) c.in-Ok.is c.answer.ensures c.byte_at.ensures c.put_zones.ensures
 
-pub returns-in-Refused : goal.returns-in-Refused
-returns-in-Refused c =
-    printed_refused c.args.input.now (length c.args.hits.now) (length c.args.text.now) c.in-Refused.is c.answer.ensures c.put_refusal.ensures
+pub returns-in-Err : goal.returns-in-Err
+returns-in-Err c =
+    printed_refused c.args.input.now (length c.args.hits.now) (length c.args.text.now) c.in-Err.is c.answer.ensures c.put_refusal.ensures

@@ -1,17 +1,18 @@
 -- `hour::lines::put_answer` meets its contract.
-use Rattle.numbers.proofs.Prelude.{sym, ap, w64, to_z-of_z}
+use Rattle.numbers.proofs.Prelude.{refl, w64, to_z-of_z}
 use Rattle.hour.proofs.{Answers.{answered-as, answered-unknown, answered-refused}}
-use Rattle.tzif.specs.{Local.{replied}, declared.local.LocalTime.{LocalTime}}
+use Rattle.std.specs.Prelude.{Option}
+use Rattle.tzif.specs.{Local.{replied}, Reply.{Reply}, declared.local.Local.{Local}}
 use Rattle.hour.proofs.lines.put_answer.Goals as goal
 
-pub returns-in-Local : goal.returns-in-Local
-returns-in-Local c =
-    answered-as (to_z-of_z w64 c.args.instant c.ranges.instant) (ap (λ (r : LocalTime). replied r c.args.text.now) (sym c.in-Local.is)) c.put_local.ensures
+pub returns-in-Ok-Some : goal.returns-in-Ok-Some
+returns-in-Ok-Some c =
+    answered-as (to_z-of_z w64 c.args.instant c.ranges.instant) (let it = rw c.in-Ok-Some.is at c.in-Ok-Some.field-0-is in rw (c.in-Ok-Some.is, it) refl) c.put_local.ensures
 
-pub returns-in-Unknown : goal.returns-in-Unknown
-returns-in-Unknown c =
-    answered-unknown c.args.instant c.args.text.now c.in-Unknown.is c.put_all.ensures
+pub returns-in-Ok-None : goal.returns-in-Ok-None
+returns-in-Ok-None c =
+    let it = rw c.in-Ok-None.is at c.in-Ok-None.field-0-is in answered-unknown c.args.instant c.args.text.now (rw (c.in-Ok-None.is, it) refl) c.put_all.ensures
 
-pub returns-in-Refused : goal.returns-in-Refused
-returns-in-Refused c =
-    answered-refused c.args.instant c.args.text.now _ c.in-Refused.is c.put_refusal.ensures
+pub returns-in-Err : goal.returns-in-Err
+returns-in-Err c =
+    answered-refused c.args.instant c.args.text.now _ c.in-Err.is c.put_refusal.ensures

@@ -1,10 +1,7 @@
--- `line::put::put_all` meets its contract: after i turns the first i bytes stand there.
-use Rattle.numbers.proofs.Prelude.{◌-◌, ◌≤◌, length, take}
+-- `line::put::put_all` in its loop: the bytes before the next one stand there.
+use Rattle.numbers.proofs.Prelude.{◌≤◌, length, take}
 use Rattle.line.specs.Put.{Put}
 use Rattle.line.proofs.put.put_all.Given as goal
 
-abbrev pub invariant-loop-i : goal.invariant-loop-i
-invariant-loop-i l = (l.i ≤ length l.bytes) × Put l.initial.out l.at (take l.i l.bytes) l.out l.next
-
-abbrev pub decreases-loop-i : goal.decreases-loop-i
-decreases-loop-i l = length l.bytes - l.i
+abbrev pub invariant-loop-byte : goal.invariant-loop-byte
+invariant-loop-byte l = (l.byte-index ≤ length l.bytes) × Put l.initial.out l.at (take l.byte-index l.bytes) l.out l.next

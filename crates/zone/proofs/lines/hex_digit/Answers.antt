@@ -6,6 +6,6 @@ pub returns-then-digit-lt10 : goal.returns-then-digit-lt10
 returns-then-digit-lt10 c =
     below_ten _ c.if-digit-lt10.true
 
-pub returns : goal.returns
-returns c =
+pub returns-else-digit-lt10 : goal.returns-else-digit-lt10
+returns-else-digit-lt10 c =
     from_ten _ c.if-digit-lt10.false

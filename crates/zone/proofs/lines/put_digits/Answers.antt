@@ -3,18 +3,18 @@ use Rattle.numbers.proofs.Prelude.{arith}
 use Rattle.zone.proofs.{Printing.{none_yet, partly_length, partly_all, one_byte, no_bytes}}
 use Rattle.zone.proofs.lines.put_digits.Goals as goal
 
-pub loop-i-init : goal.loop-i-init
-loop-i-init c =
-    (omega arith, none_yet _ _ _)
+pub loop-byte-init : goal.loop-byte-init
+loop-byte-init c =
+    none_yet _ _ _
 
-pub loop-i-preserved : goal.loop-i-preserved
-loop-i-preserved c =
-    (omega arith, one_byte c.args.bytes.now c.loop-i.i (omega arith) c.loop-i.invariant.1 c.put_hex-next.ensures)
+pub loop-byte-preserved : goal.loop-byte-preserved
+loop-byte-preserved c =
+    one_byte c.args.bytes.now c.loop-byte.byte-index (omega arith) c.loop-byte.invariant c.put_hex-next.ensures
 
 pub shape_of-out : goal.shape_of-out
 shape_of-out c =
-    partly_length c.loop-i.invariant.1
+    partly_length c.loop-byte.invariant
 
 pub returns : goal.returns
 returns c =
-    partly_all (no_bytes c.args.bytes.now c.loop-i.i (omega arith)) c.loop-i.invariant.1
+    partly_all (no_bytes c.args.bytes.now c.loop-byte.byte-index (omega arith)) c.loop-byte.invariant
