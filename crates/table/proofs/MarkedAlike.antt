@@ -2,7 +2,7 @@
 use Rattle.numbers.{proofs.Prelude.{ℕ, ◌/◌, ◌<◌, ltb-true, ltb, length, Bool, true, false, List, [], ◌∷◌, ◌≡◌, refl, sym, ap, ◌∙◌}, specs.Answer.{if◌then◌else◌}}
 use Rattle.border.specs.declared.place.Point.{Point}
 use Rattle.header.specs.declared.header.Head.{Head}
-use Rattle.table.proofs.marked.Numbered.{turn_of}
+use Rattle.table.proofs.listed.Given.{turn_of}
 use Rattle.table.specs.{Find.{matched_by}, GivenRows.{record_word, box_at, row_at, rows_by, rows_listed, searched_listed, matched_listed}}
 use Rattle.table.specs.{MarkedRows.{judge_numbered, row_numbered, rows_numbered, searched_marked, matched_marked}, Rows.{Rows, row}, Search.{judged_turn, after_turn, row_turn, judge_in, farthest}}
 use Rattle.table.specs.{Table.{holds}, Unstopped.{seek_all}, declared.{hits.Hit.{Hit}, location.Location.{Location}, search.Turn.{Turn, TheVariants.{On}}}}
@@ -25,7 +25,7 @@ module _ (file : List ℕ) (head : Head) (asked : Bool) (records marks : List �
     unfolding row_turn
     turn_alike k least h =
         ap (λ (t : Turn). if holds (box_at records k) fix then t else On least)
-        (ap (judged_turn (row_numbered records k)) (right k h least) ∙ sym (turn_of records k (plain (record_word records k 2) least)))
+        (ap (judged_turn (row_numbered records k)) (right k h least) ∙ sym (turn_of (λ r i. i) records k (plain (record_word records k 2) least)))
 
     abbrev Alike : ℕ → Rows → Rows → Type 0
     Alike room rows rows' = (least : ℕ) (hits : List Hit) → seek_all marked fix room rows least hits ≡ seek_all plain fix room rows' least hits

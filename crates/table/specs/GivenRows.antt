@@ -1,6 +1,7 @@
 -- Rows that are given as words: records of seven words, and the numbers of those to look at, as an index has them.
 use Rattle.std.specs.Prelude.{if◌then◌else◌, ◌+◌, ◌*◌, ◌/◌, ◌∷◌}
 use Rattle.numbers.specs.{Point.{read_i32}, Prelude.{ℕ, ltb, length, get_or, Bool, List, []}, Reply.{Reply}}
+use Rattle.verdict.specs.Verdict.{Judgement}
 use Rattle.border.specs.declared.place.Point.{Point}
 use Rattle.table.specs.{Find.{Matched, matched_by, Finding, finding_of}, Hits.{width}, Rows.{Rows, row, table_end, refused}, Search.{Found, judge_in, farthest}, Unstopped.{seek_all}}
 use Rattle.table.specs.declared.{location.Location.{Location}, rows.Row.{Row}, table.Bounds.{Bounds}}
@@ -31,6 +32,13 @@ rows_by row_of records (k ∷ numbers) = if ltb k (length records / 7) then row 
 
 abbrev pub rows_listed : List ℕ → List ℕ → Rows
 rows_listed records numbers = rows_by row_at records numbers
+
+-- the row of record k with something for the place of its border, and the search of such rows by a judging of what stands there
+abbrev pub row_with : (List ℕ → ℕ → ℕ) → List ℕ → ℕ → Row
+row_with border records k = record { place = record_word records k 0; id = k; metadata = record_word records k 1; polygon = border records k; bounds = box_at records k; next = 0 }
+
+abbrev pub searched_by : (List ℕ → ℕ → ℕ) → (ℕ → ℕ → Judgement) → Point → List ℕ → List ℕ → ℕ → Reply Found
+searched_by border judge fix records numbers room = seek_all judge fix room (rows_by (row_with border) records numbers) farthest []
 
 -- the search of them: every row is looked at, since none stops it
 unfoldable pub searched_listed : List ℕ → Head → Point → Bool → List ℕ → List ℕ → ℕ → Reply Found

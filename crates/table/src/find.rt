@@ -1,4 +1,5 @@
 // What both lookups do in a file whose header was read: its precision is looked at, its table searched, and the hits merged.
+// Stays, point 7: `asked` is the caller's question; a const parameter would compile each loop twice (docs/DECISIONS.md: 8 kB).
 ghost use Rattle.std.specs.Prelude.{◌≡◌, ◌/◌, length};
 ghost use Rattle.numbers.specs.Lists.{zeros};
 ghost use Rattle.table.specs.{Hits.{width}, inner.Agreeing.{Agrees}, Find.{fix_of, is_precision, matched_with, found_with, finding, Matching}};
@@ -64,6 +65,7 @@ pub(crate) fn matches_in(
 }
 
 // The matches at a location, in a file whose header was read; any header is taken.
+// Stays parameters: docs/ name it beside what it takes.
 pub fn find_in(
     file: &[u8],
     head: Head,

@@ -5,6 +5,7 @@ ghost use Rattle.table.specs.Hits.{width, hit_at, put_hit, no_hit};
 // How many words a hit takes.
 pub const WIDTH: usize = 4;
 
+// Stays a number: `hit_at` reads any four words of a lent list, and can't fail.
 #[derive(Clone, Copy)]
 pub struct Hit {
     pub polygon: u32,

@@ -64,14 +64,11 @@ fn gather(hits: &mut [u32], from: usize, id: u32) -> Tally
         excluded: 0,
         border: 0,
     };
-    let mut j = from;
-    while j < room {
+    for j in from..room {
         let hit = hit_at(hits, j);
-        let here = j;
-        j += 1;
         if hit.metadata == id {
             t = joined(t, hit.kind);
-            put_hit(hits, here, none());
+            put_hit(hits, j, none());
         }
     }
     t
@@ -97,13 +94,10 @@ fn merge(hits: &mut [u32]) -> usize
 {
     let room = room(hits);
     let mut out = 0;
-    let mut i = 0;
-    while i < room {
+    for i in 0..room {
         let hit = hit_at(hits, i);
-        let from = i;
-        i += 1;
         if hit.kind != NO_KIND {
-            let kind = kind_of(gather(hits, from, hit.metadata));
+            let kind = kind_of(gather(hits, i, hit.metadata));
             if kind != NO_KIND {
                 put_hit(
                     hits,
@@ -123,6 +117,7 @@ fn merge(hits: &mut [u32]) -> usize
 }
 
 // The same for a list with so many hits at its front and zeros after them.
+// Stays a length: here the list is cut, and the clause speaks of the zeros behind.
 pub fn merge_front(hits: &mut [u32], count: usize) -> usize
     requires { (count ≤ length hits.old / width)
         × (hits.old ≡ padded (length hits.old) (words (take count (slots hits.old))))

@@ -1,5 +1,6 @@
 // The rows that a search passes over: plainly read, not above the location, and not holding it. A reader of the search may skip this
 // file: it only hurries. Any other row is left to the search.
+// Stays, point 3: where the next row begins is known when this one is read.
 ghost use mathlib.Core.{Path.{◌≡◌}, Bool.{true, false}};
 ghost use Rattle.std.specs.Prelude.{Some, ◌+◌, ◌<◌, ◌≤◌, length};
 ghost use Rattle.table.specs.{inner.Passing.{Shortly, Paired, Lons, MissedAt, AboveAt, Passing, PassedOver, Skipping, SkippedOver}, Table.{holds}};
@@ -81,6 +82,7 @@ fn may_hold(file: &[u8], bounds: Bounds, fix: Point, west: usize, east: usize) -
 }
 
 // The box at a place, if it is neither above the location nor holds it.
+// Stays apart from `above_at`: behind the same two lines it tests the longitudes too.
 fn missed_at(file: &[u8], fix: Point, place: usize) -> Option<Bounded>
     requires { place + 17 < length file.now }
     ensures { MissedAt file.now fix place result }
@@ -108,6 +110,7 @@ fn missed_at(file: &[u8], fix: Point, place: usize) -> Option<Bounded>
 }
 
 // The box at a place, if it is above the location.
+// Stays apart from `missed_at`: it gives the boxes above the location, which the other leaves.
 fn above_at(file: &[u8], fix: Point, place: usize) -> Option<Bounded>
     requires { place + 17 < length file.now }
     ensures { AboveAt file.now fix place result }

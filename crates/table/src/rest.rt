@@ -1,4 +1,6 @@
 // The rest of the table, behind the row at which a search stopped early: what its mark is to be.
+// Stays, point 7: a file is read plainly or strictly as C asks; the definitions take a Bool, a const parameter would compile it twice.
+// Stays, point 5: a struct of file, place and strictness, made for each number that is read, is no plainer.
 ghost use Rattle.std.specs.Prelude.{◌≡◌, ◌<◌, nat_lt, if◌then◌else◌};
 ghost use Rattle.numbers.specs.Varint.{nowhere, reading_of, end_of};
 ghost use Rattle.table.specs.{Rows.{rows_from, start_at}, Rest.{rest_mark, five_by, held_by, is_held}};
@@ -11,6 +13,7 @@ use numbers::point::signed;
 use numbers::varint::{NOWHERE, number_end, read_number};
 
 // Where the fifth of five numbers ends, or NOWHERE.
+// Stays a sentinel: the caller's one comparison with the end tells it too, as of `number_end` (numbers).
 fn past_five(file: &[u8], strict: bool, place: usize) -> usize
     ensures { result ≡ end_of (five_by (reading_of strict file.now) place) }
 {
@@ -39,6 +42,7 @@ fn held_at(file: &[u8], strict: bool, place: usize, fix: Point) -> bool
 
 // The mark of a search that stopped at a row which ends at a place. In a table that is in order each row is above the location, so that
 // its lower latitude and its end are all that is worked out.
+// Stays a loop: where the next row begins is known when this one is read.
 pub(crate) fn rest_mark(file: &[u8], strict: bool, end: usize, fix: Point, from: usize) -> u8
     requires { end < nowhere }
     ensures { result ≡ (if nat_lt end «from» then 2 else rest_mark end fix (rows_from (reading_of strict file.now) end (start_at «from»))) }

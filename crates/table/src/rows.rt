@@ -1,4 +1,5 @@
 // The rows of the box table: each entry with its place, its number and the sums of metadata id and border place up to it.
+// Stays, point 7: a file is read plainly or strictly as C asks; the definitions take a Bool, a const parameter would compile it twice.
 ghost use Rattle.std.specs.Prelude.{◌≡◌, ◌+◌, ◌%◌, ◌^◌};
 ghost use Rattle.numbers.specs.{Point.{low32, half_of}, Varint.{told, reading_of}};
 ghost use Rattle.table.specs.Rows.{row_of, after, start_at, row_by};

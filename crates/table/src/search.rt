@@ -1,4 +1,5 @@
 // The search: row by row from the table's start, until the table ends, a row stops it, or a fault is met.
+// Stays, point 7: `asked` is the caller's question; a const parameter would compile each loop twice (docs/DECISIONS.md: 8 kB).
 ghost use Rattle.std.specs.Prelude.{◌≡◌, ◌/◌, length, Ok};
 ghost use Rattle.border.specs.Encoding.{version_of};
 ghost use Rattle.verdict.specs.Verdict.{told};
@@ -110,6 +111,7 @@ pub(crate) fn judge(
     point_in_polygon(file, encoding, place, fix.lat, fix.lon, asked, least)
 }
 
+// Stays parameters: docs/ name it beside what it takes.
 pub fn on_row(file: &[u8], head: Head, fix: Point, asked: bool, row: Row, least: u64) -> Turn
     ensures { result ≡ row_turn (judge_in file.now head fix asked) fix row least }
 {
@@ -120,6 +122,7 @@ pub fn on_row(file: &[u8], head: Head, fix: Point, asked: bool, row: Row, least:
     Turn::On(least)
 }
 
+// Stays apart: it makes a value of its own type; one of equal shape makes another's.
 pub(crate) fn end_with(count: usize, mark: u8, least: u64) -> Result<Ended, Refusal>
     ensures { result ≡ Ok (record { count = count; mark = mark; least = least }) }
 {
@@ -127,6 +130,7 @@ pub(crate) fn end_with(count: usize, mark: u8, least: u64) -> Result<Ended, Refu
 }
 
 // The hits go into the lent words, in the order in which they are met.
+// Stays a loop: where the next row begins is known when this one is read.
 pub(crate) fn search(
     file: &[u8],
     head: Head,

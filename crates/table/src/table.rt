@@ -1,4 +1,6 @@
 // The box table: each entry's bounds, and the steps of its metadata id and of its border's place.
+// Stays, point 7: a file is read plainly or strictly as C asks; the definitions take a Bool, a const parameter would compile it twice.
+// Stays, point 5: a struct of file, place and strictness, made for each number that is read, is no plainer.
 ghost use Rattle.std.specs.Prelude.{◌≡◌, int_le, int_lt};
 ghost use Rattle.numbers.specs.Varint.{told, reading_of};
 ghost use Rattle.table.specs.Table.{bounded_by, entry_by, steps_by, bounds_of, is_above, holds};

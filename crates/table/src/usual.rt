@@ -95,6 +95,7 @@ pub(crate) fn bounds_at(file: &[u8], place: usize) -> Bounds
 }
 
 // No latitude with this first and this last byte is higher.
+// Stays apart from `lowest`: other constants, and the bound is on the other side.
 fn highest(file: &[u8], place: usize) -> FixedLat
     requires { place + 2 < length file.now }
     ensures { le_z (signed_of (long_at file.now place)) result.0 ≡ true }
@@ -108,6 +109,7 @@ fn highest(file: &[u8], place: usize) -> FixedLat
 }
 
 // None is lower.
+// Stays apart from `highest`: other constants, and the bound is on the other side.
 fn lowest(file: &[u8], place: usize) -> FixedLat
     requires { place + 2 < length file.now }
     ensures { le_z result.0 (signed_of (long_at file.now place)) ≡ true }
@@ -121,6 +123,7 @@ fn lowest(file: &[u8], place: usize) -> FixedLat
 }
 
 // Whether such a box is seen to lie below the location.
+// Stays apart from `is_over`: it asks for both latitudes.
 pub(crate) fn is_under(file: &[u8], place: usize, fix: Point) -> bool
     requires { place + 11 < length file.now }
     ensures { result ≡ true → Under file.now place fix }
@@ -135,6 +138,7 @@ pub(crate) fn is_under(file: &[u8], place: usize, fix: Point) -> bool
 }
 
 // Whether it is seen to lie above.
+// Stays apart from `is_under`: it asks for the lower latitude alone.
 pub(crate) fn is_over(file: &[u8], place: usize, fix: Point) -> bool
     requires { place + 11 < length file.now }
     ensures { result ≡ true → Over file.now place fix }

@@ -1,14 +1,15 @@
 -- The search of rows that are given as words, number by number. Assumes nothing.
-use Rattle.numbers.proofs.Prelude.{ℕ, suc, ◌+◌, ◌*◌, ◌/◌, ◌^◌, ◌≤◌, ◌<◌, lt-ltb, le-ltb, length, drop, get_or, drop_of_length-le, drop-cons, true, false, List, ◌∷◌, ◌≡◌, sym, ap, ◌∙◌, arith}
+use Rattle.numbers.proofs.Prelude.{ℕ, suc, ◌+◌, ◌*◌, ◌/◌, ◌^◌, ◌≤◌, ◌<◌, lt-ltb, le-ltb, length, drop, get_or, drop_of_length-le, drop-cons, true, false, List, ◌∷◌, ◌≡◌, refl, sym, ap, ◌∙◌, arith}
 use Rattle.numbers.{proofs.{Coordinates.{twice_read}, Replies.{carried, onward, met, unmet}}, specs.{Point.{read_i32}, Reply.{Reply, given, plain}, declared.refusal.Refusal.{Refusal}}}
 use Rattle.verdict.specs.Verdict.{Judgement}
 use Rattle.border.specs.declared.place.Point.{Point}
-use Rattle.table.proofs.{Agreeing.{agree_refused}, search.SoFar.{SoFar, how, ends}}
-use Rattle.table.specs.{Find.{fix_of, is_precision, matched_by}, GivenRows.{record_word, box_at, row_at, rows_by}, Hits.{width}, Merge.{merged}, Rows.{Rows, row, table_end}}
-use Rattle.table.specs.{Search.{Found, after_turn, row_turn, Sought}, Table.{bounds_of}, Unstopped.{seek_all}, declared.{hits.Hit.{Hit}, location.Location.{Location}, rows.Row.{Row}}}
+use Rattle.table.proofs.{Agreeing.{agree_refused}, search.{SoFar.{SoFar, how, ends}, Turns.{held}}}
+use Rattle.table.specs.{Find.{fix_of, is_precision, matched_by}, GivenRows.{record_word, box_at, row_at, row_with, rows_by}, Hits.{width}, Merge.{merged}, Rows.{Rows, row, table_end}}
+use Rattle.table.specs.{Search.{Found, after_turn, judged_turn, row_turn, Sought}, Table.{bounds_of, holds}, Unstopped.{seek_all}, declared.{hits.Hit.{Hit}, location.Location.{Location}, rows.Row.{Row}}}
 use Rattle.table.specs.{declared.{search.Turn.{Turn}, table.Bounds.{Bounds}}, inner.Agreeing.{Agrees}}
 use Rattle.header.specs.declared.header.Head.{Head}
 use Rattle.numbers.specs.Reply as R
+use Rattle.verdict.specs.Verdict as J
 use Rattle.table.specs.Rows as T
 
 -- ---- a record's box
@@ -22,6 +23,20 @@ pub row_read : (records : List ℕ) (k : ℕ) {place : ℕ} {bounds : Bounds} �
     → record { place = place; id = k; metadata = record_word records k 1; polygon = record_word records k 2; bounds = bounds; next = 0 } ≡ row_at records k
 row_read records k p b = let e : 7 * k ≡ 7 * k + 0 = omega arith in let there = p ∙ ap (λ (i : ℕ). get_or records i 0) e in
     λ i. record { place = there i; id = k; metadata = record_word records k 1; polygon = record_word records k 2; bounds = b i; next = 0 }
+
+-- ---- a record's turn: what stands in its row for the place of its border does not show in it
+pub turn_of : (border : List ℕ → ℕ → ℕ) (records : List ℕ) (k : ℕ) (j : Judgement) → judged_turn (row_at records k) j ≡ judged_turn (row_with border records k) j
+unfolding judged_turn
+turn_of border records k (J.reached verdict least) = refl
+turn_of border records k (J.failed least) = refl
+turn_of border records k (J.refused n) = refl
+
+module _ (border : List ℕ → ℕ → ℕ) (judge : ℕ → ℕ → Judgement) (fix : Point) (records : List ℕ) (k least : ℕ) where
+  pub recorded : holds (box_at records k) fix ≡ true → {r : Row} → r ≡ row_at records k → {j : Judgement} → j ≡ judge (border records k) least
+      → judged_turn r j ≡ row_turn judge fix (row_with border records k) least
+  recorded h {r} e {j} g =
+      ap (judged_turn r) g ∙ ap (λ (x : Row). judged_turn x (judge (border records k) least)) e ∙ turn_of border records k (judge (border records k) least)
+      ∙ held judge fix (row_with border records k) least h
 
 -- ---- the numbers, one by one, by what the row of a record is
 module _ (row_of : List ℕ → ℕ → Row) (records numbers : List ℕ) (i : ℕ) where

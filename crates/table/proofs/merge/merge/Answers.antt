@@ -1,8 +1,9 @@
 -- `table::merge::merge` meets its contract. The loop's invariant is `Merging`: matches, empty slots, and the hits whose group is still to come.
-use Rattle.numbers.proofs.Prelude.{length, ap, ◌∙◌, arith}
+use Rattle.numbers.proofs.Prelude.{◌<◌, length, ap, ◌∙◌, arith}
 use Rattle.table.proofs.{Words.{words_length}, merge.{Merging.{starts, ends, merging_length, taken_length, shaped, slots_length, skips, drops, keeps}}}
 use Rattle.table.specs.{Hits.{slots}, Merge.{tallied}}
 use Rattle.table.proofs.merge.merge.Goals as goal
+use Rattle.table.proofs.merge.merge.Goals.{then-hit-ne-NO_KIND+then-kind-ne-NO_KIND, then-hit-ne-NO_KIND+else-kind-ne-NO_KIND, else-hit-ne-NO_KIND}
 
 pub loop-i-init : goal.loop-i-init
 loop-i-init c =
@@ -11,10 +12,6 @@ loop-i-init c =
 pub hit_at-hit-requires : goal.hit_at-hit-requires
 hit_at-hit-requires c =
     omega (arith, merging_length c.loop-i.invariant.0, c.loop-i.invariant.1, c.loop-i-test.true, c.room-room.ensures)
-
-pub overflow_add-i : goal.overflow_add-i
-overflow_add-i c =
-    omega (arith, c.loop-i-test.true, c.room-room.type_inv)
 
 pub gather-requires : goal.gather-requires
 gather-requires c =
@@ -31,39 +28,23 @@ pub overflow_add-out : goal.overflow_add-out
 overflow_add-out c =
     omega (arith, c.loop-i.invariant.0.place, c.loop-i-test.true, c.room-room.ensures)
 
-pub loop-i-smaller-then-kind-ne-NO_KIND : goal.loop-i-smaller-then-kind-ne-NO_KIND
-loop-i-smaller-then-kind-ne-NO_KIND c =
-    omega (arith, c.loop-i-test.true)
-
-pub loop-i-preserved-then-kind-ne-NO_KIND : goal.loop-i-preserved-then-kind-ne-NO_KIND
-loop-i-preserved-then-kind-ne-NO_KIND c = (
-  keeps c.loop-i.invariant.0 (omega (arith, c.loop-i.invariant.1, c.loop-i-test.true, c.room-room.ensures)) c.hit_at-hit.result c.hit_at-hit.ensures
-      c.if-hit-ne-NO_KIND.true _ (tallied c.gather.result) _ c.gather.ensures.cleared c.gather.ensures.sum c.kind_of-kind.ensures _ c.if-kind-ne-NO_KIND.true
-      c.put_hit.ensures,
-  c.loop-i.invariant.1,
-)
-
-pub loop-i-smaller-else-kind-ne-NO_KIND : goal.loop-i-smaller-else-kind-ne-NO_KIND
-loop-i-smaller-else-kind-ne-NO_KIND c =
-    omega (arith, c.loop-i-test.true)
-
-pub loop-i-preserved-else-kind-ne-NO_KIND : goal.loop-i-preserved-else-kind-ne-NO_KIND
-loop-i-preserved-else-kind-ne-NO_KIND c = (
-  drops c.loop-i.invariant.0 (omega (arith, c.loop-i.invariant.1, c.loop-i-test.true, c.room-room.ensures)) c.hit_at-hit.result c.hit_at-hit.ensures
-      c.if-hit-ne-NO_KIND.true _ (tallied c.gather.result) _ c.gather.ensures.cleared c.gather.ensures.sum c.kind_of-kind.ensures c.if-kind-ne-NO_KIND.false,
-  c.loop-i.invariant.1,
-)
-
-pub loop-i-smaller : goal.loop-i-smaller
-loop-i-smaller c =
-    omega (arith, c.loop-i-test.true)
-
 pub loop-i-preserved : goal.loop-i-preserved
-loop-i-preserved c = (
-  skips c.loop-i.invariant.0 (omega (arith, c.loop-i.invariant.1, c.loop-i-test.true, c.room-room.ensures)) c.hit_at-hit.result c.hit_at-hit.ensures
-      c.if-hit-ne-NO_KIND.false,
-  c.loop-i.invariant.1,
-)
+loop-i-preserved c =
+    let inv = c.loop-i.invariant in
+    let inside : c.loop-i.i < length (slots c.args.hits.now) = omega (arith, inv.1, c.loop-i-test.true, c.room-room.ensures) in
+    elim c.if-hit-ne-NO_KIND.branch [
+      | then-hit-ne-NO_KIND+then-kind-ne-NO_KIND w ↦ rw (w.hits-is, w.out-is) (
+        keeps inv.0 inside c.hit_at-hit.result c.hit_at-hit.ensures w.if-hit-ne-NO_KIND.true _ (tallied w.gather.result) _ w.gather.ensures.cleared w.gather.ensures.sum
+            w.kind_of-kind.ensures _ w.if-kind-ne-NO_KIND.true w.put_hit.ensures,
+        inv.1,
+      )
+      | then-hit-ne-NO_KIND+else-kind-ne-NO_KIND w ↦ rw (w.hits-is, w.out-is) (
+        drops inv.0 inside c.hit_at-hit.result c.hit_at-hit.ensures w.if-hit-ne-NO_KIND.true _ (tallied w.gather.result) _ w.gather.ensures.cleared w.gather.ensures.sum
+            w.kind_of-kind.ensures w.if-kind-ne-NO_KIND.false,
+        inv.1,
+      )
+      | else-hit-ne-NO_KIND w ↦ rw (w.hits-is, w.out-is) (skips inv.0 inside c.hit_at-hit.result c.hit_at-hit.ensures w.if-hit-ne-NO_KIND.false, inv.1)
+    ]
 
 pub shape_of-hits : goal.shape_of-hits
 shape_of-hits c =
