@@ -47,16 +47,11 @@ pub(crate) fn agrees(
     requires { place + size ≤ length bundle.now }
     ensures { result ≡ agrees size (drop place bundle.now) (map (xored mask) (prefix.now ++ id.now)) }
 {
-    // Stays a loop: the name stands in two parts under a mask, so there is no slice to compare.
-    let mut at: usize = 0;
-    let mut left = size;
-    while 0 < left {
-        let byte = byte_of(prefix, id, at, mask);
-        if bundle[place + at] != byte {
+    // The name stands in two parts under a mask, so there is no slice to compare.
+    for at in 0..size {
+        if bundle[place + at] != byte_of(prefix, id, at, mask) {
             return false;
         }
-        at += 1;
-        left -= 1;
     }
     true
 }

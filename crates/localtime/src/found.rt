@@ -4,10 +4,10 @@ ghost use Rattle.localtime.specs.Found.{east_of, found_of, Short, same_octets, s
 ghost use Rattle.tzif.specs.Local.{Held};
 
 use tzif::local::Found;
-use tzif::number::octet;
 use tzrule::ask::Time;
 
 // Seconds east of UT, of seconds west more 604800.
+// Stays a function: the definitions' word, from one way of counting to another.
 fn east_of(west: u64) -> i32
     requires { west ≤ 1209600 }
     ensures { result ≡ east_of west }
@@ -37,19 +37,11 @@ fn same_octets(file: &[u8], a: usize, b: usize, count: usize) -> bool
     requires { (a + count ≤ length file.now) × (b + count ≤ length file.now) }
     ensures { result ≡ same_octets file.now a b count }
 {
-    let mut i = 0;
-    while i < count {
-        let one = octet(file, a + i);
-        let other = octet(file, b + i);
-        i += 1;
-        if one != other {
-            return false;
-        }
-    }
-    true
+    file[a..a + count] == file[b..b + count]
 }
 
 // Whether two local times have the same offset, flag and abbreviation.
+// Stays by hand: the names are compared by their octets, not by their places.
 pub(crate) fn same_found(file: &[u8], a: Found, b: Found) -> bool
     requires { Held (length file.now) a × Held (length file.now) b }
     ensures { result ≡ same_found file.now a b }

@@ -26,6 +26,7 @@ pub(crate) fn ask_in(file: &[u8], block: Block, tz: Tz, instant: usize) -> Optio
 }
 
 // Whether the string agrees with the last transition.
+// Stays a function: no equality, but a test of the file.
 fn agrees(file: &[u8], block: Block, tz: Tz) -> bool
     requires { Sound file.now block × IsTz (length file.now) tz }
     ensures { result ≡ agrees file.now block tz }
@@ -64,7 +65,7 @@ pub(crate) fn rules_in(file: &[u8], zone: Zone) -> Result<Option<Tz>, Refusal>
     let tz = string_in(file, zone)?;
     demand(
         agrees(file, zone.block, tz),
-        Fault::TzifString,
+        Fault::TzifString as u8,
         end_of(zone.block),
     )?;
     Ok(Some(tz))

@@ -7,6 +7,7 @@ use tzif::leap::correction_at;
 use tzif::number::raised;
 
 // 1 for UNIX time, 2 for the file's own scale, 0 where the file is refused; and the 32 bits of the correction, 0 without leap-second records.
+// Stays a number: the kind is a word of the reply that C gets.
 #[derive(Clone, Copy)]
 pub struct Scale {
     pub kind: u8,

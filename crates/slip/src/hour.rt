@@ -87,6 +87,7 @@ fn hour_in(map: &[u8], zones: &[u8], fix: Fix, name: Parts) -> Result<Spot, Refu
 }
 
 // A match's number as a cause.
+// Stays by hand: a number above 255 is 255, which no `From` and no `TryFrom` says.
 fn cause_of(number: usize) -> u8
     ensures { result ≡ min number 255 }
 {

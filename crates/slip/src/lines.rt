@@ -1,4 +1,5 @@
 // The line, into a lent buffer: what does not fit is left out and counted.
+// Stays, point 4: bytes go into a lent line, each by an equation (Put), which Display has not; a name in two parts is no slice.
 ghost use Rattle.std.specs.Prelude.{◌≡◌, ◌+◌, ◌≤◌, ◌<◌, ◌/◌, length, take, IfOk};
 ghost use Rattle.line.specs.{Clock.{offset_text}, Put.{Put}};
 ghost use Rattle.request.specs.Told.{shown};

@@ -52,6 +52,7 @@ fn byte_of(map: &[u8], name: Parts, at: usize) -> u8
 }
 
 // Whether two names are the same, however each is parted.
+// Stays by hand: each name stands in two parts under a mask, so there is no slice to compare.
 pub(crate) fn is_same(map: &[u8], name: Parts, other: Parts) -> bool
     requires { LiesParts (length map.now) name × LiesParts (length map.now) other }
     ensures { result ≡ same (name_in map.now name) (name_in map.now other) }
@@ -60,13 +61,11 @@ pub(crate) fn is_same(map: &[u8], name: Parts, other: Parts) -> bool
     if size != size_of(map, other) {
         return false;
     }
-    // Stays a loop: each name stands in two parts under a mask, so there is no slice to compare.
-    let mut i = 0;
-    while i < size {
+    // Each name stands in two parts under a mask, so there is no slice to compare.
+    for i in 0..size {
         if byte_of(map, name, i) != byte_of(map, other, i) {
             return false;
         }
-        i += 1;
     }
     true
 }

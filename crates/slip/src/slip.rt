@@ -76,6 +76,7 @@ fn stamp(
 }
 
 // In a map whose header was read.
+// Stays apart: the part of `slip_at` behind the header; the two share no line.
 fn slip_in(
     fix: Fix,
     map: &[u8],
@@ -139,6 +140,7 @@ fn or_zeroed(
 }
 
 // The slip at a fix, through the map's atlas, or without one where there are no words; any words are taken.
+// Stays parameters: docs/PROMISES.md names it, so it takes what it took; C lends each list by itself.
 pub fn slip_at(
     fix: Fix,
     map: &[u8],
@@ -157,6 +159,7 @@ pub fn slip_at(
 }
 
 // The slip that a request asks for.
+// Stays parameters: docs/PROMISES.md names it, so it takes what it took; C lends each list by itself.
 pub fn slip(
     request: &[u8],
     map: &[u8],

@@ -22,7 +22,7 @@ pub fn check_time(file: &[u8], block: Block, i: usize) -> Result<(), Refusal>
     let time = time_in(file, times, i);
     demand(
         before < time,
-        Fault::TzifTime,
+        Fault::TzifTime as u8,
         block.begin + i * block.width,
     )
 }
@@ -34,7 +34,7 @@ pub fn check_index(file: &[u8], block: Block, i: usize) -> Result<(), Refusal>
 {
     let place = indices_of(block) + i;
     let index = octet(file, place);
-    demand(index < block.typecnt, Fault::TzifType, place)
+    demand(index < block.typecnt, Fault::TzifType as u8, place)
 }
 
 // Behind the last NUL of the designations, by its index.
@@ -43,15 +43,13 @@ pub fn nul_end(file: &[u8], block: Block) -> usize
     ensures { result ≡ nul_end file.now block }
 {
     let place = designations_of(block);
-    let mut n = block.charcnt;
-    while 0 < n {
-        let byte = octet(file, place + (n - 1));
+    for n in (0..block.charcnt).rev() {
+        let byte = octet(file, place + n);
         if byte == 0 {
-            return n;
+            return n + 1;
         }
-        n -= 1;
     }
-    n
+    0
 }
 
 pub fn check_type(file: &[u8], block: Block, nul: usize, i: usize) -> Result<(), Refusal>
@@ -63,10 +61,10 @@ pub fn check_type(file: &[u8], block: Block, nul: usize, i: usize) -> Result<(),
     let utoff = be32(file, place);
     let isdst = octet(file, place + 4);
     let desigidx = octet(file, place + 5);
-    demand(utoff != 0x8000_0000, Fault::TzifOffset, place)?;
-    demand(isdst < 2, Fault::TzifDaylight, place + 4)?;
-    demand(desigidx < block.charcnt, Fault::TzifIndex, place + 5)?;
-    demand(desigidx < nul, Fault::TzifDesignation, place + 5)
+    demand(utoff != 0x8000_0000, Fault::TzifOffset as u8, place)?;
+    demand(isdst < 2, Fault::TzifDaylight as u8, place + 4)?;
+    demand(desigidx < block.charcnt, Fault::TzifIndex as u8, place + 5)?;
+    demand(desigidx < nul, Fault::TzifDesignation as u8, place + 5)
 }
 
 pub fn check_standard(file: &[u8], block: Block, i: usize) -> Result<(), Refusal>
@@ -76,7 +74,7 @@ pub fn check_standard(file: &[u8], block: Block, i: usize) -> Result<(), Refusal
 {
     let place = standards_of(block) + i;
     let indicator = octet(file, place);
-    demand(indicator < 2, Fault::TzifStandard, place)
+    demand(indicator < 2, Fault::TzifStandard as u8, place)
 }
 
 fn is_standard(file: &[u8], block: Block, i: usize) -> bool
@@ -97,5 +95,5 @@ pub fn check_ut(file: &[u8], block: Block, i: usize) -> Result<(), Refusal>
     let place = uts_of(block) + i;
     let indicator = octet(file, place);
     let most = if is_standard(file, block, i) { 2 } else { 1 };
-    demand(indicator < most, Fault::TzifUt, place)
+    demand(indicator < most, Fault::TzifUt as u8, place)
 }

@@ -32,6 +32,7 @@ fn begins(file: &[u8], at: usize) -> bool
     be32(file, at) == 0x545A_6966
 }
 
+// Stays a function: a test, no conversion.
 fn is_version(version: usize) -> bool
     ensures { result ≡ is_version rfc9636 version }
 {
@@ -64,9 +65,13 @@ fn version_fits(file: &[u8], wide: bool, at: usize) -> bool
 fn check_header(file: &[u8], wide: bool, at: usize) -> Result<(), Refusal>
     ensures { result ≡ check_header rfc9636 file.now wide at }
 {
-    demand(begins(file, at), Fault::TzifMagic, at)?;
-    demand(version_fits(file, wide, at), Fault::TzifVersion, at + 4)?;
-    demand(holds(file.len(), at, 44), Fault::TzifHeader, at)
+    demand(begins(file, at), Fault::TzifMagic as u8, at)?;
+    demand(
+        version_fits(file, wide, at),
+        Fault::TzifVersion as u8,
+        at + 4,
+    )?;
+    demand(holds(file.len(), at, 44), Fault::TzifHeader as u8, at)
 }
 
 // The counts, unchecked.
@@ -94,6 +99,7 @@ fn read_counts(file: &[u8], wide: bool, at: usize) -> Block
     }
 }
 
+// Stays apart: `is_stop` (text.rt) has its shape alone.
 fn none_or_all(count: usize, all: usize) -> bool
     ensures { result ≡ none_or_all count all }
 {
@@ -111,11 +117,11 @@ fn check_counts(file: &[u8], at: usize, block: Block) -> Result<(), Refusal>
     let end = end_of(block);
     let some_ut = none_or_all(block.isutcnt, block.typecnt);
     let some_standard = none_or_all(block.isstdcnt, block.typecnt);
-    demand(some_ut, Fault::TzifUts, at + 20)?;
-    demand(some_standard, Fault::TzifStandards, at + 24)?;
-    demand(block.typecnt != 0, Fault::TzifTypes, at + 36)?;
-    demand(block.charcnt != 0, Fault::TzifCharacters, at + 40)?;
-    demand(end <= file.len(), Fault::TzifBlock, block.begin)
+    demand(some_ut, Fault::TzifUts as u8, at + 20)?;
+    demand(some_standard, Fault::TzifStandards as u8, at + 24)?;
+    demand(block.typecnt != 0, Fault::TzifTypes as u8, at + 36)?;
+    demand(block.charcnt != 0, Fault::TzifCharacters as u8, at + 40)?;
+    demand(end <= file.len(), Fault::TzifBlock as u8, block.begin)
 }
 
 fn is_fourth(file: &[u8]) -> bool
@@ -125,6 +131,7 @@ fn is_fourth(file: &[u8]) -> bool
     octet(file, 4) == 0x34
 }
 
+// Stays a flag: whether the version is 4, a Bool of the definitions.
 fn check_block(file: &[u8], fourth: bool, block: Block) -> Result<(), Refusal>
     requires { Within (length file.now) block }
     ensures { result ≡ check_block file.now fourth block }

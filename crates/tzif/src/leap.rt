@@ -1,4 +1,5 @@
 // The rules for a leap-second record.
+// Stays, point 7: `fourth` says whether the version is 4, a Bool of the definitions.
 ghost use mathlib.Core.{Path.{◌≡◌}, Bool.{◌&&◌, ◌||◌}};
 ghost use Rattle.std.specs.Prelude.{◌+◌, ◌-◌, ◌^◌, ◌≤◌, ◌<◌};
 ghost use lib.{Dec.{ltb, leb, eqb}, ListN.{length}};
@@ -138,7 +139,7 @@ fn check_expiry(file: &[u8], block: Block, i: usize) -> Result<(), Refusal>
     let occurrence = time_in(file, occurrences, i);
     demand(
         before < occurrence,
-        Fault::TzifOccurrence,
+        Fault::TzifOccurrence as u8,
         leap_place(block, i),
     )
 }
@@ -152,9 +153,13 @@ pub(crate) fn check_leap(file: &[u8], fourth: bool, block: Block, i: usize) -> R
         return check_expiry(file, block, i);
     }
     let place = leap_place(block, i);
-    demand(occurs_later(file, block, i), Fault::TzifOccurrence, place)?;
+    demand(
+        occurs_later(file, block, i),
+        Fault::TzifOccurrence as u8,
+        place,
+    )?;
     let before = correction_before(file, block, i);
     let correction = correction_of(file, block, i);
     let follows = corrects(fourth, i, before, correction);
-    demand(follows, Fault::TzifCorrection, place + block.width)
+    demand(follows, Fault::TzifCorrection as u8, place + block.width)
 }

@@ -1,4 +1,5 @@
 // Local time from a file: offset, daylight flag and abbreviation by its transitions.
+// Stays, point 1: `daylight` is an octet of the file and a word of the reply that C gets.
 ghost use Rattle.std.specs.Prelude.{IfOk, IfSome, ◌≡◌, ◌+◌, ◌≤◌, ◌<◌, length};
 ghost use mir.{Syntax.{w32}, Val.{of_z}};
 ghost use Rattle.numbers.specs.Lists.{zeros};
@@ -32,6 +33,7 @@ pub struct Local {
 }
 
 // The offset's 32 bits.
+// Stays apart: one of equal shape takes another type's number (office).
 pub fn offset_bits(local: Local) -> u64
     ensures { result ≡ of_z w32 local.offset }
 {
@@ -59,6 +61,7 @@ pub fn type_in(file: &[u8], block: Block, index: usize) -> Found
 }
 
 // The type behind so many transitions.
+// Stays a length: `n` counts transitions, and is no list's.
 pub fn type_behind(file: &[u8], block: Block, n: usize) -> usize
     requires good { Good file.now block }
     requires n_le_timecnt { n ≤ block.timecnt }

@@ -10,6 +10,7 @@ pub fn octets(wide: bool) -> usize
     if wide { 8 } else { 4 }
 }
 
+// Stays a clause: what an index asks.
 pub fn octet(file: &[u8], place: usize) -> usize
     requires { place < length file.now }
     ensures { Octet result (octet file.now place) }
@@ -30,6 +31,7 @@ pub(crate) fn be32(file: &[u8], place: usize) -> usize
 }
 
 // A signed number of 32 bits, by its bits, more 2^31; and back.
+// Stays a function: the definitions' word (specs/Number).
 pub fn raised(bits: usize) -> usize
     requires { bits < 2 ^ 32 }
     ensures { Word result (raised bits) }

@@ -1,4 +1,5 @@
 // Where the parts of a data block lie, one behind the other.
+// Stays, point 2: one sum each, of other counts, as the definitions of specs/Block have them.
 ghost use Rattle.std.specs.Prelude.{◌≡◌, ◌^◌, ◌<◌};
 ghost use Rattle.tzif.specs.Block.{indices_of, types_of, designations_of, leaps_of, standards_of, uts_of, end_of};
 

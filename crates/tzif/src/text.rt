@@ -5,6 +5,7 @@ ghost use Rattle.numbers.specs.Lists.{padded};
 
 use crate::number::octet;
 
+// Stays apart: `none_or_all` (header.rt) has its shape alone.
 fn is_stop(other: usize, byte: usize) -> bool
     ensures { result ≡ is_stop other byte }
 {
@@ -19,15 +20,13 @@ pub(crate) fn run_to(other: usize, file: &[u8], from: usize, most: usize) -> usi
     requires { «from» + most ≤ length file.now }
     ensures { AtMost most result (run_to other file.now «from» most) }
 {
-    let mut i = 0;
-    while i < most {
+    for i in 0..most {
         let byte = octet(file, from + i);
         if is_stop(other, byte) {
             return i;
         }
-        i += 1;
     }
-    i
+    most
 }
 
 fn octet_or_zero(name: &[u8], i: usize) -> u8
@@ -40,6 +39,7 @@ fn octet_or_zero(name: &[u8], i: usize) -> u8
 }
 
 // A name at the start of a lent text, zeros behind it.
+// Stays a loop: `copy_from_slice` calls memmove, and the archives call nothing but memset and memcpy.
 pub(crate) fn lend(name: &[u8], text: &mut [u8])
     requires { length name.now ≤ length text.old }
     ensures { text.new ≡ padded (length text.old) name.now }

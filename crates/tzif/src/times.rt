@@ -53,6 +53,7 @@ pub(crate) fn last_not_after(file: &[u8], times: Times, instant: usize) -> usize
 {
     let mut low = 0;
     let mut high = times.count;
+    // Stays, points 3 and 6: it bisects octets of the file, no list that `partition_point` could take.
     while low < high {
         let middle = low + (high - low) / 2;
         let time = time_in(file, times, middle);

@@ -32,13 +32,13 @@ fn newline_at(file: &[u8], at: usize) -> bool
 fn read_footer(file: &[u8], at: usize) -> Result<usize, Refusal>
     ensures { result ≡ read_footer file.now at }
 {
-    demand(newline_at(file, at), Fault::TzifFooter, at)?;
+    demand(newline_at(file, at), Fault::TzifFooter as u8, at)?;
     let place = at + 1;
     let size = run_to(10, file, place, file.len() - place);
     let stop = place + size;
-    demand(newline_at(file, stop), Fault::TzifFooter, stop)?;
+    demand(newline_at(file, stop), Fault::TzifFooter as u8, stop)?;
     let end = stop + 1;
-    demand(file.len() <= end, Fault::TzifRest, end)?;
+    demand(file.len() <= end, Fault::TzifRest as u8, end)?;
     Ok(size)
 }
 
@@ -48,7 +48,7 @@ fn read_short(file: &[u8], block: Block) -> Result<Zone, Refusal>
     ensures { result ≡ read_short file.now block }
 {
     let end = end_of(block);
-    demand(file.len() <= end, Fault::TzifRest, end)?;
+    demand(file.len() <= end, Fault::TzifRest as u8, end)?;
     Ok(Zone {
         version: 0,
         block,
@@ -79,7 +79,7 @@ fn read_long(file: &[u8], first: Block) -> Result<Zone, Refusal>
 pub fn read_zone(file: &[u8]) -> Result<Zone, Refusal>
     ensures { result ≡ read_zone file.now }
 {
-    demand(file.len() <= LARGEST_FILE, Fault::FileTooLarge, 0)?;
+    demand(file.len() <= LARGEST_FILE, Fault::FileTooLarge as u8, 0)?;
     let first = read_block(file, false, 0)?;
     if octet(file, 4) == 0 {
         return read_short(file, first);

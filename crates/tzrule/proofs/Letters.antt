@@ -1,5 +1,7 @@
 -- Reading names. Assumes nothing.
-use Rattle.numbers.proofs.Prelude.{ℕ, suc, ◌+◌, ◌-◌, ◌≤◌, ◌<◌, eq-eqb, ne_eqb, lt-ltb, le-ltb, le-leb, lt-leb, ltb-true, ltb-false, eqb, ltb, leb, length, Bool, true, false, List, ◌≡◌, refl, sym, ap, ◌∙◌, arith}
+use Rattle.numbers.proofs.Prelude.{ℕ, zero, suc, ◌+◌, ◌-◌, ◌≤◌, ◌<◌, eq-eqb, ne_eqb, lt-ltb, le-ltb, le-leb, lt-leb, ltb-true, ltb-false, eqb, ltb, leb, length, Bool, true, false, List, ◌≡◌, refl, sym, ap, ◌∙◌, arith}
+use Rattle.numbers.proofs.Prelude.{cond, not, take, drop, get_or, length-drop, drop_of_length-le, drop-cons, take_all, [], ◌∷◌, add-one}
+use Rattle.std.{proofs.lemmas.List.Sums.{prefix_len-le-length}, specs.{Prelude.{Some, None, position}, List.{position_or_len}}}
 use Rattle.numbers.specs.Answer.{if◌then◌else◌}
 use Rattle.tzrule.specs.{Answer.{read, fault}, Names.{is_letter, in_name, name_end, end_of, bare_of, quoted_of}, Text.{byte_at, is_digit}}
 
@@ -54,25 +56,45 @@ end_none : (quoted : Bool) (text : List ℕ) (at : ℕ) → name_end 0 quoted te
 unfolding name_end
 end_none quoted text at = refl
 
-module _ (quoted : Bool) (text : List ℕ) (next : ℕ) where
-  left : next < length text → length text - next ≡ suc (length text - (next + 1))
-  left h = omega arith
+-- as many as stand before the first byte that is none of a name
+abbrev pub other : Bool → ℕ → Bool
+other quoted byte = not (in_name quoted byte)
 
-  module _ {byte : ℕ} {named : Bool} (h : next < length text) (b : byte ≡ byte_at text next) (i : named ≡ in_name quoted byte) where
-    is : in_name quoted (byte_at text next) ≡ named
-    is = ap (in_name quoted) (sym b) ∙ sym i
+module _ (quoted : Bool) (text : List ℕ) where
+  end_run : (n at : ℕ) → n ≡ length text - at → at + position_or_len (other quoted) (drop at text) ≡ name_end n quoted text at
+  unfolding byte_at
+  end_run zero at e = let none : drop at text ≡ [] = drop_of_length-le text {i = at} (omega arith) in rw none (let start : at + 0 ≡ at = omega arith in start ∙ sym (end_none quoted text at))
+  end_run (suc n) at e = let cons : drop at text ≡ get_or text at 0 ∷ drop (at + 1) text = rw (add-one, drop-cons text at 0 (omega arith)) in
+      rw cons (go (in_name quoted (byte_at text at)) refl (end_run n (at + 1) (omega arith))) where
+        go : (t : Bool) → in_name quoted (byte_at text at) ≡ t → at + 1 + position_or_len (other quoted) (drop (at + 1) text) ≡ name_end n quoted text (at + 1)
+            → at + position_or_len (other quoted) (get_or text at 0 ∷ drop (at + 1) text) ≡ name_end (suc n) quoted text at
+        go true t h = rw t (omega (arith, h, end_more n quoted text at t))
+        go false t h = rw t (omega (arith, end_stop n quoted text at t))
 
-    pub name_more : named ≡ true → end_of quoted text (next + 1) ≡ end_of quoted text next
+  module _ (at : ℕ) where
+    by_place : (t : Bool) {size : ℕ} (xs : List ℕ) → ltb (position_or_len (other quoted) xs) (length xs) ≡ t
+        → cond t (Some (position_or_len (other quoted) xs)) None ≡ Some size → (size ≡ position_or_len (other quoted) xs) × (size < length xs)
+    by_place true {size} xs f e = let same : size ≡ position_or_len (other quoted) xs = cc in (same, omega (arith, same, ltb-true (position_or_len (other quoted) xs) (length xs) f))
+    by_place false xs f e = let z : ◌≡◌ {A = ℕ} 0 1 = cc in absurd (omega arith)
+
+    no_place : (t : Bool) (xs : List ℕ) → ltb (position_or_len (other quoted) xs) (length xs) ≡ t
+        → cond t (Some (position_or_len (other quoted) xs)) None ≡ None → position_or_len (other quoted) xs ≡ length xs
+    no_place true xs f e = let z : ◌≡◌ {A = ℕ} 0 1 = cc in absurd (omega arith)
+    no_place false xs f e = omega (arith, ltb-false (position_or_len (other quoted) xs) (length xs) f, prefix_len-le-length (λ x. not (other quoted x)) xs)
+
+    rest_is : take (length text - at) (drop at text) ≡ drop at text
+    rest_is = take_all (length text - at) (drop at text) (omega (arith, length-drop at text))
+
+    pub name_stops : {size : ℕ} → at ≤ length text → Some size ≡ position (other quoted) (take (length text - at) (drop at text))
+        → (at + size ≡ end_of quoted text at) × (at + size ≤ length text)
     unfolding end_of
-    name_more t = sym (end_more (length text - (next + 1)) quoted text next (is ∙ t)) ∙ ap (λ (k : ℕ). name_end k quoted text next) (sym (left h))
+    name_stops h e = let found = by_place _ (drop at text) refl (ap (position (other quoted)) (sym rest_is) ∙ sym e) in
+        (omega (arith, found.0, end_run (length text - at) at refl), omega (arith, found.1, length-drop at text))
 
-    pub name_stop : named ≡ false → next ≡ end_of quoted text next
+    pub name_runs_out : at ≤ length text → None ≡ position (other quoted) (take (length text - at) (drop at text)) → length text ≡ end_of quoted text at
     unfolding end_of
-    name_stop t = sym (end_stop (length text - (next + 1)) quoted text next (is ∙ t)) ∙ ap (λ (k : ℕ). name_end k quoted text next) (sym (left h))
-
-  pub name_out : length text ≤ next → next ≡ end_of quoted text next
-  unfolding end_of
-  name_out h = sym (end_none quoted text next) ∙ ap (λ (k : ℕ). name_end k quoted text next) (let e : 0 ≡ length text - next = omega arith in e)
+    name_runs_out h e = let none = no_place _ (drop at text) refl (ap (position (other quoted)) (sym rest_is) ∙ sym e) in
+        omega (arith, none, length-drop at text, end_run (length text - at) at refl)
 
 -- the ways of a name
 module _ (text : List ℕ) (at : ℕ) where

@@ -6,6 +6,7 @@ use crate::rule::{Clock, Tz};
 use crate::summer::summer_at;
 
 // Which clock holds; 1 for summer time, else 0.
+// Stays a number: `daylight` is a word of the reply that C gets.
 #[derive(Clone, Copy)]
 pub struct Time {
     pub clock: Clock,
@@ -13,6 +14,7 @@ pub struct Time {
 }
 
 // Years 1 to 9999. Instants are given more 2^63.
+// Stays a function: a test, no conversion.
 fn in_years(u: u64) -> bool
     ensures { result ≡ in_years u }
 {

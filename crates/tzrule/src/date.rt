@@ -1,4 +1,5 @@
 // Dates in a TZ string.
+// Stays, point 2: `julian_at` and `zero_at` are two lines each, with another shape and another variant.
 ghost use Rattle.std.specs.Prelude.{IfOk, ◌≡◌, ◌≤◌};
 ghost use Rattle.calendar.specs.Rules.{IsWhen};
 ghost use Rattle.tzrule.specs.{Grammar.{IsShape, dotted_of, julian_of, zero_of, month_from, date_of}, inner.Reads.{Reads}};

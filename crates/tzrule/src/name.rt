@@ -1,5 +1,5 @@
 // Names in a TZ string.
-ghost use Rattle.std.specs.Prelude.{IfOk, ◌≡◌, ◌≤◌, length};
+ghost use Rattle.std.specs.Prelude.{IfOk, ◌≡◌, ◌≤◌, not, position, length};
 ghost use Rattle.tzrule.specs.{Names.{is_letter, in_name, end_of, bare_of, quoted_of, name_of}, inner.Reads.{Reads, Spans}};
 
 use crate::cursor::{Cursor, Read};
@@ -29,16 +29,23 @@ fn in_name(quoted: bool, byte: u64) -> bool
     is_letter(byte) || quoted && (is_digit(byte) || (byte == 43 || byte == 45))
 }
 
+// The place of the first byte that is none of a name.
+fn first_other(quoted: bool, text: &[u8]) -> Option<usize>
+    ensures { result ≡ position (λ byte. not (in_name quoted byte)) text.now }
+{
+    text.iter()
+        .position(|byte| !in_name(quoted, u64::from(*byte)))
+}
+
 // The place behind the bytes of a name.
 fn name_end(quoted: bool, text: &[u8], at: usize) -> usize
     requires { at ≤ length text.now }
     ensures { (result ≡ end_of quoted text.now at) × (result ≤ length text.now) }
 {
-    let mut next = at;
-    while next < text.len() && in_name(quoted, u64::from(text[next])) {
-        next += 1;
+    match first_other(quoted, &text[at..]) {
+        Some(size) => at + size,
+        None => text.len(),
     }
-    next
 }
 
 // Three letters or more.

@@ -22,6 +22,8 @@ pub struct Shape {
 }
 
 // The byte at a place; 0 past the end.
+// Stays apart: one line of std's words, which the definition names.
+// Stays parameters: it is asked past the text's end too, where no `Cursor` stands.
 pub fn byte_at(text: &[u8], at: usize) -> u8
     ensures { result ≡ byte_at text.now at }
 {
@@ -35,6 +37,7 @@ pub fn is_digit(byte: u64) -> bool
 }
 
 // The digits at a place, up to so many.
+// Stays a length: `most` counts digits, and is no list's.
 fn digits_at(text: &[u8], at: usize, most: usize) -> Digits
     requires { (length text.now ≤ 1073741824) × (at ≤ length text.now) × (most ≤ 3) }
     ensures { (result ≡ digits_of most text.now at 0) × (result.next ≤ length text.now) }

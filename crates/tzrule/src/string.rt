@@ -1,4 +1,5 @@
 // The whole TZ string.
+// Stays, point 2: `standard_at` and `daylight_at` are three lines each; a closure for the offset would be no plainer.
 ghost use Rattle.std.specs.Prelude.{IfOk, ◌≡◌, ◌≤◌, length};
 ghost use Rattle.tzrule.specs.{Grammar.{signed_of}, Summer.{IsChange}};
 ghost use Rattle.tzrule.specs.{String.{day_hours, hours_of, time_of, change_of, clock_of, summer_of, changing_of, string_of}, inner.{Reads.{Reads, Around}, String.{told_string, IsClock, IsTz, GoodString}}};
@@ -123,6 +124,7 @@ fn tz_at<'a>(here: Cursor<'a>, wide: bool) -> Read<'a, Tz>
 }
 
 // The string from a place on, with the newline that closes it, or the place of its fault.
+// Stays parameters: the `Cursor` is made here of them, by this clause.
 pub fn string_at(text: &[u8], at: usize, wide: bool) -> Result<StringAt, Fault>
     requires { (length text.now ≤ 1073741824) × (at ≤ length text.now) }
     ensures { (told_string result ≡ string_of wide text.now at) × GoodString (length text.now) result }

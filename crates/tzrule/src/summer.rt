@@ -1,4 +1,5 @@
 // Summer time. Instants are seconds from the first midnight of the first year, more 1209600.
+// Stays, point 2: `start_of` and `end_of` are a change each, with the offset of the other clock.
 ghost use Rattle.std.specs.Prelude.{◌≡◌, ◌≤◌, ◌<◌};
 ghost use Rattle.tzrule.specs.Summer.{change_of, start_of, end_of, close_of, is_summer, IsChange, IsRule, InYears};
 
@@ -52,6 +53,7 @@ pub(crate) fn summer_at(rule: Rule, instant: u64) -> bool
 {
     let guess = instant / 31556952;
     let mut year = guess - 2;
+    // Stays a loop (must-fail year_of_the_instant): it looks for a year, whose number only grows.
     while start_of(rule, year + 1) <= instant {
         year += 1;
     }

@@ -47,6 +47,7 @@ pub(crate) fn clock_at<'a>(here: Cursor<'a>, hours: Shape) -> Read<'a, u64>
 }
 
 // A time after midnight, more 604800.
+// Stays a function: it reads a time, and is no order.
 pub(crate) fn later_at<'a>(here: Cursor<'a>, hours: Shape) -> Read<'a, u64>
     requires { IsShape hours × (hours.high ≤ 167) }
     ensures { Reads here.entry (later_of hours) result × IfOk result (λ read. Around (3600 * hours.high + 3599) read.0) }

@@ -35,12 +35,10 @@ fn write_match(
     let strict = head.strict;
     let mut place = start;
     let mut at = from;
-    let mut tag: u8 = 0;
-    while tag < preamble.count {
+    for tag in 0..preamble.count {
         let field = write_field(&mut text[at..], tag, file, strict, sections.metadata, place)?;
         at += field.size;
         place = field.next;
-        tag += 1;
     }
     Ok(at)
 }
@@ -58,10 +56,8 @@ pub(crate) fn write_fields(
         (fields_of file.now head (length text.old) (take count (slots hits.now)) []) result }
 {
     let mut at = 0;
-    let mut i = 0;
-    while i < count {
+    for i in 0..count {
         let hit = hit_at(hits, i);
-        i += 1;
         let start = fields_place(head, hit.metadata);
         at = write_match(text, at, file, head, start)?;
     }

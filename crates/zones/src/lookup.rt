@@ -1,4 +1,6 @@
 // Lookup: the matches in the lent words, their fields in the lent text.
+// Stays, point 2: C has names for plain and strict, and a header read once serves the others; each is thin, over `answer`.
+// Stays, point 7: `asked` and `strict` are the caller's; a const parameter would compile each loop twice (docs/DECISIONS.md: 8 kB).
 ghost use mathlib.Core.{Path.{◌≡◌}, List.{[]}};
 ghost use Rattle.std.specs.Prelude.{◌/◌, ◌≤◌, length, take};
 ghost use Rattle.numbers.specs.Lists.{zeros};
@@ -101,6 +103,7 @@ pub(crate) fn answer(
 }
 
 // In a file whose header was read; any header is taken.
+// Stays parameters: docs/ name it beside what it takes.
 pub fn lookup_in(
     file: &[u8],
     head: Head,
@@ -117,6 +120,7 @@ pub fn lookup_in(
 }
 
 // In a file whose header is read plainly or strictly.
+// Stays parameters: those of `lookup` and `lookup_strict`, handed on.
 fn lookup_by(
     file: &[u8],
     strict: bool,
@@ -138,6 +142,7 @@ fn lookup_by(
     lookup_in(file, head, location, asked, hits, text)
 }
 
+// Stays parameters: docs/ name it beside what it takes.
 pub fn lookup(
     file: &[u8],
     location: Location,
@@ -152,6 +157,7 @@ pub fn lookup(
 }
 
 // The same, but a number that the file's end cuts is refused: 31.
+// Stays parameters: docs/ name it beside what it takes.
 pub fn lookup_strict(
     file: &[u8],
     location: Location,
@@ -166,6 +172,7 @@ pub fn lookup_strict(
 }
 
 // Among rows that are given as words, in a file whose header was read: `lookup_in` with these rows for the table's. Any header and any words are taken.
+// Stays parameters: docs/ name it beside what it takes.
 pub fn lookup_listed(
     file: &[u8],
     head: Head,

@@ -1,4 +1,5 @@
 // Lookup among rows that are given as words with marks along their borders (document 04).
+// Stays, point 7: `asked` is the caller's question; a const parameter would compile each loop twice (docs/DECISIONS.md: 8 kB).
 ghost use Rattle.std.specs.Prelude.{◌≡◌, length};
 ghost use Rattle.zones.specs.{Lent.{replied}, Marked.{looked_marked}};
 
@@ -9,6 +10,7 @@ use table::location::Location;
 use table::marked::find_marked;
 
 // `lookup_listed` with marks, as `find_marked` has them. Any header and any words are taken.
+// Stays apart from `lookup_listed`: two lines, in a file that a program without marks does not carry.
 pub fn lookup_marked(
     file: &[u8],
     head: Head,

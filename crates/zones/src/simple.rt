@@ -1,6 +1,7 @@
 // Simple lookup: a description of the first match. The fields of every match are checked; only the description needs text room.
 ghost use mathlib.Core.{Path.{◌≡◌}, List.{map, ◌++◌}};
-ghost use Rattle.std.specs.Prelude.{◌+◌, ◌/◌, ◌≤◌, length, take};
+ghost use Rattle.std.specs.Prelude.{◌+◌, ◌/◌, ◌≤◌, eqb, length, take};
+ghost use Rattle.std.specs.List.{list_all, zip};
 ghost use Rattle.numbers.specs.Lists.{zeros};
 ghost use Rattle.header.specs.{Utf8.{unmasked}, Text.{bytes_of}};
 ghost use Rattle.table.specs.{Hits.{width, slots}, inner.Agreeing.{Agrees}};
@@ -41,24 +42,25 @@ pub struct Parts {
     pub two: Text,
 }
 
+// Each stored byte is the name's, one beside the other.
+fn all_unmasked(stored: &[u8], name: &[u8]) -> bool
+    ensures { result ≡ list_all (λ pair. eqb (unmasked pair.0) pair.1) (zip stored.now name.now) }
+{
+    stored
+        .iter()
+        .zip(name)
+        .all(|(byte, other)| *byte ^ 0x80 == *other)
+}
+
 // Whether a stored name is this one.
 fn is_called(stored: &[u8], name: &[u8]) -> bool
     ensures { result ≡ same (map unmasked stored.now) name.now }
 {
-    if stored.len() != name.len() {
-        return false;
-    }
-    let mut i = 0;
-    while i < name.len() {
-        if stored[i] ^ 0x80 != name[i] {
-            return false;
-        }
-        i += 1;
-    }
-    true
+    stored.len() == name.len() && all_unmasked(stored, name)
 }
 
 // Which part of the description a field of this name is: 1, 2, or 0 for none.
+// Stays a switch: names of the file, compared one after another; any kind but 'T' is taken as a country's.
 fn part_of(file: &[u8], kind: u8, called: Text) -> u8
     requires { called.start + called.size ≤ length file.now }
     ensures { result ≡ part_of kind (bytes_of file.now called) }
@@ -81,6 +83,7 @@ fn part_of(file: &[u8], kind: u8, called: Text) -> u8
 }
 
 // A country's name is all of its description.
+// Stays, points 4 and 7: what picking begins with, by one test; any kind but 'T' is taken as a country's.
 fn begun(kind: u8) -> Picked
     ensures { result ≡ begun kind }
 {
@@ -132,17 +135,15 @@ fn pick(file: &[u8], head: Head, start: usize) -> Result<Picked, Refusal>
         number: Fault::BadField as u8,
         detail: 0,
     };
-    let mut index = 0;
     let mut name = 7;
     let mut place = start;
     let mut last = begun(preamble.kind);
-    while index < names {
+    for index in 0..names {
         let called = read_header_text(file, strict, names, index, name)?;
         let value = read_text(file, strict, sections.metadata, place, blame)?;
         last = newer(part_of(file, preamble.kind, called), value, last);
         name = called.next;
         place = value.next;
-        index += 1;
     }
     Ok(last)
 }
@@ -166,10 +167,8 @@ fn check(file: &[u8], head: Head, hits: &[u32], count: usize) -> Result<(), Refu
     requires { count ≤ length hits.now / width }
     ensures { result ≡ checked file.now head (take count (slots hits.now)) }
 {
-    let mut i = 0;
-    while i < count {
+    for i in 0..count {
         let hit = hit_at(hits, i);
-        i += 1;
         let start = fields_place(head, hit.metadata);
         pick(file, head, start)?;
     }
@@ -259,6 +258,7 @@ fn look(
 }
 
 // In a file whose header was read; any header is taken.
+// Stays apart from `simple_lookup`: a header that was read once serves it.
 pub(crate) fn simple_lookup_in(
     file: &[u8],
     head: Head,
@@ -277,6 +277,7 @@ pub(crate) fn simple_lookup_in(
     described
 }
 
+// Stays parameters: docs/ name it beside what it takes.
 pub fn simple_lookup(
     file: &[u8],
     location: Location,

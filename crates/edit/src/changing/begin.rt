@@ -1,4 +1,5 @@
 // A builder that holds no yard yet.
+// Stays, point 6: C lends these lists and keeps the builder's; a list of no bytes, written into, tells a size without a heap.
 ghost use Rattle.std.specs.Prelude.{◌≡◌, ◌+◌, ◌*◌, ◌^◌, ◌≤◌, ◌<◌, length};
 ghost use Rattle.builder.specs.{File.{head_from}, Yards.{cut_by, sum_of}};
 ghost use Rattle.draft.specs.Held.State.{lists_as};

@@ -1,4 +1,5 @@
 // A builder's lists, zero behind what is kept of each.
+// Stays, point 6: C lends these lists, longer than what stands in them, and keeps them between the calls.
 ghost use Rattle.std.specs.Prelude.{◌≡◌};
 ghost use Rattle.draft.specs.Held.State.{lists_as};
 ghost use Rattle.edit.specs.inner.Changing.Cut.{Inside, cut_to};

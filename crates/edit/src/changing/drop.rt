@@ -1,4 +1,5 @@
 // A builder without the yard that came last.
+// Stays, point 6: C lends these lists, longer than what stands in them, and keeps the builder's between the calls.
 ghost use Rattle.std.specs.Prelude.{◌≡◌, length};
 ghost use Rattle.draft.specs.Held.State.{Idle, lists_as, rooms_of, works_as};
 ghost use Rattle.edit.specs.{Changing.Dropped.{Drops}, inner.Changing.Dropped.{Shortens, with_sums}};

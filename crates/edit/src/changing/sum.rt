@@ -2,6 +2,7 @@
 ghost use Rattle.std.specs.Prelude.{◌≡◌};
 ghost use Rattle.edit.specs.inner.Changing.Sum.{SumsTo};
 
+// Stays a length: `most` is a limit of the sum, not of the list.
 pub(crate) fn sum_within(lengths: &[u32], most: usize) -> Option<usize>
     ensures { SumsTo lengths.now most result }
 {

@@ -1,4 +1,5 @@
 // One text in the place of another.
+// Stays, point 6: C lends these lists, longer than what stands in them, and keeps the texts between the calls.
 ghost use Rattle.std.specs.Prelude.{◌≡◌, length, set};
 ghost use Rattle.edit.specs.inner.Replacing.Exchange.{Exchanging, Exchanged};
 

@@ -10,10 +10,8 @@ pub(crate) fn place_behind(lengths: &[u32]) -> usize
     ensures { (result ≡ sum_of lengths.now) × (result < 2 ^ 60) }
 {
     let mut sum = 0;
-    let mut i = 0;
-    while i < lengths.len() {
-        sum += lengths[i] as usize;
-        i += 1;
+    for length in lengths {
+        sum += *length as usize;
     }
     sum
 }

@@ -1,4 +1,5 @@
 // A text in the place of a value, and the builder with it.
+// Stays, point 6: C lends these lists and keeps the builder's; an old value is put aside in 255 bytes, for there is no heap.
 ghost use mathlib.Core.{Path.{◌≡◌}, List.{List}};
 ghost use Rattle.std.specs.Prelude.{ℕ, ◌^◌, ◌≤◌, ◌<◌, length};
 ghost use Rattle.build.specs.Room.{work_of};

@@ -1,4 +1,5 @@
 // A value of a builder, replaced.
+// Stays, point 6: C lends these lists, longer than what stands in them, and keeps the builder's between the calls.
 ghost use Rattle.std.specs.Prelude.{◌≡◌, length};
 ghost use Rattle.numbers.specs.Lists.{zeros};
 ghost use Rattle.draft.specs.Held.State.{Idle, lists_as, rooms_of, works_as};

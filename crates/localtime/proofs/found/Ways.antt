@@ -1,6 +1,10 @@
 -- The ways through what a string gives, and through the comparison of two local times. Assumes nothing.
-use Rattle.numbers.proofs.Prelude.{ℕ, zero, suc, ◌+◌, ◌-◌, ◌^◌, ◌≤◌, ◌<◌, eq-eqb, ne_eqb, eqb, ltb, ℤ, pos, ◌-ℤ◌, mag, true, false, List, ◌≡◌, refl, sym, ap, subst, ◌∙◌, w32, w64, SFits, of_z}
-use Rattle.numbers.proofs.{Prelude.{to_z, to_z-of_z, add-one, arith}, Signed.{mag_cond}}
+use Rattle.numbers.proofs.Prelude.{ℕ, zero, suc, ◌+◌, ◌-◌, ◌^◌, ◌≤◌, ◌<◌, eq-eqb, ne_eqb, eqb, ltb, ℤ, pos, ◌-ℤ◌, mag, true, false, List, ◌≡◌, refl, sym, ap, ◌∙◌, w32, w64, SFits, of_z}
+use Rattle.numbers.proofs.{Prelude.{to_z, to_z-of_z, arith}, Signed.{mag_cond}}
+use Rattle.numbers.proofs.Prelude.{length, take, drop, get_or, drop-cons, ◌&&◌, ◌∷◌, Bool}
+use Rattle.numbers.specs.Answer.{if◌then◌else◌}
+use Rattle.std.specs.Prelude.{nat_eq}
+use lib.Pointwise.{pointwise}
 use mir.ValLaws.{to_z_pos}
 use Rattle.localtime.specs.Found.{east_of, found_of, same_octets, same_found}
 use Rattle.tzif.specs.{Number.{octet}, declared.local.Found.{Found}}
@@ -37,34 +41,34 @@ pub found_is : (time : Time) {offset : ℤ} → offset ≡ east_of time.clock.we
 unfolding found_of
 found_is time e = ap (λ (z : ℤ). record { offset = z; daylight = time.daylight; place = time.clock.name.start; length = time.clock.name.end - time.clock.name.start }) e
 
--- octets one after the other
-module _ (file : List ℕ) (a b : ℕ) where
-  pub same_none : same_octets file a b 0 ≡ true
+-- octets one after the other, in two slices
+module _ (file : List ℕ) where
+  at_front : (s t x : Bool) → (if (s && t) then x else false) ≡ (s && (if t then x else false))
+  at_front true t x = refl
+  at_front false t x = refl
+
+  same_front : (n a b : ℕ) → same_octets file a b (suc n) ≡ (eqb (octet file a) (octet file b) && same_octets file (suc a) (suc b) n)
   unfolding same_octets
-  same_none = refl
+  same_front zero a b = let one : a + 0 ≡ a = omega arith in let two : b + 0 ≡ b = omega arith in
+      rw (one, two) (go (eqb (octet file a) (octet file b))) where
+        go : (s : Bool) → s ≡ (s && true)
+        go true = refl
+        go false = refl
+  same_front (suc n) a b = let one : a + suc n ≡ suc a + n = omega arith in let two : b + suc n ≡ suc b + n = omega arith in
+      rw (one, two) (ap (λ (t : Bool). if t then eqb (octet file (suc a + n)) (octet file (suc b + n)) else false) (same_front n a b)
+      ∙ at_front (eqb (octet file a) (octet file b)) (same_octets file (suc a) (suc b) n) (eqb (octet file (suc a + n)) (octet file (suc b + n))))
 
-  module _ (i : ℕ) {one other : ℕ} (p : one ≡ octet file (a + i)) (q : other ≡ octet file (b + i)) where
-    pub same_more : same_octets file a b i ≡ true → one ≡ other → same_octets file a b (i + 1) ≡ true
-    unfolding same_octets
-    same_more s e = rw add-one (simp (s, eq-eqb (octet file (a + i)) (octet file (b + i)) (sym p ∙ e ∙ q)))
-
-    same_less : same_octets file a b i ≡ true → (one ≡ other → ⊥) → same_octets file a b (suc i) ≡ false
-    unfolding same_octets
-    same_less s n = simp (s, ne_eqb (octet file (a + i)) (octet file (b + i)) (λ e. n (p ∙ e ∙ sym q)))
-
-  -- what differs once differs for good
-  stays : (n d : ℕ) → same_octets file a b n ≡ false → same_octets file a b (n + d) ≡ false
+  slices_same : (n a b : ℕ) → a + n ≤ length file → b + n ≤ length file → pointwise nat_eq (take n (drop a file)) (take n (drop b file)) ≡ same_octets file a b n
   unfolding same_octets
-  stays n zero e = rw (let same : n + 0 ≡ n = omega arith in same) e
-  stays n (suc d) e = rw (let same : n + suc d ≡ suc (n + d) = omega arith in same) (simp (stays n d e))
+  slices_same zero a b h k = refl
+  slices_same (suc n) a b h k = let one : drop a file ≡ get_or file a 0 ∷ drop (suc a) file = drop-cons file a 0 (omega arith) in
+      let two : drop b file ≡ get_or file b 0 ∷ drop (suc b) file = drop-cons file b 0 (omega arith) in
+      rw (one, two) (ap (λ (t : Bool). eqb (get_or file a 0) (get_or file b 0) && t) (slices_same n (suc a) (suc b) (omega arith) (omega arith)) ∙ sym (same_front n a b))
 
-  pub same_differs : (i count : ℕ) {one other : ℕ} → i < count → one ≡ octet file (a + i) → other ≡ octet file (b + i) → same_octets file a b i ≡ true → (one ≡ other → ⊥) →
-      false ≡ same_octets file a b count
-  same_differs i count h p q s n =
-      sym (subst (λ (m : ℕ). same_octets file a b m ≡ false) (let all : suc i + (count - suc i) ≡ count = omega arith in all) (stays (suc i) (count - suc i) (same_less i p q s n)))
-
-  pub same_all : (i count : ℕ) → i ≤ count → count ≤ i → same_octets file a b i ≡ true → true ≡ same_octets file a b count
-  same_all i count h k s = sym (subst (λ (m : ℕ). same_octets file a b m ≡ true) (let all : i ≡ count = omega arith in all) s)
+  pub same_slices : (count a b : ℕ) → a + count ≤ length file → b + count ≤ length file
+      → pointwise nat_eq (take (a + count - a) (drop a file)) (take (b + count - b) (drop b file)) ≡ same_octets file a b count
+  same_slices count a b h k = let one : a + count - a ≡ count = omega arith in let two : b + count - b ≡ count = omega arith in
+      rw (one, two) (slices_same count a b h k)
 
 -- the four ways of two local times
 module _ (file : List ℕ) (a b : Found) where

@@ -1,10 +1,10 @@
 -- Two lists of bytes, compared one by one. Assumes nothing.
 use Rattle.numbers.proofs.Prelude.{ℕ, suc, ◌+◌, ◌≤◌, ◌<◌, eq-eqb, ne_eqb, eqb, length, drop, get_or, length-map, drop_of_length-le, drop-cons, Bool, true, false, ◌&&◌, List, [], ◌∷◌, map, ◌≡◌, refl}
 use Rattle.numbers.proofs.Prelude.{sym, ap, ◌∙◌, add-one, arith}
-use lib.Bits.{bit_xor}
 use Rattle.zones.specs.Simple.{same, name, timezone_id, timezone_id_prefix, part_of}
-use Rattle.header.{proofs.Buffers.{map_at}, specs.Utf8.{unmasked}}
+use Rattle.header.specs.Utf8.{unmasked}
 use mathlib.Core.Bool.{and-false}
+use Rattle.std.specs.List.{list_all, zip}
 
 pub lengths_differ : (xs ys : List ℕ) → (length xs ≡ length ys → ⊥) → same xs ys ≡ false
 unfolding same
@@ -40,25 +40,13 @@ module _ (stored name : List ℕ) where
   pub not_as_long : (length stored ≡ length name → ⊥) → false ≡ same called name
   not_as_long h = sym (lengths_differ called name (λ e. h (sym (length-map stored unmasked) ∙ e)))
 
-  module _ (i : ℕ) (lengths : length stored ≡ length name) {whole : Bool} (so_far : same (drop i called) (drop i name) ≡ whole) where
-    sizes : length called ≡ length name
-    sizes = length-map stored unmasked ∙ lengths
-
-    pub all_called : length name ≤ i → true ≡ whole
-    all_called h = all_same called name sizes i so_far (omega (arith, sizes, h))
-
-    module _ (more : i < length name) where
-      there : i < length called
-      there = omega (arith, sizes, more)
-
-      byte : get_or called i 0 ≡ bit_xor (get_or stored i 0) 0x80
-      byte = map_at unmasked stored i (omega (arith, lengths, more))
-
-      pub called_other : (bit_xor (get_or stored i 0) 0x80 ≡ get_or name i 0 → ⊥) → false ≡ whole
-      called_other n = differs called name sizes i so_far there (λ e. n (sym byte ∙ e))
-
-      pub called_on : bit_xor (get_or stored i 0) 0x80 ≡ get_or name i 0 → same (drop (i + 1) called) (drop (i + 1) name) ≡ whole
-      called_on e = goes_on called name sizes i so_far there (byte ∙ e)
+-- as long as each other, they are the same by each pair
+pub called_zip : (stored name : List ℕ) → length stored ≡ length name → list_all (λ pair. eqb (unmasked pair.0) pair.1) (zip stored name) ≡ same (map unmasked stored) name
+unfolding same
+called_zip [] [] h = refl
+called_zip [] (y ∷ ys) h = absurd (omega arith)
+called_zip (x ∷ xs) [] h = absurd (omega arith)
+called_zip (x ∷ xs) (y ∷ ys) h = ap (λ (t : Bool). eqb (unmasked x) y && t) (called_zip xs ys (omega arith))
 
 -- ---- the part that a name stands for, by the tests that the code makes
 module _ (kind : ℕ) (called : List ℕ) where

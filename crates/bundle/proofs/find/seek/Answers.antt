@@ -4,22 +4,10 @@ use Rattle.bundle.proofs.{Entries.{seek_here, seek_on, seek_end}}
 use Rattle.bundle.specs.Named.{name_of}
 use Rattle.bundle.proofs.find.seek.Goals as goal
 
-pub loop-left-init : goal.loop-left-init
-loop-left-init c =
-    (refl, c.requires)
-
-pub is_here-requires : goal.is_here-requires
-is_here-requires c =
-    omega (arith, c.loop-left.invariant.1, c.loop-left-test.true)
-
 pub returns-then-is_here : goal.returns-then-is_here
 returns-then-is_here c =
     seek_here c.loop-left.left c.args.bundle.now (name_of c.args.wanted) c.loop-left.at c.loop-left-test.true (sym
     c.is_here.ensures ∙ c.if-is_here.true) ∙ c.loop-left.invariant.0
-
-pub overflow_add-at : goal.overflow_add-at
-overflow_add-at c =
-    omega (arith, c.loop-left.invariant.1, c.loop-left-test.true)
 
 pub loop-left-preserved : goal.loop-left-preserved
 loop-left-preserved c = (

@@ -7,36 +7,20 @@ pub returns-then-not-is_bundle : goal.returns-then-not-is_bundle
 returns-then-not-is_bundle c =
     ap refused c.at.ensures ∙ head_1 c.args.bundle.now (sym c.is_bundle.ensures ∙ c.if-not-is_bundle.true)
 
-pub bounds-bundle-11 : goal.bounds-bundle-11
-bounds-bundle-11 c =
-    omega (arith, bundle_long c.args.bundle.now (sym c.is_bundle.ensures ∙ c.if-not-is_bundle.false))
-
 pub returns-then-bundle-ne0 : goal.returns-then-bundle-ne0
 returns-then-bundle-ne0 c =
     ap refused c.at-then-bundle-ne0.ensures ∙ head_2 c.args.bundle.now (sym c.is_bundle.ensures ∙ c.if-not-is_bundle.false) c.if-bundle-ne0.true
-
-pub word_at-index-requires : goal.word_at-index-requires
-word_at-index-requires c =
-    omega (arith, bundle_long c.args.bundle.now (sym c.is_bundle.ensures ∙ c.if-not-is_bundle.false))
 
 pub returns-then-not-is_index : goal.returns-then-not-is_index
 returns-then-not-is_index c =
     ap refused c.at-then-not-is_index.ensures ∙ head_3 c.args.bundle.now (sym c.is_bundle.ensures
     ∙ c.if-not-is_bundle.false) c.if-bundle-ne0.false c.word_at-index.ensures.0 (sym c.is_index.ensures ∙ c.if-not-is_index.true)
 
-pub word_at-start-requires : goal.word_at-start-requires
-word_at-start-requires c =
-    omega (arith, bundle_long c.args.bundle.now (sym c.is_bundle.ensures ∙ c.if-not-is_bundle.false))
-
 pub returns-then-not-is_data : goal.returns-then-not-is_data
 returns-then-not-is_data c =
     ap refused c.at-then-not-is_data.ensures ∙ head_4 c.args.bundle.now (sym c.is_bundle.ensures
     ∙ c.if-not-is_bundle.false) c.if-bundle-ne0.false c.word_at-index.ensures.0 (sym c.is_index.ensures
     ∙ c.if-not-is_index.false) c.word_at-start.ensures.0 (sym c.is_data.ensures ∙ c.if-not-is_data.true)
-
-pub word_at-end-requires : goal.word_at-end-requires
-word_at-end-requires c =
-    omega (arith, bundle_long c.args.bundle.now (sym c.is_bundle.ensures ∙ c.if-not-is_bundle.false))
 
 pub returns-then-not-is_end : goal.returns-then-not-is_end
 returns-then-not-is_end c =

@@ -8,6 +8,3 @@ nul_at file place k = eqb (octet file (place + k)) 0
 
 abbrev pub invariant-loop-n : goal.invariant-loop-n
 invariant-loop-n l = (l.n ≤ l.initial.n) × (last_with l.n (nul_at l.file l.place) ≡ last_with l.initial.n (nul_at l.file l.place))
-
-abbrev pub decreases-loop-n : goal.decreases-loop-n
-decreases-loop-n l = l.n

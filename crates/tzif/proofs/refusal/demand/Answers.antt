@@ -1,13 +1,12 @@
 -- `tzif::refusal::demand` meets its contract.
-use Rattle.numbers.proofs.Prelude.{refl, ap}
-use Rattle.std.specs.Prelude.{Err}
+use Rattle.numbers.proofs.Prelude.{refl}
 use Rattle.tzif.specs.Reply.{demand}
 use Rattle.tzif.proofs.refusal.demand.Goals as goal
 
 pub returns-then-not-holds : goal.returns-then-not-holds
 unfolding demand
 returns-then-not-holds c =
-    rw c.if-not-holds.true (ap Err c.refuse.ensures)
+    rw c.if-not-holds.true refl
 
 pub returns : goal.returns
 unfolding demand

@@ -1,5 +1,5 @@
 -- `tzif::text::run_to` meets its contract.
-use Rattle.numbers.proofs.Prelude.{ℕ, sym, ap, ◌∙◌, arith}
+use Rattle.numbers.proofs.Prelude.{ℕ, ◌≡◌, sym, ap, ◌∙◌, arith}
 use Rattle.tzif.proofs.{Firsts.{none_yet, not_here, here}}
 use Rattle.tzif.specs.{Text.{is_stop, first_with, run_to}}
 use Rattle.tzif.proofs.text.run_to.Invariants.{stop_at}
@@ -18,14 +18,6 @@ returns-then-is_stop c =
       within = c.loop-i.invariant.0;
     }
 
-pub overflow_add-i : goal.overflow_add-i
-overflow_add-i c =
-    omega (arith, c.loop-i-test.true)
-
-pub loop-i-smaller : goal.loop-i-smaller
-loop-i-smaller c =
-    omega (arith, c.loop-i-test.true)
-
 pub loop-i-preserved : goal.loop-i-preserved
 loop-i-preserved c = (
   omega (arith, c.loop-i-test.true),
@@ -36,11 +28,7 @@ loop-i-preserved c = (
 pub returns : goal.returns
 unfolding run_to
 returns c =
-    record {
-      same = sym c.loop-i.invariant.1 ∙ ap (λ (n : ℕ). first_with n (stop_at c.args.other c.args.file.now c.args.from)) (omega (
-        arith,
-        c.loop-i.invariant.0,
-        c.loop-i-test.false,
-      ));
-      within = c.loop-i.invariant.0;
+    let all : c.loop-i.i ≡ c.args.most = omega (arith, c.loop-i.invariant.0, c.loop-i-test.false) in record {
+      same = sym all ∙ sym c.loop-i.invariant.1 ∙ ap (λ (n : ℕ). first_with n (stop_at c.args.other c.args.file.now c.args.from)) all;
+      within = omega arith;
     }

@@ -1,5 +1,5 @@
 -- `tzif::text::run_to` meets its contract.
-use Rattle.numbers.proofs.Prelude.{ℕ, ◌+◌, ◌-◌, ◌≤◌, Bool, List, ◌≡◌}
+use Rattle.numbers.proofs.Prelude.{ℕ, ◌+◌, ◌≤◌, Bool, List, ◌≡◌}
 use Rattle.tzif.specs.{Number.{octet}, Text.{is_stop, first_with}}
 use Rattle.tzif.proofs.text.run_to.Given as goal
 
@@ -8,6 +8,3 @@ stop_at other file from k = is_stop other (octet file (from + k))
 
 abbrev pub invariant-loop-i : goal.invariant-loop-i
 invariant-loop-i l = (l.i ≤ l.most) × (first_with l.i (stop_at l.other l.file l.from) ≡ l.i)
-
-abbrev pub decreases-loop-i : goal.decreases-loop-i
-decreases-loop-i l = l.most - l.i

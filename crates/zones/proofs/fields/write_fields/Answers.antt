@@ -12,10 +12,6 @@ pub hit_at-hit-requires : goal.hit_at-hit-requires
 hit_at-hit-requires c =
     omega (arith, c.requires.1)
 
-pub overflow_add-i : goal.overflow_add-i
-overflow_add-i c =
-    omega (arith, c.loop-i-test.true, c.ranges)
-
 pub write_match-requires : goal.write_match-requires
 write_match-requires c =
     from_here _ _ _ _ c.loop-i.invariant.0
@@ -29,10 +25,6 @@ returns-in_err-at c =
     rw (passed_on _ c.from_residual.ensures.1) (match_refused _ _ _ _ c.loop-i.invariant.0 (omega (arith, c.loop-i-test.true, count_slots c.args.hits.now c.args.count c.requires.1)) _ (slot_is c.args.hits.now
     c.args.count c.requires.1 _ _ c.loop-i-test.true c.hit_at-hit.ensures) _ c.fields_place-start.ensures c.write_match.result c.write_match.new.text
     c.write_match.ensures _ c.in_err-at.was)
-
-pub loop-i-smaller : goal.loop-i-smaller
-loop-i-smaller c =
-    omega (arith, c.loop-i-test.true)
 
 pub loop-i-preserved : goal.loop-i-preserved
 loop-i-preserved c = (

@@ -33,14 +33,6 @@ overflow_add-at c =
       c.well_formed,
     )
 
-pub overflow_add-tag : goal.overflow_add-tag
-overflow_add-tag c =
-    omega (arith, c.loop-tag-test.true, c.struct_known-1.given)
-
-pub loop-tag-smaller : goal.loop-tag-smaller
-loop-tag-smaller c =
-    omega (arith, c.loop-tag-test.true)
-
 pub loop-tag-preserved : goal.loop-tag-preserved
 loop-tag-preserved c =
     filled _ _ _ _ c.loop-tag.invariant c.loop-tag-test.true c.write_field.result c.write_field.new.text c.write_field.ensures.0 c.write_field.ensures.1 c.in_ok-field.was

@@ -12,14 +12,6 @@ pub hit_at-hit-requires : goal.hit_at-hit-requires
 hit_at-hit-requires c =
     omega (arith, c.requires)
 
-pub overflow_add-i : goal.overflow_add-i
-overflow_add-i c =
-    omega (arith, c.loop-i-test.true, c.ranges)
-
-pub loop-i-smaller : goal.loop-i-smaller
-loop-i-smaller c =
-    omega (arith, c.loop-i-test.true)
-
 pub loop-i-preserved : goal.loop-i-preserved
 loop-i-preserved c = (
   match_good c.args.file.now c.args.head (take c.args.count (slots c.args.hits.now)) c.loop-i.i c.loop-i.invariant.0 (omega (

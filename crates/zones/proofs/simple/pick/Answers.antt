@@ -20,14 +20,6 @@ pub part_of-requires : goal.part_of-requires
 part_of-requires c =
     name_inside _ _ _ _ _ _ _ c.loop-index.invariant.0 c.loop-index-test.true (sym c.in_ok-called.was ∙ c.read_header_text.ensures)
 
-pub overflow_add-index : goal.overflow_add-index
-overflow_add-index c =
-    omega (arith, c.loop-index-test.true, c.struct_known-1.given)
-
-pub loop-index-smaller : goal.loop-index-smaller
-loop-index-smaller c =
-    omega (arith, c.loop-index-test.true)
-
 pub loop-index-preserved : goal.loop-index-preserved
 loop-index-preserved c = (
   goes _ _ _ _ _ _ _ c.loop-index.invariant.0 c.loop-index-test.true (sym c.in_ok-called.was

@@ -12,6 +12,3 @@ invariant-loop-index l =
     (picked_from l.file (head_of l.preamble l.sections l.strict) (l.names - l.index) l.index l.name l.place l.last ≡ picked_from l.file (head_of l.preamble
     l.sections l.strict) l.names 0 7
     l.start (begun l.preamble.kind)) × (l.index ≤ l.names)
-
-abbrev pub decreases-loop-index : goal.decreases-loop-index
-decreases-loop-index l = l.names - l.index

@@ -11,10 +11,6 @@ pub returns-then-self : goal.returns-then-self
 returns-then-self c =
     long_name c.args.bundle.now c.args.self.prefix.now c.args.self.id.now c.args.place c.args.self.mask c.if-self-gt40.false c.if-self.true
 
-pub agrees-requires : goal.agrees-requires
-agrees-requires c =
-    c.requires
-
 pub returns : goal.returns
 returns c =
     c.agrees.ensures ∙ entry_is c.args.bundle.now c.args.self.prefix.now c.args.self.id.now c.args.place c.args.self.mask c.if-self-gt40.false c.if-self.false
