@@ -1,4 +1,7 @@
 // Reading a border's points, one at a time. The state is plain data; the file's bytes and its encoding stand beside it.
+// Stays, point 2: forward and backward are no twins: they read by other functions, test otherwise, and backward alone negates.
+// Stays, point 7: a file is read plainly or strictly as C asks; the definitions take a Bool, a const parameter would compile it twice.
+// Stays, point 5: `Encoding` has what stays the same; a struct of it, the file and the state, made anew each turn, is no plainer.
 ghost use Rattle.std.specs.Prelude.{◌≡◌, pos, negsuc};
 ghost use Rattle.numbers.specs.{Answer.{found}, Varint.{told, reading_of}};
 ghost use Rattle.border.specs.Reader.{onward, arrived, closing, advanced, shown_by, plain_move, plain_pair, plain_turn, data_place, as_i64, opened, reference, marker, forward_from, backward_from, packed_turn, turn_of};
@@ -47,6 +50,7 @@ pub struct Reader {
 }
 
 // One turn of the reader's loop, which the definitions of the crates above name. The point that is given is the state's own.
+// Stays an enum: three turns, which the definitions have too; a Result of an Option of a pair is no plainer.
 #[derive(Clone, Copy)]
 pub enum Turn {
     Gives(Reader),
@@ -374,6 +378,7 @@ fn turn_once(file: &[u8], encoding: Encoding, reader: Reader) -> Result<Turn, St
 }
 
 // The state at the next point of a border, which is its own; None at the border's end. The file's bytes and its encoding are the same from point to point.
+// Stays a loop: a turn may give nothing, and the next one goes on from what it read.
 pub fn next_point(file: &[u8], encoding: Encoding, reader: Reader) -> Result<Option<Reader>, Stop>
     ensures { told result ≡ next_point file.now encoding reader }
 {

@@ -9,6 +9,7 @@ pub struct Moment {
 }
 
 // The day and the second of an instant; none outside these years.
+// Stays a function: the definitions' word, and outside the years there is none.
 pub fn moment_of(instant: i64) -> Option<Moment>
     ensures { MomentOf instant result }
 {

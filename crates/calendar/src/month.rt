@@ -1,4 +1,5 @@
 // Months: the days up to each, its length, and the month of a day of the year.
+// Stays, point 7: `leap` is a bool, as the definitions of specs/Calendar take one.
 ghost use Rattle.std.specs.Prelude.{◌≡◌, ◌≤◌, ◌<◌};
 ghost use Rattle.calendar.specs.{Calendar.{month_length, days_of_months}, Dates.{PlaceOf}};
 
@@ -38,6 +39,7 @@ pub(crate) fn month_at(leap: bool, place: u64) -> MonthDay
     ensures { PlaceOf leap place result.month result.day }
 {
     let mut month: u64 = 1;
+    // Stays a loop: it ends at a month, not at the end of a list.
     while days_of_months(leap, month) <= place {
         month += 1;
     }

@@ -1,4 +1,5 @@
 // Strings as they go out into a lent text.
+// Stays, point 7: a file is read plainly or strictly as C asks; the definitions take a Bool, a const parameter would compile it twice.
 ghost use mathlib.Core.{Path.{◌≡◌}, List.{map}};
 ghost use Rattle.std.specs.Prelude.{◌+◌, ◌≤◌, ◌<◌, length};
 ghost use Rattle.numbers.specs.Lists.{zeros, over};

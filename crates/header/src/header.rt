@@ -1,4 +1,5 @@
 // The header: what it says of the file, and where the table, the metadata and the data begin.
+// Stays, point 7: a file is read plainly or strictly as C asks; the definitions take a Bool, a const parameter would compile it twice.
 ghost use Rattle.std.specs.Prelude.{◌≡◌, ◌+◌, ◌^◌, ◌≤◌, ◌<◌, length};
 ghost use Rattle.numbers.specs.Fault.{number_of};
 ghost use Rattle.header.specs.Text.{text_at};
@@ -11,6 +12,7 @@ use numbers::refusal::{Refusal, or_refuse};
 use numbers::varint::{Number, read_number};
 
 // The first seven bytes.
+// Stays a number: lookups take any header, a forged one too (docs/DECISIONS.md); a type of two kinds would ask more of callers.
 #[derive(Clone, Copy)]
 pub struct Preamble {
     pub kind: u8,

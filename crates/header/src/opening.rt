@@ -1,4 +1,6 @@
 // Opening a file: what its header says, and in a lent text its names and its notice.
+// Stays, point 2: one function with a flag, under the two names that C calls.
+// Stays, point 7: a file is read plainly or strictly as C asks; the definitions take a Bool, a const parameter would compile it twice.
 ghost use Rattle.std.specs.Prelude.{◌≡◌, length, ◌<◌};
 ghost use Rattle.numbers.specs.Lists.{zeros};
 ghost use Rattle.header.specs.{Opening.{Filled, replied, opened_by, opened_of, opened_strictly}, Header.{texts_of}};
@@ -8,6 +10,7 @@ use crate::header::{head_by, read_header_text};
 use numbers::fault::Fault;
 use numbers::refusal::Refusal;
 
+// Stays a number: the kind is a word of the reply that C gets.
 #[derive(Clone, Copy)]
 pub struct Opening {
     pub kind: u8,

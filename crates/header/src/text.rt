@@ -1,4 +1,6 @@
 // Strings of the file: where they stand.
+// Stays, point 2: `undecoded` and `not_utf8` are one line each, with another cause.
+// Stays, point 7: a file is read plainly or strictly as C asks; the definitions take a Bool, a const parameter would compile it twice.
 ghost use Rattle.std.specs.Prelude.{◌≡◌};
 ghost use Rattle.numbers.specs.{Reply.{refusal, encoding, not_utf8}, Varint.{told}};
 ghost use Rattle.header.specs.Text.{within, remote_at, string_at, text_at};
@@ -16,7 +18,14 @@ pub struct Text {
     pub next: usize,
 }
 
+// The causes, as C gets them: bytes that can't be decoded, and bytes that are not UTF-8.
+// Stays numbers: `Refusal.cause` is one in the definitions (`encoding`, `not_utf8`) and in C.
+const ENCODING: u8 = 1;
+
+const NOT_UTF8: u8 = 2;
+
 // The refusal that a bad string is to be given: its number and detail.
+// Stays a number: `read_text` takes any, and the definitions blame by number.
 #[derive(Clone, Copy)]
 pub struct Blame {
     pub number: u8,
@@ -28,18 +37,19 @@ impl Blame {
     fn undecoded(self) -> Refusal
         ensures { result ≡ refusal self.number encoding self.detail }
     {
-        refuse(self.number, 1, self.detail)
+        refuse(self.number, ENCODING, self.detail)
     }
 
     // It is not UTF-8.
     fn not_utf8(self) -> Refusal
         ensures { result ≡ refusal self.number not_utf8 self.detail }
     {
-        refuse(self.number, 2, self.detail)
+        refuse(self.number, NOT_UTF8, self.detail)
     }
 }
 
 // The string whose bytes stand at a place, unless one of them is past the end.
+// Stays a length: the string's, whose bytes may lie past the file's end.
 fn inside(file: &[u8], start: usize, size: usize, next: usize) -> Result<Text, Stop>
     ensures { told result ≡ within file.now (record { start = start; size = size; next = next }) }
 {

@@ -10,6 +10,7 @@ struct Due {
     left: u8,
 }
 
+// Stays apart: it makes a value of its own type; one of equal shape makes another's.
 fn wants(low: u8, high: u8, left: u8) -> Option<Due>
     ensures { result ≡ Some (record { low = low; high = high; left = left }) }
 {

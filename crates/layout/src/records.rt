@@ -7,6 +7,7 @@ ghost use Rattle.layout.specs.inner.{Layout.{next}, Answers.{WordSize, WordsSize
 use numbers::write::write_varint;
 
 // The bytes of a number's shortest varint.
+// Stays an array: of no byte, so that the writer only counts.
 pub fn size_of_varint(number: u64) -> usize
     ensures { result ≡ length (varint_of number) }
 {
@@ -49,7 +50,7 @@ fn next_length(inline: u64, words: &[u32], records: u64) -> u64
 pub fn least_layout(inline: u64, words: &[u32]) -> Option<u64>
     ensures { LaidOut inline words.now result }
 {
-    // Stays a `while`: what the next step is, the last one says.
+    // Stays a loop: what the next step is, the last one says.
     let mut records = inline;
     while records < 0x1_0000_0000 {
         let next = next_length(inline, words, records);

@@ -1,4 +1,5 @@
 // A border's verdict by its marks: only stretches are read whose box, and whose group's, holds the location or, with the distance, is not far from it.
+// Stays, point 7: `asked` is the caller's question; a const parameter would compile each loop twice (docs/DECISIONS.md: 8 kB).
 ghost use Rattle.std.specs.Prelude.{IfSome, None, ◌≡◌, ◌+◌, ◌*◌, ◌≤◌, ◌<◌, min, length};
 ghost use Rattle.verdict.specs.{Distance.{to_vertex}, Verdict.{told, closed_at, then_on}};
 ghost use Rattle.verdict.specs.Step as step;
@@ -147,7 +148,7 @@ fn answer(passed: Result<Tally, Halt>, asked: bool, least: u64) -> Result<Judged
 {
     match passed {
         Ok(tally) => Ok(closed(asked, tally)),
-        Err(halt) => stopped(halt, asked, least),
+        Err(_) => stopped(passed, asked, least),
     }
 }
 
@@ -170,6 +171,7 @@ fn count_at(words: &[u32], at: usize) -> Option<usize>
 }
 
 // From a least distance on.
+// Stays parameters: the `Course` is made here of them.
 fn judge_from(
     file: &[u8],
     encoding: Encoding,
@@ -238,6 +240,7 @@ fn near_by(words: &[u32], at: usize, fix: Point, asked: bool, least: u64) -> u64
 }
 
 // Whether there is a verdict with less than this.
+// Stays a function: no order, but a test of an answer.
 fn is_below(judged: Result<Judged, Fault>, near: u64) -> bool
     ensures { result ≡ is_below near (told judged) }
 {

@@ -32,7 +32,7 @@ pub(crate) fn point_at(words: &[u32], at: usize) -> Point
     }
 }
 
-// Stays tests in a row: of a match on a number the check learns nothing in the arms.
+// Stays a switch, by tests in a row: of a match on a number the check learns nothing in the arms.
 fn run_of(kind: u32, next: usize, end: usize) -> Run
     ensures { result ≡ run_of kind next end }
 {

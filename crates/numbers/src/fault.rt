@@ -186,11 +186,4 @@ impl Fault {
     {
         refuse(self.number(), 0, place as u64)
     }
-
-    // The refusal with a cause: 1 encoding, 2 UTF-8.
-    pub fn because(self, cause: u8, detail: u64) -> Refusal
-        ensures { result ≡ refusal (number_of self) cause detail }
-    {
-        refuse(self.number(), cause, detail)
-    }
 }

@@ -49,6 +49,7 @@ pub fn unshuffle(w: u64) -> u32
 }
 
 // A number of at most 32 bits taken apart: its even bits in the low half of the answer, its odd bits in the high half.
+// Stays a function: no conversion; it sorts bits.
 fn apart(w: u64) -> u64
     requires { w < 2 ^ 32 }
     ensures { result ≡ both_bits w }
@@ -58,6 +59,7 @@ fn apart(w: u64) -> u64
 }
 
 // Any number taken apart, 32 bits at a time. Hardly a move has more; the loop keeps the rest short enough for this to be compiled in line.
+// Stays a loop: each turn divides the rest, until nothing is left.
 fn apart_any(w: u64) -> u64
     ensures { result ≡ both_bits w }
 {

@@ -1,9 +1,11 @@
 // What an exported call says to C beside its lent output: a number, 0 where it answers, and the five words of `reply`.
+// Stays, point 4: `say_refused` and `speak` are the definitions' words (specs/Spoken).
 ghost use mathlib.Core.{Path.{◌≡◌}, List.{[]}};
 ghost use Rattle.numbers.specs.Spoken.{refused_said, spoken};
 
 use crate::refusal::Refusal;
 
+// Stays a number: C gets it, and 0 is the answer's.
 #[derive(Clone, Copy)]
 pub struct Said {
     pub number: u8,

@@ -67,6 +67,7 @@ pub(crate) fn time(text: &[u8], place: usize) -> Result<u64, Refusal>
     second_of(hour, minute, second, place)
 }
 
+// Stays a function: no conversion; it chooses the century.
 fn full_year(year: u64) -> u64
     requires { year < 100 }
     ensures { result ≡ full_year year }
@@ -115,6 +116,7 @@ fn moment(text: &[u8], place: usize) -> Result<i64, Refusal>
 }
 
 // A size with its sign.
+// Stays a flag: the sign is what the line says.
 fn signed(minus: bool, size: u64, place: usize) -> Result<i64, Refusal>
     ensures { result ≡ at place (signed_to minus size) }
 {

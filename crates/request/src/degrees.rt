@@ -75,6 +75,7 @@ pub(crate) fn side(text: &[u8], plus: u8, minus: u8, place: usize) -> Result<boo
 }
 
 // One digit to three, and their decimals.
+// Stays a function: it reads, and prints nothing.
 fn decimal(text: &[u8], limit: u64, place: usize) -> Result<Ratio, Refusal>
     requires { limit ≤ 180 }
     ensures { (result ≡ at place (decimal_of limit text.now)) × IfOk result IsSize }
@@ -97,6 +98,7 @@ fn decimal(text: &[u8], limit: u64, place: usize) -> Result<Ratio, Refusal>
 }
 
 // The first byte, or 0.
+// Stays a sentinel: callers compare it with the two signs alone, and 0 is neither.
 pub(crate) fn first(text: &[u8]) -> u8
     ensures { result ≡ get_or text.now 0 0 }
 {

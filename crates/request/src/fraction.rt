@@ -55,6 +55,7 @@ fn nearest_fraction(num: u64, den: u64) -> f32
 }
 
 // The f32 nearest to a fraction with a sign; of zero +0.
+// Stays a flag: the sign is what the line says.
 pub(crate) fn nearest_to(minus: bool, num: u64, den: u64) -> f32
     requires { (0 < den) × (num / den < 16777216) }
     ensures { result ≡ nearest_to (record { minus = minus; size = record { num = num; den = den } }) }

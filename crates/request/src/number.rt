@@ -1,4 +1,5 @@
 // Numbers that digits spell.
+// Stays, point 6: `n` and `most` count the digits that a form has; neither is a list's length.
 ghost use Rattle.std.specs.Prelude.{◌≡◌, ◌+◌, ◌^◌, ◌≤◌, ◌<◌, length};
 ghost use Rattle.request.specs.Number.{digit_of, value_from, part_of, is_tail, has_form};
 

@@ -1,4 +1,6 @@
 // A sentence: RMC of NMEA 0183.
+// Stays, point 2: `time_in` and `date_in` are two lines each, of another field and reading; `star_of` has no twin but in shape.
+// Stays, point 6: `n` is a field's number, and no list's length.
 ghost use Rattle.std.specs.Prelude.{◌≡◌, ◌+◌, ◌≤◌, ◌<◌, length, get_or, drop, IfOk};
 ghost use Rattle.request.specs.{Text.{behind, field, formed}, Number.{nearest_to}, Clock.{time_of, date_of, day_of, second_of}};
 ghost use Rattle.request.specs.{Request.{is_hex, is_sealed, is_address, is_rmc, is_known, is_mode, place_of, in_field, turned, fix_of, fields_of, star_of, sentence_of, meaning}, Told.{shown}};

@@ -1,4 +1,5 @@
 // Bytes of a line.
+// Stays, point 7: `letters` chooses in one closure here; a closure from each caller reads no plainer.
 ghost use Rattle.std.specs.Prelude.{◌≡◌, ◌+◌, ◌≤◌, ◌||◌, eqb, not, position, length, take, drop};
 ghost use Rattle.std.specs.List.{list_all, zip};
 ghost use Rattle.request.specs.{Text.{every, formed, count, xors, until, unblanked, unended}, Told.{taken, likened}};
@@ -58,6 +59,7 @@ pub(crate) fn xors(text: &[u8]) -> u8
 }
 
 // A space or a tab.
+// Stays apart: those of equal shape elsewhere ask for other bytes.
 fn is_blank(byte: u8) -> bool
     ensures { result ≡ (eqb byte 32 || eqb byte 9) }
 {

@@ -2,7 +2,7 @@
 use Rattle.std.{proofs.lemmas.Result.{err_from_is_err_and}, specs.{Option.{ok_or}, Prelude.{Option, Some, None, SomeIff, FitsSigned, Result, Ok, Err, if◌then◌else◌}, Result.{IsErrAnd}}}
 use Rattle.numbers.proofs.Prelude.{ℕ, ℤ, ◌^◌, ◌<◌, ltb, ltb-true, lt-ltb, mag, Bool, true, false, ◌≡◌, refl, sym, ap, ◌∙◌, w32, SFits, arith}
 use Rattle.numbers.specs.Answer.{in_range}
-use Rattle.verdict.specs.{Step.{Step, found, refused, ◌>>=◌, checked, told}, declared.step.Halt.{Halt, TheVariants.{Meets, Over}}}
+use Rattle.verdict.specs.{Step.{Step, found, refused, ◌>>=◌, checked, told}, Verdict.{Judgement, then_on}, declared.step.{Halt.{Halt, TheVariants.{Meets, Over}}, Tally.{Tally}}}
 
 module _ {A B : Type 0} {step : Step A} (a : Result A Halt) (e : told a ≡ step) where
   -- it goes on with what was found
@@ -20,6 +20,12 @@ module _ {A B : Type 0} {step : Step A} (a : Result A Halt) (e : told a ≡ step
 pub exits : {A B : Type 0} {step : Step A} {a : Result A Halt} {why : Halt} (r : Result B Halt) → a ≡ Err why → told a ≡ step → IsErrAnd r (λ e. e ≡ why) → (next : A → Step B)
     → told r ≡ (step >>= next)
 exits {a = a} r is e h next = let p = err_from_is_err_and r h in rw (p.1, p.2) (stops a e is next)
+
+-- a step that ends a walk says nothing of what would follow
+pub ends_alike : (halt : Halt) (asked : Bool) (least : ℕ) (f g : Tally → Judgement) → then_on asked least (told {A = Tally} (Err halt)) f ≡ then_on asked least (told {A = Tally} (Err halt)) g
+unfolding then_on
+ends_alike (Meets verdict) asked least f g = refl
+ends_alike Over asked least f g = refl
 
 -- a sum or a difference that std tests for the range of an i32
 module _ (z : ℤ) (o : Option ℤ) (h : SomeIff o (FitsSigned w32 z) z) {r : Result ℤ Halt} (e : r ≡ ok_or o Over) where

@@ -30,6 +30,7 @@ fn are_small(fix: Point, low: Point, high: Point) -> bool
 }
 
 // Counted from 2^22 below 0, so that it is a plain number.
+// Stays a function: the definitions' word (raised).
 fn raise(x: i32) -> u64
     requires { small x ≡ true }
     ensures { result ≡ raised x }

@@ -11,12 +11,14 @@ use border::place::Point;
 use numbers::float::cut::to_i64;
 
 // Whether a square fits an i64.
+// Stays apart: those of equal shape elsewhere have other bounds.
 fn squarable(difference: i64) -> bool
     ensures { result ≡ ltb (mag (difference *ℤ difference)) (2 ^ 63) }
 {
     -3037000499 <= difference && difference <= 3037000499
 }
 
+// Stays a function: a product, no conversion.
 fn square(difference: i64) -> u64
     requires { mag (difference *ℤ difference) < 2 ^ 63 }
     ensures { result ≡ nat_abs (difference *ℤ difference) }

@@ -1,4 +1,6 @@
 // Edges of a border in f32, each operation rounded once, in the order of the Rust; boxes; quadrants.
+// Stays, point 7: `asked` is the caller's question; a const parameter would compile each loop twice (docs/DECISIONS.md: 8 kB).
+// Stays, point 4: operators under the definitions' words (`same_point`, `between`, `slope_of`).
 ghost use Rattle.std.specs.Prelude.{int_le};
 ghost use mathlib.Core.{Path.{◌≡◌}, Bool.{◌&&◌}};
 ghost use Rattle.verdict.specs.{Edge.{same_point, between, in_box, quadrant_of, spot_of, slope_of, edge_of, closest_on, cut_of, straight}, inner.Kept.{seen_from}};
@@ -30,6 +32,7 @@ pub enum Edge {
 }
 
 // A point with what is kept of it for the next edge: its quadrant, and its floats if the distance is asked for.
+// Stays a number: turns are counted in quadrants modulo 4.
 #[derive(Clone, Copy)]
 pub struct Seen {
     pub point: Point,
@@ -56,13 +59,14 @@ fn between_numbers(one: i32, x: i32, other: i32) -> bool
     rising(one, x, other) || rising(other, x, one)
 }
 
-// Two functions of one form: each type's keeps a latitude from a longitude's place, and a generic one over `Ord` would say its clause by `cmp`.
+// Stays two: each type's keeps a latitude from a longitude's place, and a generic one over `Ord` would say its clause by `cmp`.
 fn lat_between(one: FixedLat, x: FixedLat, other: FixedLat) -> bool
     ensures { result ≡ between one.0 x.0 other.0 }
 {
     between_numbers(one.0, x.0, other.0)
 }
 
+// Stays apart from `lat_between`, as said there.
 fn lon_between(one: FixedLon, x: FixedLon, other: FixedLon) -> bool
     ensures { result ≡ between one.0 x.0 other.0 }
 {
@@ -87,6 +91,7 @@ pub(crate) fn quadrant_of(fix: Point, point: Point) -> u8
     }
 }
 
+// Stays apart from `place_of` (far.rt): it gives floats, that one lifted numbers.
 pub(crate) fn spot_of(point: Point) -> Spot
     ensures { result ≡ spot_of point }
 {

@@ -1,4 +1,5 @@
 // Fields so far from a location that no edge in them comes nearer than the least distance so far.
+// Stays, point 7: `asked` is the caller's question; a const parameter would compile each loop twice (docs/DECISIONS.md: 8 kB).
 ghost use Rattle.std.specs.Prelude.{◌≡◌, ◌+◌, ◌*◌, ◌<◌, ◌≤◌};
 ghost use Rattle.verdict.specs.inner.Gliding.{lowered, LiftedTo, FarSpan, FarAbout, OpensFar, Opens};
 
@@ -15,6 +16,7 @@ const NOT_NEAR: u64 = 8388609;
 // No number near 0 is so far from another that its square reaches this.
 const TOO_FAR: u64 = 0x4000_0000_0000;
 
+// Stays a function: no conversion; far numbers become one.
 fn lifted(x: i32) -> u64
     ensures { LiftedTo x result }
 {
@@ -34,6 +36,7 @@ pub(crate) struct Place {
     pub lon: u64,
 }
 
+// Stays apart from `spot_of` (edge.rt): it gives lifted numbers, that one floats.
 fn place_of(p: Point) -> Place
     ensures { (LiftedTo p.lat.0 result.lat) × (LiftedTo p.lon.0 result.lon) }
 {

@@ -1,4 +1,7 @@
 // A border that stays in a field, read quickly. A reader of the verdict may skip this file: it only hurries.
+// Stays, point 2: forth and back read by other functions, stop by other tests, and back alone negates; `fours_end` has no twin but in shape.
+// Stays, point 7: a file is read plainly or strictly as C asks; the definitions take a Bool, a const parameter would compile it twice.
+// Stays, point 5: that a reader has begun and is open is tested once, in `glide_on`; a type for it would be a second `Reader`.
 ghost use mathlib.Core.{Path.{◌≡◌}, Bool.{true, false}};
 ghost use Rattle.std.specs.Prelude.{◌+◌, ◌-◌, ◌<◌, length};
 ghost use Rattle.numbers.specs.Varint.{told, reading_of};
@@ -71,6 +74,7 @@ fn glided_at(place: usize, point: Wide) -> Glided
 }
 
 // A number where four bytes stand: nearly every move is a short one.
+// Stays parameters: those of `read_number`, for which it stands.
 fn read_move(file: &[u8], place: usize, strict: bool) -> Result<Number, Stop>
     requires { place + 3 < length file.now }
     ensures { told result ≡ reading_of strict file.now place }
@@ -88,7 +92,8 @@ fn fours_end(file: &[u8]) -> usize
     file.len().saturating_sub(3)
 }
 
-// Version 1, outside a reference, but for the last bytes of a file. These three stay loops: the place goes on by what was read, and each is left from its middle.
+// Version 1, outside a reference, but for the last bytes of a file.
+// Stays a loop: the place goes on by what was read.
 fn glide_forth(file: &[u8], strict: bool, field: Field, start: usize, from: Point) -> Glided
     ensures { GlidesForth file.now strict field start «from» result.place result.point }
 {
@@ -112,6 +117,7 @@ fn glide_forth(file: &[u8], strict: bool, field: Field, start: usize, from: Poin
 }
 
 // Version 1, inside a reference that is read backward, up to its last move.
+// Stays a loop: the place goes on by what was read, and the border says where it ends.
 fn glide_back(file: &[u8], field: Field, start: usize, end: usize, from: Point) -> Glided
     ensures { GlidesBack file.now field end start «from» result.place result.point }
 {

@@ -1,4 +1,5 @@
 // A border's verdict on a location, over its points as they are read.
+// Stays, point 7: `asked` is the caller's question; a const parameter would compile each loop twice (docs/DECISIONS.md: 8 kB).
 ghost use mathlib.Core.{Bool.{false, ◌&&◌}, Path.{◌≡◌}};
 ghost use Rattle.std.specs.Prelude.{◌-◌, ◌==◌, Err};
 ghost use Rattle.border.specs.Trace.{trace_of};
@@ -6,6 +7,7 @@ ghost use Rattle.verdict.specs.{inner.{Kept.{Sighted, last_of, unread_at}, Walk.
 ghost use Rattle.verdict.specs.Verdict.{told, judged_as, after, along, passing, on_border, closed_at, then_on, judged_at};
 ghost use Rattle.numbers.specs.Varint as N;
 ghost use Rattle.verdict.specs.Step as step;
+ghost use Rattle.verdict.specs.Verdict as verdict;
 
 use crate::distance::measure;
 use crate::edge::{Seen, Spot, quadrant_of, same_point, seen_from, spot_of};
@@ -130,13 +132,23 @@ fn unread(stop: Stop, least: u64) -> Result<Judged, Fault>
     }
 }
 
-// The answer of a step that does not go on.
-pub fn stopped(halt: Halt, asked: bool, least: u64) -> Result<Judged, Fault>
+// The answer where a step ends the walk.
+fn halted(halt: Halt, asked: bool, least: u64) -> Result<Judged, Fault>
     ensures { told result ≡ then_on asked least (step.told (Err halt)) (closed_at asked) }
 {
     match halt {
         Halt::Meets(verdict) => Ok(on_border(verdict, asked, least)),
         Halt::Over => Err(Fault::OutOfRange),
+    }
+}
+
+// The answer of a step that does not go on; one that does is out of range.
+pub fn stopped(passed: Result<Tally, Halt>, asked: bool, least: u64) -> Result<Judged, Fault>
+    ensures { told result ≡ then_on asked least (step.told passed) (λ tally. verdict.refused 13) }
+{
+    match passed {
+        Ok(_) => Err(Fault::OutOfRange),
+        Err(halt) => halted(halt, asked, least),
     }
 }
 
@@ -164,8 +176,10 @@ fn open_along(limited: bool, fix: Point, asked: bool, tally: Tally, p: Point) ->
 }
 
 // Along a border, from its start to its end; or, limited, over so many edges from a point of it on. The only loop over a border's points, for the reader's step
-// is then compiled into it; it stays a loop, for it ends in four ways and goes on in two.
+// is then compiled into it.
+// Stays a loop: it ends in four ways and goes on in two.
 // A flag and a number, and no Option: the number goes down from turn to turn while the flag stays.
+// Stays parameters: they are handed on as they came, and the one loop takes them all; a struct would be taken apart at once.
 fn judge_on(
     file: &[u8],
     encoding: Encoding,
@@ -227,11 +241,12 @@ fn answer(walk: Result<Tally, Break>, asked: bool) -> Result<Judged, Fault>
     match walk {
         Ok(tally) => Ok(closed(asked, tally)),
         Err(Break::Unread { stop, tally }) => unread(stop, tally.least),
-        Err(Break::Halted { halt, least }) => stopped(halt, asked, least),
+        Err(Break::Halted { halt, least }) => halted(halt, asked, least),
     }
 }
 
 // The step that a walk over so many edges is. Where the border can't be read on, it goes as far as it was read.
+// Stays a function: the definitions' word; a broken reading becomes a good step.
 fn step_of(walk: Result<Tally, Break>) -> Result<Tally, Halt>
     ensures { step.told result ≡ step_of walk }
 {
@@ -243,6 +258,7 @@ fn step_of(walk: Result<Tally, Break>) -> Result<Tally, Halt>
 }
 
 // Over so many edges of a border from one of its points on, or up to its end.
+// Stays parameters: they are handed on as they came, and the one loop takes them all; a struct would be taken apart at once.
 pub fn pass_edges(
     file: &[u8],
     encoding: Encoding,

@@ -17,6 +17,7 @@ pub struct Tally {
 }
 
 // Why a step along the border does not go on: the location is on the border, or a number passes its range.
+// Stays an enum: it is the error of a step's Result.
 #[derive(Clone, Copy)]
 pub enum Halt {
     Meets(Verdict),

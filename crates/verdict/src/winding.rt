@@ -31,6 +31,7 @@ pub(crate) fn quarter(quarters: u8, tally: Tally) -> Result<Tally, Halt>
 }
 
 // Two quadrants, by the west or by the east.
+// Stays a flag: the side, a Bool of the definitions, and two calls.
 fn half_turn(west: bool, quadrant: u8) -> i32
     ensures { result ≡ half_turn west quadrant }
 {
@@ -65,6 +66,7 @@ fn crossing_of(fix: Point, at: Spot, line: Slope) -> FixedLon
 }
 
 // An edge that leads across two quadrants; a straight one has the location on it.
+// Stays a match: an edge is one of three kinds, and none of them is a refusal.
 fn cross(fix: Point, at: Spot, edge: Edge, quadrant: u8, tally: Tally) -> Result<Tally, Halt>
     requires { at ≡ spot_of fix }
     ensures { told result ≡ across_by fix edge quadrant tally }

@@ -14,6 +14,7 @@ pub(crate) fn put_varint(out: &mut [u8], place: usize, value: u64) -> usize
     place + write_varint(out, place, value)
 }
 
+// Stays a function: two varints; nothing is printed.
 pub(crate) fn put_two(out: &mut [u8], place: usize, first: u64, second: u64) -> usize
     requires { place < 2 ^ 60 + 20 }
     ensures { Stored out.old place (varint_of first ++ varint_of second) out.new result }

@@ -8,6 +8,7 @@ use numbers::fault::Fault;
 use numbers::limits::LARGEST_FILE;
 use numbers::refusal::Refusal;
 
+// Stays apart: those of equal shape elsewhere have other bounds.
 fn is_near(z: i32) -> bool
     ensures { result ≡ near z }
 {
@@ -38,6 +39,7 @@ fn none_repeated(lats: &[i32], lons: &[i32]) -> bool
     true
 }
 
+// Stays, points 5 and 6: the two lists may still differ in length, which is tested here.
 fn is_sized(lats: &[i32], lons: &[i32]) -> bool
     ensures { result ≡ sized lats.now lons.now }
 {
@@ -48,6 +50,7 @@ fn is_sized(lats: &[i32], lons: &[i32]) -> bool
 }
 
 // The first refusal, if there is one.
+// Stays, points 5 and 6: the two lists may still differ in length, which is tested here.
 pub(crate) fn border_fault(
     version: u8,
     lats: &[i32],

@@ -189,6 +189,7 @@ pub(crate) fn check_words(
 }
 
 // 00 01, run start, signed length; backward, run end and the length negated.
+// Stays a clause: a place's bound, which a type of its own would not make plainer.
 pub(crate) fn put_piece(out: &mut [u8], place: usize, piece: Piece) -> usize
     requires { place < 2 ^ 60 }
     ensures { Stored out.old place (piece_bytes piece) out.new result }

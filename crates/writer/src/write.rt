@@ -102,6 +102,8 @@ fn write_checked(
 }
 
 // The border of the two lists, with some of its moves borrowed from the earlier data by the pieces.
+// Stays apart from `write_border_words`: thin, and the check is of another list.
+// Stays, points 5 and 6: docs/ have it with two lists, which may differ in length.
 pub fn write_border(
     version: u8,
     lats: &[i32],
@@ -117,6 +119,8 @@ pub fn write_border(
 }
 
 // The same of pieces as words, five each: start, bytes, direction, first, count. A remainder of words is no piece.
+// Stays apart from `write_border`: thin, and C's pieces are words.
+// Stays, points 5 and 6: docs/ have it with two lists, which may differ in length.
 pub fn write_border_words(
     version: u8,
     lats: &[i32],

@@ -1,4 +1,5 @@
 // Rust's `as` from f32 to a signed integer: cut toward zero, brought to the nearer end of the range, and 0 for a NaN.
+// Stays, point 2: `to_i64` and `to_i32` differ in two types and four constants; a trait that has these is no plainer.
 ghost use mathlib.Core.{Path.{◌≡◌}, Bool.{false}};
 ghost use lib.{Dec.{T}, IntN.{pos}, Ieee.{fin, lt, le, to_unsigned}};
 ghost use Rattle.numbers.specs.Float.{cut32, cut64};

@@ -6,6 +6,7 @@ use crate::float::cut::to_i32;
 use crate::float::nearest::{of_u64, power_of_two};
 
 // Rust's `(1_i32 << (precision - 1)) as f32`.
+// Stays a function: no conversion, but a precision's scale.
 pub fn factor(precision: u8) -> f32
     ensures { result ≡ to_f32 (one_shifted precision) }
 {

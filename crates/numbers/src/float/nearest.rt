@@ -5,6 +5,7 @@ ghost use lib.{IntN.{pos, nat_abs}, Ieee.{binary32, units, size, Nearest.{closes
 ghost use Rattle.numbers.specs.Float.{to_f32};
 
 // How many binary digits n has.
+// Stays a function: no conversion, but a count.
 pub(crate) fn digits(n: u64) -> u64
     ensures { result ≡ size n }
 {
@@ -45,6 +46,7 @@ fn nearest_shifted(n: u64, k: u64) -> u64
 }
 
 // Up to 2^24 every whole number is a float. A longer one keeps its 24 leading digits, rounded.
+// Stays by hand: the kit's own conversion would be compiled into every lookup (docs/DECISIONS.md).
 pub fn of_u64(n: u64) -> f32
     ensures { result ≡ to_f32 (pos n) }
 {

@@ -36,6 +36,7 @@ fn taken_apart(x: f32) -> Parts
 }
 
 // A guess at the root of the leading 32 digits of n, from two lines near the roots of 31 and of 32 digits.
+// Stays a function: no conversion, but a guess.
 fn first_guess(top: u32) -> u32
     ensures { (16384 ≤ result) × (result < 131072) }
 {

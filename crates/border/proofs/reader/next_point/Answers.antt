@@ -4,10 +4,6 @@ use Rattle.border.proofs.{Trace.{next_step, again_less, again_same}}
 use Rattle.border.specs.{Reader.{Turn}, Trace.{round_again, next_point}}
 use Rattle.border.proofs.reader.next_point.Goals as goal
 
-pub loop-later-init : goal.loop-later-init
-loop-later-init c =
-    refl
-
 pub returns-in_err-later : goal.returns-in_err-later
 returns-in_err-later c =
     exits c.from_residual.result c.in_err-later.was c.turn_once.ensures c.from_residual.ensures.1 (round_again (next_point c.args.file.now c.args.encoding))

@@ -10,16 +10,3 @@ returns-then-instant-ltminus70000000000 c =
 pub returns-then-instant-gt260000000000 : goal.returns-then-instant-gt260000000000
 returns-then-instant-gt260000000000 c =
     too_late _ _ _ (to_z-of_z w64 _ c.ranges.instant) c.ranges.offset c.if-instant-gt260000000000.true
-
-pub overflow_cast-offset : goal.overflow_cast-offset
-overflow_cast-offset c =
-    offset_fits _ _ _ (to_z-of_z w64 _ c.ranges.instant) c.ranges.offset
-
-pub overflow_add-instant : goal.overflow_add-instant
-overflow_add-instant c =
-    sum_fits _ _ _ (to_z-of_z w64 _ c.ranges.instant) c.ranges.offset c.if-instant-ltminus70000000000.false c.if-instant-gt260000000000.false
-
-pub returns : goal.returns
-returns c =
-    of_sum _ _ _ (to_z-of_z w64 _ c.ranges.instant) c.ranges.offset c.if-instant-ltminus70000000000.false c.if-instant-gt260000000000.false c.moment_of.result
-    c.moment_of.ensures

@@ -5,7 +5,3 @@ use Rattle.calendar.proofs.civil.shown.Goals as goal
 pub date_at-date-requires : goal.date_at-date-requires
 date_at-date-requires c =
     day_short _ _ c.requires
-
-pub returns : goal.returns
-returns c =
-    shows _ _ c.requires c.date_at-date.ensures c.weekday_of.ensures

@@ -11,14 +11,6 @@ pub returns-then-instant-gt253402300799 : goal.returns-then-instant-gt2534023007
 returns-then-instant-gt253402300799 c =
     after _ _ (to_z-of_z w64 _ c.ranges.instant) c.if-instant-gt253402300799.true
 
-pub overflow_add-since : goal.overflow_add-since
-overflow_add-since c =
-    sum_fits _ _ (to_z-of_z w64 _ c.ranges.instant) c.if-instant-ltminus62135596800.false c.if-instant-gt253402300799.false
-
-pub overflow_cast-since : goal.overflow_cast-since
-overflow_cast-since c =
-    cast_fits _ _ (to_z-of_z w64 _ c.ranges.instant) c.if-instant-ltminus62135596800.false c.if-instant-gt253402300799.false
-
 pub returns : goal.returns
 returns c =
     inside _ _ (to_z-of_z w64 _ c.ranges.instant) c.if-instant-ltminus62135596800.false c.if-instant-gt253402300799.false

@@ -8,21 +8,6 @@ pub loop-month-init : goal.loop-month-init
 unfolding days_of_months
 loop-month-init c = search rules
 
-pub loop-month-smaller : goal.loop-month-smaller
-loop-month-smaller c =
-    let less = not_last _ _ _ c.loop-month.invariant.0 c.loop-month.invariant.1 c.requires (omega (arith, c.days_of_months.ensures)) in
-    omega arith
-
-pub loop-month-preserved : goal.loop-month-preserved
-loop-month-preserved c =
-    let passed : days_of_months c.args.leap c.loop-month.month ≤ c.args.place = omega (arith, c.days_of_months.ensures) in
-    let less = not_last _ _ _ c.loop-month.invariant.0 c.loop-month.invariant.1 c.requires passed in (
-      omega arith,
-      omega arith,
-      subst (λ (n : ℕ). days_of_months c.args.leap n ≤ c.args.place) (let e : c.loop-month.month ≡ c.loop-month.month + 1 - 1 = omega arith
-          in e) passed,
-    )
-
 pub returns : goal.returns
 returns c =
     rw c.days_of_months-before.ensures (placed _ _ _ c.loop-month.invariant.0 c.loop-month.invariant.1 c.loop-month.invariant.2 (omega (arith, c.days_of_months.ensures)))

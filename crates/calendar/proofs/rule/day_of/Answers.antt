@@ -38,7 +38,3 @@ returns-in-Julian c =
 pub returns-in-Zero : goal.returns-in-Zero
 returns-in-Zero c =
     zero_sum _ _ c.in-Zero.is c.days_of_years-in-Zero.ensures
-
-pub returns-in-Month : goal.returns-in-Month
-returns-in-Month c =
-    month_day_sum _ _ _ _ c.in-Month.is c.month_day.ensures

@@ -10,7 +10,3 @@ returns-then-day-days_of_years c =
 pub returns-then-days_of_years-day : goal.returns-then-days_of_years-day
 returns-then-days_of_years-day c =
     early _ _ c.requires (search rules) (search rules) (omega (arith, c.days_of_years-2.ensures))
-
-pub returns : goal.returns
-returns c =
-    right _ _ c.requires (search rules) (search rules) (omega (arith, c.days_of_years.ensures)) (omega (arith, c.days_of_years-2.ensures))

@@ -1,5 +1,6 @@
 -- `marks::judge::answer` meets its contract.
-use Rattle.verdict.specs.Verdict.{then_on}
+use Rattle.numbers.proofs.Prelude.{◌∙◌}
+use Rattle.verdict.{proofs.Halts.{ends_alike}, specs.Verdict.{then_on}}
 use Rattle.marks.proofs.judge.answer.Goals as goal
 
 pub returns-in-Ok : goal.returns-in-Ok
@@ -9,4 +10,4 @@ returns-in-Ok c =
 
 pub returns-in-Err : goal.returns-in-Err
 returns-in-Err c =
-    rw c.in-Err.is c.stopped.ensures
+    rw c.in-Err.is (rw c.in-Err.is at c.stopped.ensures ∙ ends_alike _ _ _ _ _)

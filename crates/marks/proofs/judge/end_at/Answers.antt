@@ -18,11 +18,6 @@ pub returns-then-behind-eq0 : goal.returns-then-behind-eq0
 returns-then-behind-eq0 c =
     last_one c.args.words.now c.args.last c.args.behind c.args.at c.if-behind-eq0.true
 
-pub point_at-requires : goal.point_at-requires
-point_at-requires c =
-    let some : 0 < c.args.behind = omega (arith, c.if-behind-eq0.false) in
-    omega (arith, some, c.requires)
-
 pub returns : goal.returns
 returns c =
     c.point_at.ensures ∙ not_last c.args.words.now c.args.last c.args.behind c.args.at c.if-behind-eq0.false

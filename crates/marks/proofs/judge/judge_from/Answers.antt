@@ -8,34 +8,11 @@ pub returns-in_default : goal.returns-in_default
 returns-in_default c =
     from_none _ _ _ _ _ _ _ 0 (c.count_at.ensures.none c.in_default.is) refl
 
-pub overflow_add-place : goal.overflow_add-place
-overflow_add-place c =
-    let counted = rw c.in-Some.is at c.count_at.ensures.some in
-    let bound = counted.2 in
-    search rules
-
-pub overflow_add-place-2 : goal.overflow_add-place-2
-overflow_add-place-2 c =
-    let counted = rw c.in-Some.is at c.count_at.ensures.some in
-    let bound = counted.2 in
-    let some = counted.0 in
-    search rules
-
-pub point_at-first-requires : goal.point_at-first-requires
-point_at-first-requires c =
-    let counted = rw c.in-Some.is at c.count_at.ensures.some in
-    omega (arith, counted.2, counted.0)
-
 pub returns-then-same_point : goal.returns-then-same_point
 returns-then-same_point c =
     let counted = rw c.in-Some.is at c.count_at.ensures.some in
     c.on_border.ensures ∙ from_vertex _ _ _ _ _ _ _ c.in-Some.count counted.1 counted.0
     c.point_at-first.ensures (sym c.same_point.ensures ∙ c.if-same_point.true)
-
-pub pass_groups-passed-requires : goal.pass_groups-passed-requires
-pass_groups-passed-requires c =
-    let counted = rw c.in-Some.is at c.count_at.ensures.some in
-    omega (arith, counted.2)
 
 pub returns : goal.returns
 returns c =

@@ -6,12 +6,6 @@ use Rattle.marks.specs.Judging.{nearer_by, nearest_of}
 use Rattle.verdict.specs.Distance.{to_vertex}
 use Rattle.marks.proofs.judge.nearest.Goals as goal
 
-pub loop-i-init : goal.loop-i-init
-loop-i-init c =
-    let all : c.args.count - 0 ≡ c.args.count = omega arith in
-    let here : c.args.place + 11 * 0 ≡ c.args.place = omega arith in
-    λ k. nearest_of c.args.words.now c.args.fix (all k) (here k) c.args.least
-
 pub loop-i-preserved : goal.loop-i-preserved
 loop-i-preserved c =
     let i = c.loop-i.i in

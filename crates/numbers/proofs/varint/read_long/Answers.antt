@@ -2,10 +2,6 @@
 use Rattle.numbers.proofs.{Prelude.{◌+◌, ◌*◌, ◌<◌, ◌≡◌, length, add-zero, arith}, varint.{Reading.{begun, eleventh, finished, further, rest_at, rest_length, counted, ended_at}}}
 use Rattle.numbers.proofs.varint.read_long.Goals as goal
 
-pub loop-count-init : goal.loop-count-init
-loop-count-init c =
-    rw add-zero (begun c.args.file.now c.args.place c.requires)
-
 pub returns-then-count-eq10 : goal.returns-then-count-eq10
 returns-then-count-eq10 c =
     eleventh c.loop-count.invariant (omega (arith, c.if-count-eq10.true)) (omega (arith, rest_length c.args.file.now c.args.place, c.loop-count-test.true))

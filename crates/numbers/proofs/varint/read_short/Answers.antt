@@ -2,14 +2,6 @@
 use Rattle.numbers.proofs.{Prelude.{rules}, varint.{Short.{on_so, on_not, closed_so, closed_not, one_short, one_none, two_short, two_none}}}
 use Rattle.numbers.proofs.varint.read_short.Goals as goal
 
-pub read_on-requires : goal.read_on-requires
-read_on-requires c =
-    let on = on_so c.go_on.ensures c.if-go_on.true in record { room = c.requires; low_is = c.from-low.ensures; low_on = on.0; middle_is = c.from-middle.ensures; middle_on = on.1 }
-
-pub returns-then-go_on : goal.returns-then-go_on
-returns-then-go_on c =
-    c.read_on.ensures
-
 pub returns-then-closes : goal.returns-then-closes
 returns-then-closes c =
     let last = closed_so c.closes.ensures c.if-closes.true in one_short (c.args.file.now) c.args.place c.requires c.from-low.ensures last.1 last.0

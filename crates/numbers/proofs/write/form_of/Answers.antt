@@ -2,18 +2,6 @@
 use Rattle.numbers.proofs.{Prelude.{arith}, write.{Gaps.{widens, gap_fits, away_fits, away_small, away_sign, away_form, read_small, read_sign, read_form}}}
 use Rattle.numbers.proofs.write.form_of.Goals as goal
 
-pub overflow_cast-by : goal.overflow_cast-by
-overflow_cast-by c =
-    widens c.ranges.to
-
-pub overflow_cast-by-2 : goal.overflow_cast-by-2
-overflow_cast-by-2 c =
-    widens c.ranges.from
-
-pub overflow_sub-by : goal.overflow_sub-by
-overflow_sub-by c =
-    gap_fits c.args.from c.args.to c.ranges.from c.ranges.to
-
 pub overflow_sub-result : goal.overflow_sub-result
 overflow_sub-result c =
     away_fits c.args.from c.args.to c.ranges.from c.ranges.to
@@ -22,25 +10,9 @@ pub overflow_cast-result : goal.overflow_cast-result
 overflow_cast-result c =
     (away_sign c.args.from c.args.to c.ranges.from c.ranges.to c.if-by-lt0.true, omega (arith, away_small c.args.from c.args.to c.ranges.from c.ranges.to))
 
-pub overflow_mul-result : goal.overflow_mul-result
-overflow_mul-result c =
-    omega (arith, away_small c.args.from c.args.to c.ranges.from c.ranges.to)
-
-pub overflow_add-result : goal.overflow_add-result
-overflow_add-result c =
-    omega (arith, away_small c.args.from c.args.to c.ranges.from c.ranges.to)
-
 pub returns-then-by-lt0 : goal.returns-then-by-lt0
 returns-then-by-lt0 c =
     away_form c.args.from c.args.to c.ranges.from c.ranges.to c.if-by-lt0.true
-
-pub overflow_cast-result-2 : goal.overflow_cast-result-2
-overflow_cast-result-2 c =
-    (read_sign c.args.from c.args.to c.ranges.from c.ranges.to c.if-by-lt0.false, omega (arith, read_small c.args.from c.args.to c.ranges.from c.ranges.to))
-
-pub overflow_mul-result-2 : goal.overflow_mul-result-2
-overflow_mul-result-2 c =
-    omega (arith, read_small c.args.from c.args.to c.ranges.from c.ranges.to)
 
 pub returns : goal.returns
 returns c =

@@ -10,10 +10,6 @@ pub overflow_sub-result : goal.overflow_sub-result
 overflow_sub-result c =
     omega (arith, c.loop-left.invariant.few)
 
-pub shape_of-out-then-rest-lt128 : goal.shape_of-out-then-rest-lt128
-shape_of-out-then-rest-lt128 c =
-    put_length c.loop-left.out c.loop-left.next c.loop-left.rest c.put.ensures.0 ∙ c.loop-left.invariant.size
-
 pub returns-then-rest-lt128 : goal.returns-then-rest-lt128
 returns-then-rest-lt128 c =
     ended c.loop-left.invariant c.if-rest-lt128.true c.put.ensures.0
@@ -21,14 +17,6 @@ returns-then-rest-lt128 c =
 pub loop-left-preserved : goal.loop-left-preserved
 loop-left-preserved c =
     onward c.loop-left.invariant c.loop-left-test.true c.if-rest-lt128.false c.put-next.ensures.0 c.put-next.ensures.1
-
-pub overflow_cast-rest-2 : goal.overflow_cast-rest-2
-overflow_cast-rest-2 c =
-    omega (arith, tenth_small c.loop-left.invariant (omega (arith, c.loop-left-test.false)))
-
-pub shape_of-out : goal.shape_of-out
-shape_of-out c =
-    put_length c.loop-left.out c.loop-left.next c.loop-left.rest c.put-2.ensures.0 ∙ c.loop-left.invariant.size
 
 pub returns : goal.returns
 returns c =

@@ -23,10 +23,6 @@ part-requires c =
     let held = form_holds 6 0 c.args.text.now (sym c.has_form.ensures ∙ c.if-not-has_form.false) in
     (omega arith, omega arith)
 
-pub full_year-year-requires : goal.full_year-year-requires
-full_year-year-requires c =
-    omega (arith, c.part.ensures.1)
-
 pub returns : goal.returns
 returns c = (
   c.day_number.ensures.0 ∙ ap (λ (d : Date). at c.args.place (dated d)) (same_date refl c.part-month.ensures.0 c.part-day.ensures.0)

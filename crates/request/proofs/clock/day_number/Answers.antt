@@ -36,13 +36,6 @@ pub overflow_sub-when : goal.overflow_sub-when
 overflow_sub-when c =
     omega (arith, in_month _ (sym c.is_month.ensures ∙ c.if-not-is_month.false))
 
-pub overflow_add-when : goal.overflow_add-when
-overflow_add-when c =
-    let m = in_month _ (sym c.is_month.ensures ∙ c.if-not-is_month.false) in
-    let l = length_is c.args.year c.args.month c.is_leap-leap.ensures c.days_of_months-before.ensures c.days_of_months-after.ensures m.2 in
-    let few = months_few c.is_leap-leap.result c.args.month m.3 in
-    omega (arith, l, c.days_of_months-after.ensures, c.if-after-before.false, few)
-
 pub overflow_sub-year : goal.overflow_sub-year
 overflow_sub-year c =
     omega (arith, in_month _ (sym c.is_month.ensures ∙ c.if-not-is_month.false))

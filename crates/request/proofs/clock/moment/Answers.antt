@@ -54,16 +54,6 @@ returns-in_err-seconds c =
     ∙ ap (λ (d : Time). at c.args.place (timely d)) time) in
     passed_on c.from_residual-in_err-seconds.result c.from_residual-in_err-seconds.ensures.1 ∙ ap refused no.1 ∙ no_moment_time text c.args.place c.requires yes.0 no.0
 
-pub instant_of-requires : goal.instant_of-requires
-instant_of-requires c =
-    let text = c.args.text.now in
-    let date : _ ≡ moment_date text = same_date c.part-year.ensures.0 c.part-month.ensures.0 c.part-day.ensures.0 in
-    let time : _ ≡ moment_time text = same_time c.part-hour.ensures.0 c.part-minute.ensures.0 c.part-second.ensures.0 in
-    let day = dated_given (moment_date text) c.args.place (sym c.in_ok-days.was ∙ c.day_number.ensures.0 ∙ ap (λ (d : Date). at c.args.place (dated d)) date) in
-    let second = timely_given (moment_time text) c.args.place (sym c.in_ok-seconds.was ∙ c.second_of.ensures.0
-    ∙ ap (λ (d : Time). at c.args.place (timely d)) time) in
-    (omega (arith, day.1, day_short _ day.0), omega (arith, second.1, second_short _ second.0))
-
 pub returns : goal.returns
 returns c =
     let text = c.args.text.now in

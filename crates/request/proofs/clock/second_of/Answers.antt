@@ -3,10 +3,6 @@ use Rattle.numbers.{proofs.Prelude.{sym, ap, ◌∙◌, arith}, specs.Reply.{ref
 use Rattle.request.proofs.{Times.{in_time, second_short, no_time, time_given}}
 use Rattle.request.proofs.clock.second_of.Goals as goal
 
-pub returns-then-not-is_time : goal.returns-then-not-is_time
-returns-then-not-is_time c =
-    (ap refused c.at.ensures ∙ no_time _ c.args.place (sym c.is_time.ensures ∙ c.if-not-is_time.true), tt)
-
 pub overflow_mul-result : goal.overflow_mul-result
 overflow_mul-result c =
     omega (arith, in_time _ (sym c.is_time.ensures ∙ c.if-not-is_time.false))

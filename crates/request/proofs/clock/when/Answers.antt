@@ -4,10 +4,6 @@ use Rattle.request.proofs.{Times.{when_moment, when_seconds}}
 use Rattle.request.specs.{Clock.{When, instant_at}, Request.{at}, Told.{shown}}
 use Rattle.request.proofs.clock.when.Goals as goal
 
-pub moment-requires : goal.moment-requires
-moment-requires c =
-    sym c.formed.ensures ∙ c.if-formed.true
-
 pub returns-then-formed : goal.returns-then-formed
 returns-then-formed c =
     c.moment.ensures ∙ ap (λ (a : Answer When). shown (at c.args.place a) instant_at) (when_moment c.args.text.now (sym c.formed.ensures ∙ c.if-formed.true))

@@ -25,11 +25,6 @@ returns-then-not-has_form c = (
   tt,
 )
 
-pub part-start-requires : goal.part-start-requires
-part-start-requires c =
-    let held = form_holds c.find-whole.result 9 c.args.text.now (sym c.has_form.ensures ∙ c.if-not-has_form.false) in
-    (omega (arith, c.if-whole-gt3.false), omega arith)
-
 pub decimals-behind-requires : goal.decimals-behind-requires
 decimals-behind-requires c =
     let held = form_holds c.find-whole.result 9 c.args.text.now (sym c.has_form.ensures ∙ c.if-not-has_form.false) in

@@ -13,8 +13,3 @@ value-requires c =
     let rest = take (length c.args.text.now - c.args.from) (drop c.args.from c.args.text.now) in
     let few : length rest ≤ 9 = omega (arith, c.requires.1, ap length (rest_is c.args.text.now c.args.from), length-drop c.args.from c.args.text.now) in
     (omega arith, omega (arith, value_short c.args.start 1000 9 rest c.requires.0 few))
-
-pub returns : goal.returns
-returns c =
-    c.value.ensures ∙ ap (λ (l : List ℕ). (let d : Digits = record { value = value_from c.args.start l; scale = 10 ^ length l } in d)) (rest_is c.args.text.now
-    c.args.from)

@@ -4,15 +4,6 @@ use Rattle.request.proofs.{Numerals.{limit_over, limit_in, small_size}}
 use Rattle.request.specs.Told.{IsSize}
 use Rattle.request.proofs.degrees.limited.Goals as goal
 
-pub overflow_mul-limit : goal.overflow_mul-limit
-overflow_mul-limit c =
-    omega (arith, c.requires.1, mul-le-mul_right c.args.den c.requires.2)
-
-pub returns-then-limit-den : goal.returns-then-limit-den
-unfolding IsSize
-returns-then-limit-den c =
-    (ap refused c.at.ensures ∙ limit_over c.args.limit c.args.num c.args.den c.args.place c.if-limit-den.true, tt)
-
 pub returns : goal.returns
 unfolding IsSize
 returns c = (

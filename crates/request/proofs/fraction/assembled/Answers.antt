@@ -5,24 +5,6 @@ use lib.Ieee.{units, Fits.{nearest-le}, Nearest.{nearest-ge}}
 -- rounded, they are as many, or 2 ^ 24
 use Rattle.request.proofs.fraction.assembled.Goals as goal
 
-pub overflow_add-place : goal.overflow_add-place
-overflow_add-place c =
-    let range : (8388608 ≤ c.rounded.result) × (c.rounded.result ≤ 16777216) = let o = compare (c.args.rest * 2) c.args.unit in rw c.rounded.ensures (
-      le_trans
-          c.requires.0 (nearest-ge c.args.kept o),
-      le_trans (nearest-le c.args.kept o) c.requires.1,
-    ) in
-    omega (arith, range)
-
-pub overflow_cast-place : goal.overflow_cast-place
-overflow_cast-place c =
-    let range : (8388608 ≤ c.rounded.result) × (c.rounded.result ≤ 16777216) = let o = compare (c.args.rest * 2) c.args.unit in rw c.rounded.ensures (
-      le_trans
-          c.requires.0 (nearest-ge c.args.kept o),
-      le_trans (nearest-le c.args.kept o) c.requires.1,
-    ) in
-    omega (arith, range)
-
 pub returns : goal.returns
 returns c =
     let range : (8388608 ≤ c.rounded.result) × (c.rounded.result ≤ 16777216) = let o = compare (c.args.rest * 2) c.args.unit in rw c.rounded.ensures (

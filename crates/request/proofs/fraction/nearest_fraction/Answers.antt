@@ -4,41 +4,6 @@ use Rattle.request.proofs.{Quotients.{going_first, going_room, going_on, going_o
 use Rattle.request.proofs.fraction.nearest_fraction.Goals as goal
 use Rattle.request.proofs.fraction.nearest_fraction.Goals.{then-rest-over, else-rest-over}
 
-pub loop-kept-init : goal.loop-kept-init
-loop-kept-init c =
-    going_first c.args.num c.args.den c.requires.1 c.requires.2
-
-pub overflow_sub-over : goal.overflow_sub-over
-overflow_sub-over c =
-    let r = c.loop-kept.invariant.less in
-    omega arith
-
-pub overflow_mul-kept : goal.overflow_mul-kept
-overflow_mul-kept c =
-    omega (arith, c.loop-kept.invariant.small)
-
-pub overflow_mul-rest : goal.overflow_mul-rest
-overflow_mul-rest c =
-    omega (arith, c.loop-kept.invariant.less)
-
-pub overflow_mul-kept-else-rest-over : goal.overflow_mul-kept-else-rest-over
-overflow_mul-kept-else-rest-over c =
-    omega (arith, c.loop-kept.invariant.small)
-
-pub overflow_add-kept : goal.overflow_add-kept
-overflow_add-kept c =
-    omega (arith, c.loop-kept.invariant.small)
-
-pub overflow_sub-place : goal.overflow_sub-place
-overflow_sub-place c =
-    let room : 0 < c.loop-kept.place = going_room c.loop-kept.invariant c.loop-kept-test.true c.requires.0 (omega arith) in
-    room
-
-pub loop-kept-smaller : goal.loop-kept-smaller
-loop-kept-smaller c =
-    let room : 0 < c.loop-kept.place = going_room c.loop-kept.invariant c.loop-kept-test.true c.requires.0 (omega arith) in
-    omega (arith, room)
-
 pub loop-kept-preserved : goal.loop-kept-preserved
 loop-kept-preserved c =
     let room : 0 < c.loop-kept.place = going_room c.loop-kept.invariant c.loop-kept-test.true c.requires.0 (omega arith) in
@@ -46,11 +11,6 @@ loop-kept-preserved c =
       | then-rest-over w ↦ rw (w.kept-is, w.rest-is) (going_on c.loop-kept.invariant c.loop-kept-test.true room w.if-rest-over.true)
       | else-rest-over w ↦ rw (w.kept-is, w.rest-is) (going_over c.loop-kept.invariant c.loop-kept-test.true room w.if-rest-over.false)
     ]
-
-pub assembled-requires : goal.assembled-requires
-assembled-requires c =
-    let g = c.loop-kept.invariant in
-    (c.loop-kept-test.false, g.small, g.less, omega (arith, g.high))
 
 pub returns : goal.returns
 returns c =

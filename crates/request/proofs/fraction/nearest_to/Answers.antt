@@ -7,10 +7,6 @@ pub returns-then-num-eq0 : goal.returns-then-num-eq0
 returns-then-num-eq0 c =
     c.of_bits.ensures ∙ nearest_zero c.args.minus c.args.num c.args.den c.if-num-eq0.true
 
-pub nearest_fraction-size-requires : goal.nearest_fraction-size-requires
-nearest_fraction-size-requires c =
-    (omega arith, c.requires.0, c.requires.1)
-
 pub returns-then-minus : goal.returns-then-minus
 returns-then-minus c =
     nearest_minus c.args.minus c.args.num c.args.den c.if-num-eq0.false c.nearest_fraction-size.ensures c.if-minus.true

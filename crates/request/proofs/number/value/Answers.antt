@@ -4,10 +4,6 @@ use Rattle.request.proofs.{Numerals.{tens, ten_more, value_least, value_on, valu
 use Rattle.request.specs.Number.{digit_of, value_from}
 use Rattle.request.proofs.number.value.Goals as goal
 
-pub loop-byte-init : goal.loop-byte-init
-loop-byte-init c =
-    (refl, refl, omega arith)
-
 pub overflow_mul-value : goal.overflow_mul-value
 overflow_mul-value c =
     let on = value_on c.args.text.now c.loop-byte.byte-index c.loop-byte.value c.loop-byte-test.true in

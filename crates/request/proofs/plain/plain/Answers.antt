@@ -5,22 +5,10 @@ use Rattle.request.specs.{Clock.{when_of, instant_at}, Number.{degrees_of, neare
 use Rattle.numbers.proofs.Replies.{passed_on}
 use Rattle.request.proofs.plain.plain.Goals as goal
 
-pub slice_bounds-signed_degrees-end : goal.slice_bounds-signed_degrees-end
-slice_bounds-signed_degrees-end c =
-    sym (length-take-le c.find-first.result c.args.line.now c.find-first.ensures.1)
-
 pub returns-in_err-lat : goal.returns-in_err-lat
 returns-in_err-lat c =
     passed_on c.from_residual.result c.from_residual.ensures.1 ∙ plain_lat c.args.line.now (sym c.in_err-lat.was ∙ c.signed_degrees.ensures
     ∙ in_first c.args.line.now c.find-first.result c.find-first.ensures.0 (degrees_of 90) nearest_to)
-
-pub skip-second-requires : goal.skip-second-requires
-skip-second-requires c =
-    c.find-first.ensures.1
-
-pub find-second_end-requires : goal.find-second_end-requires
-find-second_end-requires c =
-    c.skip-second.ensures.1
 
 pub returns-in_err-lon : goal.returns-in_err-lon
 returns-in_err-lon c =
@@ -29,14 +17,6 @@ returns-in_err-lon c =
     let next = next_is line line 0 c.find-first.result refl c.find-first.ensures.0 c.skip-second.result c.skip-second.ensures.0 in
     passed_on c.from_residual-in_err-lon.result c.from_residual-in_err-lon.ensures.1 ∙ plain_lon line first (sym c.in_err-lon.was ∙ c.signed_degrees-2.ensures
     ∙ shown_in_word line _ c.skip-second.result c.find-second_end.result next c.find-second_end.ensures.0 c.skip-second.ensures.1 (degrees_of 180) nearest_to)
-
-pub skip-third-requires : goal.skip-third-requires
-skip-third-requires c =
-    c.find-second_end.ensures.1
-
-pub find-third_end-requires : goal.find-third_end-requires
-find-third_end-requires c =
-    c.skip-third.ensures.1
 
 pub returns-in_err-instant : goal.returns-in_err-instant
 returns-in_err-instant c =
@@ -48,10 +28,6 @@ returns-in_err-instant c =
     let last = next_is line _ c.skip-second.result c.find-second_end.result next c.find-second_end.ensures.0 c.skip-third.result c.skip-third.ensures.0 in
     passed_on c.from_residual-in_err-instant.result c.from_residual-in_err-instant.ensures.1 ∙ plain_when line first second (sym c.in_err-instant.was ∙ c.when.ensures
     ∙ shown_in_word line _ c.skip-third.result c.find-third_end.result last c.find-third_end.ensures.0 c.skip-third.ensures.1 when_of instant_at)
-
-pub skip-fourth-requires : goal.skip-fourth-requires
-skip-fourth-requires c =
-    c.find-third_end.ensures.1
 
 pub returns-then-third_end-line : goal.returns-then-third_end-line
 returns-then-third_end-line c =

@@ -9,10 +9,6 @@ returns-then-line-gt255 c =
     let line = c.without-line.ensures ∙ ap (unended 13) c.without.ensures in
     ap refused c.at.ensures ∙ too_long c.args.text.now _ line c.if-line-gt255.true
 
-pub sentence-requires : goal.sentence-requires
-sentence-requires c =
-    (omega (arith, c.if-line-gt255.false), sym c.first.ensures ∙ c.if-first-eq36.true)
-
 pub returns-then-first-eq36 : goal.returns-then-first-eq36
 returns-then-first-eq36 c =
     let line = c.without-line.ensures ∙ ap (unended 13) c.without.ensures in

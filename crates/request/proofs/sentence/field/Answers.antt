@@ -3,10 +3,6 @@ use Rattle.numbers.proofs.Prelude.{arith}
 use Rattle.request.proofs.{Replied.{field_is, field_place}}
 use Rattle.request.proofs.sentence.field.Goals as goal
 
-pub overflow_add-result : goal.overflow_add-result
-overflow_add-result c =
-    omega (arith, c.field_start-from.ensures.1, c.requires)
-
 pub returns : goal.returns
 returns c =
     let start = c.field_start-from.ensures in

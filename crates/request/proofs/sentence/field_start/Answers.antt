@@ -4,24 +4,12 @@ use Rattle.request.specs.Text.{behind}
 use Rattle.request.proofs.{Replied.{start_on, start_end, start_here}}
 use Rattle.request.proofs.sentence.field_start.Goals as goal
 
-pub loop-init : goal.loop-init
-loop-init c =
-    (ap (λ (k : ℕ). behind k c.args.body.now) (let e : c.args.n - 0 ≡ c.args.n = omega arith in e), omega arith)
-
-pub find-comma-requires : goal.find-comma-requires
-find-comma-requires c =
-    c.loop.invariant.1
-
 pub returns-then-comma-body : goal.returns-then-comma-body
 returns-then-comma-body c = (
   start_end c.args.body.now c.loop.at c.find-comma.result (c.args.n - c.loop.counter) c.find-comma.ensures.0 (omega (arith, c.loop-test.true)) c.if-comma-body.true
       ∙ c.loop.invariant.0,
   c.find-comma.ensures.1,
 )
-
-pub overflow_add-at : goal.overflow_add-at
-overflow_add-at c =
-    omega (arith, c.find-comma.ensures.1)
 
 pub loop-preserved : goal.loop-preserved
 loop-preserved c = (

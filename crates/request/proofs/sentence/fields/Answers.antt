@@ -47,10 +47,6 @@ returns-then-not-is_mode c =
     ap refused c.alone-then-not-is_mode.ensures ∙ no_mode c.args.body.now c.args.star address rmc (omega (arith, c.count.ensures, c.if-count-lt9.false)) (ap (formed (86 ∷ [])) (sym c.field-status.ensures.0) ∙ sym c.formed.ensures
     ∙ c.if-formed.false) (ap (formed (65 ∷ [])) (sym c.field-status.ensures.0) ∙ sym c.formed-2.ensures ∙ c.if-not-formed.false) (ap is_mode (sym c.field.ensures.0) ∙ sym c.is_mode.ensures ∙ c.if-not-is_mode.true)
 
-pub fix-requires : goal.fix-requires
-fix-requires c =
-    c.requires
-
 pub returns : goal.returns
 returns c =
     let first = c.field-address.ensures.0 in

@@ -4,43 +4,23 @@ use Rattle.request.proofs.{Replied.{fix_time, fix_lat, fix_lon, fix_date, fix_is
 use Rattle.numbers.proofs.Replies.{passed_on, held}
 use Rattle.request.proofs.sentence.fix.Goals as goal
 
-pub time_in-requires : goal.time_in-requires
-time_in-requires c =
-    c.requires
-
 pub returns-in_err-second : goal.returns-in_err-second
 returns-in_err-second c =
     passed_on c.from_residual.result c.from_residual.ensures.1 ∙ fix_time c.args.body.now (sym c.in_err-second.was ∙ c.time_in.ensures.0)
 
-pub turned_in-requires : goal.turned_in-requires
-turned_in-requires c =
-    (c.requires, omega arith, omega arith, omega arith)
-
 pub returns-in_err-lat : goal.returns-in_err-lat
 returns-in_err-lat c =
     passed_on c.from_residual-in_err-lat.result c.from_residual-in_err-lat.ensures.1 ∙ fix_lat c.args.body.now (sym c.in_ok-second.was ∙ c.time_in.ensures.0) (sym c.in_err-lat.was ∙ c.turned_in.ensures)
-
-pub turned_in-requires-2 : goal.turned_in-requires-2
-turned_in-requires-2 c =
-    (c.requires, omega arith, omega arith, omega arith)
 
 pub returns-in_err-lon : goal.returns-in_err-lon
 returns-in_err-lon c =
     passed_on c.from_residual-in_err-lon.result c.from_residual-in_err-lon.ensures.1 ∙ fix_lon c.args.body.now (sym c.in_ok-second.was ∙ c.time_in.ensures.0) (sym c.in_ok-lat.was
     ∙ c.turned_in.ensures) (sym c.in_err-lon.was ∙ c.turned_in-2.ensures)
 
-pub date_in-requires : goal.date_in-requires
-date_in-requires c =
-    c.requires
-
 pub returns-in_err-day : goal.returns-in_err-day
 returns-in_err-day c =
     passed_on c.from_residual-in_err-day.result c.from_residual-in_err-day.ensures.1 ∙ fix_date c.args.body.now (sym c.in_ok-second.was ∙ c.time_in.ensures.0) (sym c.in_ok-lat.was
     ∙ c.turned_in.ensures) (sym c.in_ok-lon.was ∙ c.turned_in-2.ensures) (sym c.in_err-day.was ∙ c.date_in.ensures.0)
-
-pub instant_of-instant-requires : goal.instant_of-instant-requires
-instant_of-instant-requires c =
-    (held (λ n. n < 3652059) c.in_ok-day.was c.date_in.ensures.1, held (λ n. n < 86400) c.in_ok-second.was c.time_in.ensures.1)
 
 pub returns : goal.returns
 returns c =

@@ -8,10 +8,6 @@ pub returns-then-star-lt1 : goal.returns-then-star-lt1
 returns-then-star-lt1 c =
     seal_none c.args.line.now c.star_of-star.ensures c.if-star-lt1.true c.requires
 
-pub bounds-line-star : goal.bounds-line-star
-bounds-line-star c =
-    omega (arith, c.star_of-star.ensures)
-
 pub returns-then-line-star-ne42 : goal.returns-then-line-star-ne42
 returns-then-line-star-ne42 c =
     seal_star c.args.line.now c.star_of-star.ensures c.if-line-star-ne42.true
@@ -20,30 +16,10 @@ pub returns-then-count-ne1 : goal.returns-then-count-ne1
 returns-then-count-ne1 c =
     seal_count c.args.line.now c.star_of-star.ensures c.if-line-star-ne42.false (λ e. c.if-count-ne1.true (c.count.ensures ∙ e))
 
-pub slice_bounds-xors-end : goal.slice_bounds-xors-end
-slice_bounds-xors-end c =
-    omega (arith, c.star_of-star.ensures)
-
-pub overflow_add-star : goal.overflow_add-star
-overflow_add-star c =
-    omega (arith, c.star_of-star.ensures)
-
-pub bounds-line-star-2 : goal.bounds-line-star-2
-bounds-line-star-2 c =
-    omega (arith, c.star_of-star.ensures)
-
 pub returns-then-not-is_hex : goal.returns-then-not-is_hex
 returns-then-not-is_hex c =
     seal_high c.args.line.now c.star_of-star.ensures c.if-line-star-ne42.false (sym c.count.ensures ∙ c.if-count-ne1.false) (c.xors-sum.ensures
     ∙ ap xors (body_is c.args.line.now c.star_of-star.ensures)) (sym c.is_hex.ensures ∙ c.if-not-is_hex.true)
-
-pub overflow_add-star-2 : goal.overflow_add-star-2
-overflow_add-star-2 c =
-    omega (arith, c.star_of-star.ensures)
-
-pub bounds-line-star-3 : goal.bounds-line-star-3
-bounds-line-star-3 c =
-    omega (arith, c.star_of-star.ensures)
 
 pub returns : goal.returns
 returns c =

@@ -4,10 +4,6 @@ use Rattle.request.proofs.{Replied.{seal_some, body_is, not_sealed, sealed_field
 use Rattle.request.specs.{Request.{body_of, fields_of, meaning}, Told.{shown}}
 use Rattle.request.proofs.sentence.sentence.Goals as goal
 
-pub sealed-requires : goal.sealed-requires
-sealed-requires c =
-    c.requires.1
-
 pub returns-then-not-sealed : goal.returns-then-not-sealed
 returns-then-not-sealed c =
     ap refused c.at.ensures ∙ ap (λ (n : ℕ). refused (refusal 82 0 n)) c.star_of-star.ensures ∙ not_sealed c.args.line.now (sym c.sealed.ensures
@@ -20,14 +16,6 @@ slice_bounds-fields-count c =
 pub slice_bounds-fields-start : goal.slice_bounds-fields-start
 slice_bounds-fields-start c =
     seal_some c.args.line.now c.star_of-star.ensures c.requires.1 (sym c.sealed.ensures ∙ c.if-not-sealed.false)
-
-pub slice_bounds-fields-end : goal.slice_bounds-fields-end
-slice_bounds-fields-end c =
-    omega (arith, c.star_of-star.ensures)
-
-pub fields-requires : goal.fields-requires
-fields-requires c =
-    omega (arith, c.requires.0, length-take (c.star_of-star.result - 1) (drop 1 c.args.line.now), length-drop 1 c.args.line.now)
 
 pub returns : goal.returns
 returns c =

@@ -4,18 +4,6 @@ use Rattle.request.proofs.{Numerals.{size_held}, Replied.{turned_are, turned_siz
 use Rattle.request.specs.{Number.{angle_of, side_of}}
 use Rattle.request.proofs.sentence.turned_in.Goals as goal
 
-pub field-first-requires : goal.field-first-requires
-field-first-requires c =
-    c.requires.0
-
-pub angle-requires : goal.angle-requires
-angle-requires c =
-    (c.requires.2, c.requires.3)
-
-pub overflow_add-n : goal.overflow_add-n
-overflow_add-n c =
-    omega (arith, c.requires.1)
-
 pub nearest_to-requires : goal.nearest_to-requires
 nearest_to-requires c =
     size_held c.in_ok-size.was c.angle.ensures.1

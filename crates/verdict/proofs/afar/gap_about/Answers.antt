@@ -5,18 +5,6 @@ use Rattle.verdict.proofs.{AfarBox.{raised_most, gap_most}}
 use Rattle.verdict.specs.Far.{raised, gap_of, gap_about}
 use Rattle.verdict.proofs.afar.gap_about.Goals as goal
 
-pub raise-requires : goal.raise-requires
-raise-requires c =
-    rw (to_z-of_z {w = w32} c.ranges.low) c.requires.0
-
-pub raise-requires-2 : goal.raise-requires-2
-raise-requires-2 c =
-    rw (to_z-of_z {w = w32} c.ranges.x) c.requires.1
-
-pub raise-requires-3 : goal.raise-requires-3
-raise-requires-3 c =
-    rw (to_z-of_z {w = w32} c.ranges.high) c.requires.2
-
 pub returns : goal.returns
 returns c =
     let low = rw (to_z-of_z {w = w32} c.ranges.low) at c.raise.ensures in

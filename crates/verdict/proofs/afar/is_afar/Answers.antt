@@ -26,32 +26,6 @@ gap_about-lon-requires c =
     let h : SFits w32 c.args.high.lon.0 = search rules in
     rw (to_z-of_z {w = w32} l, to_z-of_z {w = w32} x, to_z-of_z {w = w32} h) (s.lon_low, s.lon_fix, s.lon_high)
 
-pub overflow_mul-result : goal.overflow_mul-result
-overflow_mul-result c =
-    let g = c.gap_about-lat.ensures.1 in
-    let square = mul-le-mul g g in
-    record { fits = omega (arith, square) }
-
-pub overflow_mul-result-2 : goal.overflow_mul-result-2
-overflow_mul-result-2 c =
-    let g = c.gap_about-lon.ensures.1 in
-    let square = mul-le-mul g g in
-    record { fits = omega (arith, square) }
-
-pub overflow_mul-result-3 : goal.overflow_mul-result-3
-overflow_mul-result-3 c =
-    let g = c.gap_about-lon.ensures.1 in
-    let square = mul-le-mul g g in
-    record { fits = omega (arith, square) }
-
-pub overflow_add-result : goal.overflow_add-result
-overflow_add-result c =
-    let g = c.gap_about-lat.ensures.1 in
-    let k = c.gap_about-lon.ensures.1 in
-    let lat = mul-le-mul g g in
-    let lon = mul-le-mul k k in
-    record { fits = omega (arith, lat, lon) }
-
 pub returns : goal.returns
 unfolding is_afar
 returns c =

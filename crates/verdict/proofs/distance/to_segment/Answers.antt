@@ -24,10 +24,6 @@ returns-then-not-squarable-2 c =
     let q2 = rw (p2, c.apart-lon.ensures) at c.squarable-2.ensures in
     rw (checked_found 63 (lat *ℤ lat) q c.if-not-squarable.false, checked_over 63 (lon *ℤ lon) q2 c.if-not-squarable-2.true)
 
-pub sum_of_squares-requires : goal.sum_of_squares-requires
-sum_of_squares-requires c =
-    (ltb-true _ _ (sym c.squarable.ensures ∙ c.if-not-squarable.false), ltb-true _ _ (sym c.squarable-2.ensures ∙ c.if-not-squarable-2.false))
-
 pub returns : goal.returns
 unfolding squared to_segment
 returns c =

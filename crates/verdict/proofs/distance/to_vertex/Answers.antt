@@ -25,18 +25,6 @@ returns-in_err-lon c =
     exits c.from_residual-in_err-lon.result c.in_err-lon.was (tested (c.args.to.lon.0 -ℤ c.args.fix.lon.0) c.checked_sub-2.result lon c.ok_or-2.ensures.value) c.from_residual-in_err-lon.ensures.1 _
     ∙ goes_on c.ok_or.result (tested (c.args.to.lat.0 -ℤ c.args.fix.lat.0) c.checked_sub.result lat c.ok_or.ensures.value) c.in_ok-lat.was _
 
-pub sum_of_squares-requires : goal.sum_of_squares-requires
-sum_of_squares-requires c =
-    let x : SFits w32 c.args.to.lat.0 = search rules in
-    let y : SFits w32 c.args.fix.lat.0 = search rules in
-    let lat = rw (to_z-of_z w32 _ x, to_z-of_z w32 _ y) at c.checked_sub.ensures in
-    let u : SFits w32 c.args.to.lon.0 = search rules in
-    let v : SFits w32 c.args.fix.lon.0 = search rules in
-    let lon = rw (to_z-of_z w32 _ u, to_z-of_z w32 _ v) at c.checked_sub-2.ensures in
-    let north = tested_fits (c.args.to.lat.0 -ℤ c.args.fix.lat.0) c.checked_sub.result lat c.ok_or.ensures.value c.in_ok-lat.was in
-    let east = tested_fits (c.args.to.lon.0 -ℤ c.args.fix.lon.0) c.checked_sub-2.result lon c.ok_or-2.ensures.value c.in_ok-lon.was in
-    rw (widened north, widened east) (i32_squared c.in_ok-lat.lat north, i32_squared c.in_ok-lon.lon east)
-
 pub returns : goal.returns
 unfolding squared to_vertex
 returns c =

@@ -3,10 +3,6 @@ use Rattle.numbers.proofs.{Laws.{float_of}, Prelude.{rules}}
 use Rattle.verdict.specs.Edge.{closest_on}
 use Rattle.verdict.proofs.edge.closest.Goals as goal
 
-pub returns-in-Sloped : goal.returns-in-Sloped
-returns-in-Sloped c =
-    rw c.in-Sloped.is c.foot.ensures
-
 pub returns-in-EqualLongitude : goal.returns-in-EqualLongitude
 unfolding closest_on
 returns-in-EqualLongitude c =

@@ -3,16 +3,6 @@ use Rattle.numbers.proofs.{Prelude.{rules, w32, SFits}, write.Gaps.{widened, wid
 use Rattle.verdict.specs.inner.Gliding.{within}
 use Rattle.verdict.proofs.field.is_within.Goals as goal
 
-pub overflow_cast-p : goal.overflow_cast-p
-overflow_cast-p c =
-    let lat : SFits w32 c.args.p.lat.0 = search rules in
-    widens lat
-
-pub overflow_cast-p-then-lies_in : goal.overflow_cast-p-then-lies_in
-overflow_cast-p-then-lies_in c =
-    let lon : SFits w32 c.args.p.lon.0 = search rules in
-    widens lon
-
 pub returns-then-lies_in : goal.returns-then-lies_in
 unfolding within
 returns-then-lies_in c =

@@ -4,16 +4,6 @@ use Rattle.std.proofs.Common.{to_z-of_z}
 use Rattle.verdict.proofs.{Gliding.{in_span_lem, not_in_span}}
 use Rattle.verdict.proofs.field.lies_in.Goals as goal
 
-pub overflow_cast-span : goal.overflow_cast-span
-overflow_cast-span c =
-    let low : SFits w32 c.args.span.low = search rules in
-    widens low
-
-pub overflow_cast-result : goal.overflow_cast-result
-overflow_cast-result c =
-    let high : SFits w32 c.args.span.high = search rules in
-    widens high
-
 pub returns-then-span-x : goal.returns-then-span-x
 returns-then-span-x c =
     let x = to_z-of_z {w = w64} c.ranges.x in

@@ -15,50 +15,6 @@ pub loop-number-init : goal.loop-number-init
 loop-number-init c =
     (back_stays _ _ _ _ _, c.widen-point.ensures.1)
 
-pub glided_at-requires : goal.glided_at-requires
-glided_at-requires c =
-    c.loop-number.invariant.1
-
-pub returns-in_default : goal.returns-in_default
-returns-in_default c =
-    left c.widen-point.ensures.0 c.loop-number.invariant.0 c.glided_at.ensures
-
-pub glided_at-requires-then-number-eq0 : goal.glided_at-requires-then-number-eq0
-glided_at-requires-then-number-eq0 c =
-    c.loop-number.invariant.1
-
-pub returns-then-number-eq0 : goal.returns-then-number-eq0
-returns-then-number-eq0 c =
-    left c.widen-point.ensures.0 c.loop-number.invariant.0 c.glided_at-then-number-eq0.ensures
-
-pub glided_at-requires-then-number-end : goal.glided_at-requires-then-number-end
-glided_at-requires-then-number-end c =
-    c.loop-number.invariant.1
-
-pub returns-then-number-end : goal.returns-then-number-end
-returns-then-number-end c =
-    left c.widen-point.ensures.0 c.loop-number.invariant.0 c.glided_at-then-number-end.ensures
-
-pub glided_at-requires-in_default-negate : goal.glided_at-requires-in_default-negate
-glided_at-requires-in_default-negate c =
-    c.loop-number.invariant.1
-
-pub returns-in_default-negate : goal.returns-in_default-negate
-returns-in_default-negate c =
-    left c.widen-point.ensures.0 c.loop-number.invariant.0 c.glided_at-in_default-negate.ensures
-
-pub lead-requires : goal.lead-requires
-lead-requires c =
-    c.loop-number.invariant.1
-
-pub glided_at-requires-in_default-lead : goal.glided_at-requires-in_default-lead
-glided_at-requires-in_default-lead c =
-    c.loop-number.invariant.1
-
-pub returns-in_default-lead : goal.returns-in_default-lead
-returns-in_default-lead c =
-    left c.widen-point.ensures.0 c.loop-number.invariant.0 c.glided_at-in_default-lead.ensures
-
 pub loop-number-smaller : goal.loop-number-smaller
 loop-number-smaller c =
     less_below c.args.file.now c.args.field c.args.end c.loop-number.place (rw c.in-Ok.is at c.read_backward.ensures)

@@ -7,9 +7,3 @@ use Rattle.verdict.proofs.glide.glide_counted.Goals as goal
 pub returns-in_default : goal.returns-in_default
 returns-in_default c =
     stays
-
-pub returns : goal.returns
-returns c =
-    let s = c.args.reader in
-    rw c.stand.ensures (from_standing s c.requires.0 c.requires.1 c.in-Idle.is c.args.file.now (encoded_by c.args.encoding.strict Plain c.args.encoding.«data»)
-    c.args.field _ (c.glide_plain-glided.ensures.plainly c.args.encoding.«data» s.first))

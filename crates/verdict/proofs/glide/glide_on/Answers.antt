@@ -10,11 +10,3 @@ returns-then-reader c =
 pub returns-then-not-reader : goal.returns-then-not-reader
 returns-then-not-reader c =
     stays
-
-pub glide_within-requires : goal.glide_within-requires
-glide_within-requires c =
-    (not-false _ c.if-not-reader.false, c.if-reader.false)
-
-pub returns : goal.returns
-returns c =
-    c.glide_within.ensures

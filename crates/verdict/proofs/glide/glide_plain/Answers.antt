@@ -17,46 +17,6 @@ pub loop-moves-init : goal.loop-moves-init
 loop-moves-init c =
     (plain_stays _ _ _ _ _ _, c.widen-point.ensures.1)
 
-pub counted_at-requires : goal.counted_at-requires
-counted_at-requires c =
-    c.loop-moves.invariant.1
-
-pub returns-in_default : goal.returns-in_default
-returns-in_default c =
-    left c.widen-point.ensures.0 c.loop-moves.invariant.0 c.counted_at.ensures
-
-pub counted_at-requires-in_default-read_number : goal.counted_at-requires-in_default-read_number
-counted_at-requires-in_default-read_number c =
-    c.loop-moves.invariant.1
-
-pub returns-in_default-read_number : goal.returns-in_default-read_number
-returns-in_default-read_number c =
-    left c.widen-point.ensures.0 c.loop-moves.invariant.0 c.counted_at-in_default-read_number.ensures
-
-pub counted_at-requires-then-is_still : goal.counted_at-requires-then-is_still
-counted_at-requires-then-is_still c =
-    c.loop-moves.invariant.1
-
-pub returns-then-is_still : goal.returns-then-is_still
-returns-then-is_still c =
-    left c.widen-point.ensures.0 c.loop-moves.invariant.0 c.counted_at-then-is_still.ensures
-
-pub lead-requires : goal.lead-requires
-lead-requires c =
-    c.loop-moves.invariant.1
-
-pub counted_at-requires-in_default-lead : goal.counted_at-requires-in_default-lead
-counted_at-requires-in_default-lead c =
-    c.loop-moves.invariant.1
-
-pub returns-in_default-lead : goal.returns-in_default-lead
-returns-in_default-lead c =
-    left c.widen-point.ensures.0 c.loop-moves.invariant.0 c.counted_at-in_default-lead.ensures
-
-pub loop-moves-smaller : goal.loop-moves-smaller
-loop-moves-smaller c =
-    omega (arith, c.loop-moves-test.true)
-
 pub loop-moves-preserved : goal.loop-moves-preserved
 loop-moves-preserved c =
     let lat = rw c.in-Ok.is at c.read_number.ensures in
@@ -67,11 +27,3 @@ loop-moves-preserved c =
     let led = rw (c.in-Some.is, north, east) at c.lead.ensures in
     let left_over = c.loop-moves-test.true in
     (plain_on c.args.file.now c.args.strict c.args.field c.loop-moves.invariant.0 lat lon left_over stirs led.0 led.1, led.2)
-
-pub counted_at-requires-2 : goal.counted_at-requires-2
-counted_at-requires-2 c =
-    c.loop-moves.invariant.1
-
-pub returns : goal.returns
-returns c =
-    left c.widen-point.ensures.0 c.loop-moves.invariant.0 c.counted_at-2.ensures

@@ -15,26 +15,6 @@ module _ {a b : ℤ} (f : SFits w32 a) (g : SFits w32 b) where
   step_is : to_z w64 (of_z w64 (to_z w64 (of_z w64 a) +ℤ to_z w64 (of_z w64 (to_z w32 (of_z w32 b))))) ≡ a +ℤ b
   step_is = rw (to_z-of_z {w = w64} (sfits_widen tt f), widened g, to_z-of_z {w = w64} (sum_fits f g))
 
-pub overflow_cast-lat : goal.overflow_cast-lat
-overflow_cast-lat c =
-    let y : SFits w32 c.args.by.lat = search rules in
-    widens y
-
-pub overflow_add-lat : goal.overflow_add-lat
-overflow_add-lat c =
-    let y : SFits w32 c.args.by.lat = search rules in
-    step_fits c.requires.lat_fits y
-
-pub overflow_cast-lon : goal.overflow_cast-lon
-overflow_cast-lon c =
-    let v : SFits w32 c.args.by.lon = search rules in
-    widens v
-
-pub overflow_add-lon : goal.overflow_add-lon
-overflow_add-lon c =
-    let v : SFits w32 c.args.by.lon = search rules in
-    step_fits c.requires.lon_fits v
-
 pub returns : goal.returns
 returns c =
     let x = c.requires.lat_fits in

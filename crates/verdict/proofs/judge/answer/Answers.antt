@@ -15,4 +15,4 @@ returns-in-Err-Unread c =
 pub returns-in-Err-Halted : goal.returns-in-Err-Halted
 unfolding judgement_of
 returns-in-Err-Halted c =
-    rw (c.in-Err-Halted.is, rw c.in-Err-Halted.is at c.in-Err-Halted.field-0-is) c.stopped.ensures
+    rw (c.in-Err-Halted.is, rw c.in-Err-Halted.is at c.in-Err-Halted.field-0-is) c.halted.ensures

@@ -7,10 +7,6 @@ use Rattle.verdict.proofs.judge.{Walks.{Along, along_starts, along_enough, along
 use Rattle.verdict.specs.{Verdict.{after}, inner.{Kept.{last_of}}}
 use Rattle.verdict.proofs.judge.judge_on.Goals as goal
 
-pub seen_from-last-requires : goal.seen_from-last-requires
-seen_from-last-requires c =
-    c.spot_of-at.ensures
-
 pub loop-encoding-init : goal.loop-encoding-init
 loop-encoding-init c = (
   along_starts c.args.file.now c.args.encoding c.args.fix c.args.asked c.args.edges c.args.start c.args.tally c.args.limited c.seen_from-last.result.point
@@ -35,10 +31,6 @@ returns-in-Err c =
     along_unread c.args.file.now c.args.encoding c.args.fix c.args.asked c.args.edges c.args.start c.args.tally c.loop-encoding.reader (last_of c.loop-encoding.begun c.loop-encoding.last.point)
     c.loop-encoding.tally c.args.limited c.loop-encoding.left c.loop-encoding.invariant.0 (sym c.is_done.ensures ∙ c.if-is_done.false) c.in-Err.stop
     (rw c.in-Err.is at c.next_point.ensures)
-
-pub seen_from-here-requires : goal.seen_from-here-requires
-seen_from-here-requires c =
-    c.spot_of-at.ensures
 
 pub judge_point-requires : goal.judge_point-requires
 judge_point-requires c =
@@ -66,10 +58,6 @@ loop-encoding-preserved-in-None c =
           c.loop-encoding.invariant.0 (sym c.is_done.ensures ∙ c.if-is_done.false) c.in-Ok.counted passed),
       seen_again _ _ _ c.seen_from-here.ensures,
     )
-
-pub seen_from-last-requires-in-Some : goal.seen_from-last-requires-in-Some
-seen_from-last-requires-in-Some c =
-    c.spot_of-at.ensures
 
 pub loop-encoding-smaller : goal.loop-encoding-smaller
 loop-encoding-smaller c =

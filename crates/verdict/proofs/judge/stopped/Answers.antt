@@ -1,13 +1,14 @@
 -- `verdict::judge::stopped` meets its contract.
+use Rattle.numbers.proofs.Prelude.{refl, ◌∙◌}
 use Rattle.verdict.specs.Verdict.{then_on}
+use Rattle.verdict.proofs.Halts.{ends_alike}
 use Rattle.verdict.proofs.judge.stopped.Goals as goal
 
-pub returns-in-Meets : goal.returns-in-Meets
+pub returns-in-Ok : goal.returns-in-Ok
 unfolding then_on
-returns-in-Meets c =
-    rw c.in-Meets.is c.on_border.ensures
+returns-in-Ok c =
+    rw c.in-Ok.is refl
 
-pub returns-in-Over : goal.returns-in-Over
-unfolding then_on
-returns-in-Over c =
-    rw c.in-Over.is
+pub returns-in-Err : goal.returns-in-Err
+returns-in-Err c =
+    rw c.in-Err.is (c.halted.ensures ∙ ends_alike _ _ _ _ _)

@@ -9,26 +9,6 @@ few_is : (left : ℕ) {few : ℕ} → few ≡ min left 16 → few ≡ min group_
 unfolding group_wide
 few_is left e = omega (arith, e)
 
-pub overflow_mul-at : goal.overflow_mul-at
-overflow_mul-at c =
-    omega (arith, c.requires)
-
-pub overflow_add-at : goal.overflow_add-at
-overflow_add-at c =
-    omega (arith, c.requires)
-
-pub loop-groups-init : goal.loop-groups-init
-loop-groups-init c =
-    (refl, omega (arith, c.requires, c.groups_of-groups.ensures), omega (arith, c.requires))
-
-pub end_at-to-requires : goal.end_at-to-requires
-end_at-to-requires c =
-    omega (arith, c.loop-groups.invariant.1, c.loop-groups-test.true)
-
-pub pass_group-requires : goal.pass_group-requires
-pass_group-requires c =
-    (omega (arith, c.loop-groups.invariant.1, c.loop-groups-test.true), omega (arith, c.loop-groups.invariant.2, c.min-few.ensures))
-
 pub returns-in_err-counted : goal.returns-in_err-counted
 returns-in_err-counted c =
     let few = c.min-few.result in
@@ -38,22 +18,6 @@ returns-in_err-counted c =
     exits c.from_residual.result c.in_err-counted.was c.pass_group.ensures c.from_residual.ensures.1 rest ∙ onward
     ∙ ap (λ (g : ℕ). groups_by c.args.self.file.now c.args.self.encoding c.args.self.fix c.args.self.asked c.args.self.words.now c.args.self.first g (c.args.place + c.args.count * 11)
     c.args.count c.args.place c.args.tally) c.groups_of-groups.ensures
-
-pub overflow_add-at-in-loop-groups : goal.overflow_add-at-in-loop-groups
-overflow_add-at-in-loop-groups c =
-    omega (arith, c.well_formed, c.loop-groups.invariant.1, c.loop-groups-test.true)
-
-pub overflow_sub-left : goal.overflow_sub-left
-overflow_sub-left c =
-    omega (arith, c.min-few.ensures)
-
-pub overflow_mul-fine : goal.overflow_mul-fine
-overflow_mul-fine c =
-    omega (arith, c.well_formed, c.min-few.ensures, c.loop-groups.invariant.2)
-
-pub overflow_add-fine : goal.overflow_add-fine
-overflow_add-fine c =
-    omega (arith, c.well_formed, c.min-few.ensures, c.loop-groups.invariant.2)
 
 pub loop-groups-preserved : goal.loop-groups-preserved
 loop-groups-preserved c =

@@ -6,18 +6,6 @@ use Rattle.border.specs.declared.place.Point.{Point}
 use Rattle.verdict.{proofs.Halts.{exits, goes_on}, specs.{Step.{Step, ◌>>=◌}, declared.step.Tally.{Tally}}}
 use Rattle.marks.proofs.judge.Course.pass_stretches.Goals as goal
 
-pub loop-left-init : goal.loop-left-init
-loop-left-init c =
-    (refl, c.requires)
-
-pub end_at-to-requires : goal.end_at-to-requires
-end_at-to-requires c =
-    omega (arith, c.loop-left.invariant.1, c.loop-left-test.true)
-
-pub pass_stretch-requires : goal.pass_stretch-requires
-pass_stretch-requires c =
-    omega (arith, c.loop-left.invariant.1, c.loop-left-test.true)
-
 pub returns-in_err-counted : goal.returns-in_err-counted
 returns-in_err-counted c =
     let rest = stretches_by c.args.self.file.now c.args.self.encoding c.args.self.fix c.args.self.asked c.args.self.words.now c.args.self.first (c.loop-left.left - 1) (c.loop-left.at + 11) c.args.end in

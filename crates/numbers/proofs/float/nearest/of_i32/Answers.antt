@@ -12,14 +12,6 @@ from_zero : (n : ℤ) → lt_z n (pos 0) ≡ false → to_f32 (pos (nat_abs n)) 
 from_zero (pos k) e = refl
 from_zero (negsuc k) e = absurd (subst T e tt)
 
-pub int_to_float-result : goal.int_to_float-result
-int_to_float-result c =
-    signed_held _ c.if-n-geminus16777216.true c.if-n-le16777216.true
-
 pub returns-then-n-lt0 : goal.returns-then-n-lt0
 returns-then-n-lt0 c =
     let n = c.args.n in let read : to_z w32 (of_z w32 n) ≡ n = to_z-of_z w32 n c.ranges.n in ap neg (c.of_u64-rounded.ensures ∙ ap (λ (k : ℕ). to_f32 (pos k)) (c.magnitude.ensures ∙ ap nat_abs read)) ∙ below_zero n (ap (λ (z : ℤ). lt_z z (pos 0)) (sym read) ∙ c.if-n-lt0.true)
-
-pub returns-else-n-lt0 : goal.returns-else-n-lt0
-returns-else-n-lt0 c =
-    let n = c.args.n in let read : to_z w32 (of_z w32 n) ≡ n = to_z-of_z w32 n c.ranges.n in c.of_u64-rounded.ensures ∙ ap (λ (k : ℕ). to_f32 (pos k)) (c.magnitude.ensures ∙ ap nat_abs read) ∙ from_zero n (ap (λ (z : ℤ). lt_z z (pos 0)) (sym read) ∙ c.if-n-lt0.false)

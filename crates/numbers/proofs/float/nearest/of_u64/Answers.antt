@@ -33,10 +33,6 @@ rounded : (n : ℕ) → of_int binary32 (pos n) ≡ round binary32 false n 1
 unfolding of_int
 rounded n = refl
 
-pub int_to_float-result : goal.int_to_float-result
-int_to_float-result c =
-    whole_held _ c.if-n-le16777216.true
-
 pub overflow_sub-dropped : goal.overflow_sub-dropped
 overflow_sub-dropped c =
     let at : Kept c.args.n c.digits-dropped.result = kept c.args.n c.digits-dropped.result (le_of_lt c.if-n-le16777216.false) (omega arith) c.digits-dropped.ensures in

@@ -1,6 +1,0 @@
--- `verdict::glide::counted_at` meets its contract.
-use Rattle.verdict.proofs.glide.counted_at.Goals as goal
-
-pub returns : goal.returns
-returns c =
-    rw c.narrow.ensures
