@@ -1,4 +1,7 @@
 // Building an atlas: the index, and behind it the length of all words, the entries and the marks.
+// Stays, point 2: the words of a mark are told once, in `mark_of`; comparing (own.rt) ends at the first difference and has no room.
+// Stays, point 6: `n` counts records and `used` the index's words, behind which more is written: neither is the list's length.
+// Stays, point 5: any header is taken with any file, so a struct of `file, head` would hold no fact.
 ghost use Rattle.std.specs.Prelude.{◌≡◌, ◌+◌, ◌*◌, ◌^◌, ◌<◌, ◌≤◌, length};
 ghost use Rattle.atlas.specs.{Atlas.{beside_of, atlas_made}, inner.Building.{marks_by, behind_of}};
 ghost use Rattle.index.specs.{Index.{records_at, indexed}, Tied.{word_at}};

@@ -1,4 +1,7 @@
 // One entry of an atlas: its word, and the marks of its border.
+// Stays, point 2: writing says a place, comparing a refusal; the words that both need are told once (`course_of`, `entry_for`).
+// Stays, point 5: any header is taken with any file, so a struct of `file, head` would hold no fact.
+// Stays, point 4: words are held against what a file says, so no derive and no `==` of slices serves; `size_of` is a word of the definitions.
 ghost use Rattle.std.specs.Prelude.{◌≡◌, ◌+◌, ◌-◌, ◌*◌, ◌^◌, ◌<◌, ◌≤◌, length};
 ghost use Rattle.atlas.specs.{Atlas.{entry_of}, inner.{Building.{marks_at_record, size_of, entry_for, PutOne, stands_one}, Marking.{marks_of}}};
 ghost use Rattle.index.specs.Index.{records_at};

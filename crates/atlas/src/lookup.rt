@@ -1,4 +1,6 @@
 // Lookup through an atlas: among the rows in the list of the fix's tile, by the marks along their borders; and through an atlas or none.
+// Stays, point 7: `asked` is the caller's question; a const parameter would compile each loop twice (8 kB more, docs/DECISIONS.md).
+// Stays, point 5: any header is taken with any file, so a struct of `file, head` would hold no fact; C lends `hits` and `text` apart.
 ghost use Rattle.std.specs.Prelude.{◌≡◌, length};
 ghost use Rattle.atlas.specs.{Beside.{zones_beside}, Looked.{zones_atlas, looked_atlas}};
 ghost use Rattle.zones.specs.Lent.{replied, replied_of};

@@ -1,4 +1,8 @@
 // Whether words are the atlas that building gives for a file, whoever wrote them: each word is worked out again and compared, without room for them.
+// Stays, point 2: the words of a mark are told once, in `mark_of`; comparing ends at the first difference and says a refusal.
+// Stays, point 6: `n` counts records and `used` the index's words, behind which more is read: neither is the list's length.
+// Stays, point 5: any header is taken with any file, so a struct of `file, head` would hold no fact.
+// Stays, point 4: words are held against what a file says, so no derive and no `==` of slices serves; `end_of` is no conversion.
 ghost use Rattle.std.specs.Prelude.{◌≡◌, ◌+◌, ◌*◌, ◌^◌, ◌<◌, ◌≤◌, length};
 ghost use Rattle.atlas.specs.{Atlas.{beside_of, is_atlas_of}, inner.Building.{marks_by, behind_of, is_behind, end_of}};
 ghost use Rattle.index.specs.{Index.{records_at}, Tied.{word_at}, inner.Own.{stands_from}};

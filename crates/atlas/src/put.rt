@@ -1,4 +1,6 @@
 // Marks into lent words.
+// Stays, point 2: the words of a mark are told once, in `mark_of`; writing says a place, comparing (same.rt) whether all stand.
+// Stays, point 6: `count` is of stretches, not of words or bytes.
 ghost use Rattle.std.specs.Prelude.{◌^◌, ◌<◌};
 ghost use Rattle.writer.specs.inner.Stored.{Stored};
 ghost use Rattle.marks.specs.Marks.{marks_from};

@@ -1,4 +1,7 @@
 // Marks held against words.
+// Stays, point 2: the words of a mark are told once, in `mark_of`; comparing ends at the first difference, writing does not.
+// Stays, point 6: `count` is of stretches, not of words or bytes.
+// Stays, point 4: words are held against what a file says, so no derive and no `==` of slices serves.
 ghost use Rattle.std.specs.Prelude.{◌^◌, ◌<◌, ◌≡◌};
 ghost use Rattle.marks.specs.Marks.{marks_from};
 ghost use Rattle.index.specs.inner.Own.{is_at};

@@ -1,4 +1,6 @@
 // The matches through an atlas, and through an atlas or none.
+// Stays, point 7: `asked` is the caller's question; a const parameter would compile each loop twice (8 kB more, docs/DECISIONS.md).
+// Stays, point 5: any header is taken with any file, so a struct of `file, head` would hold no fact.
 ghost use Rattle.std.specs.Prelude.{◌/◌, length};
 ghost use Rattle.atlas.specs.{Beside.{matched_beside}, Looked.{matched_atlas}};
 ghost use Rattle.table.specs.{Find.{Matching}, Hits.{width}, inner.Agreeing.{Agrees}};

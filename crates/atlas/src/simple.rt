@@ -1,4 +1,5 @@
 // Simple lookup through an atlas or none: what follows the search is that of the plain one.
+// Stays, point 5: any header is taken with any file, so a struct of `file, head` would hold no fact; C lends `hits` and `text` apart.
 ghost use Rattle.std.specs.Prelude.{◌≡◌, length};
 ghost use Rattle.atlas.specs.Beside.{described_beside, simply_beside};
 ghost use Rattle.numbers.specs.Lists.{zeros};

@@ -1,4 +1,5 @@
 // Numbers as words.
+// Stays, point 4: these are the definitions' words of a mark (low, kind_of, next_of, end_of); a run cannot be had back from one.
 ghost use Rattle.std.specs.Prelude.{◌≡◌};
 ghost use Rattle.marks.specs.Marks.{low, kind_of, next_of, end_of, mark_of};
 ghost use Rattle.atlas.specs.inner.Marking.{boxed};

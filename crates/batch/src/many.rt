@@ -1,4 +1,6 @@
 // Many fixes: matches and texts one after the other in the lent lists, and of each fix its match count, end mark and safezone bits in a third.
+// Stays, point 7: `asked` is the caller's question; a const parameter would compile each loop twice (8 kB more, docs/DECISIONS.md).
+// Stays, points 5 and 6: C lends coordinates, hits, text, answers as lists of their own, no heap holds others, and any header goes with any file.
 ghost use Rattle.std.specs.Prelude.{◌*◌, ◌^◌, ◌≤◌, ◌<◌, length, ◌≡◌, true, [], ◌∷◌};
 ghost use Rattle.numbers.specs.Lists.{zeros, over};
 ghost use Rattle.atlas.specs.Beside.{zones_beside};

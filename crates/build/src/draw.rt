@@ -1,4 +1,5 @@
 // The data section, with any room.
+// Stays, point 6: C lends latitudes and longitudes as two lists, and no heap holds pairs.
 ghost use mathlib.Core.{Path.{◌≡◌}, List.{List, []}};
 ghost use Rattle.std.specs.Prelude.{ℕ, ◌≤◌, length, get_or};
 ghost use Rattle.builder.specs.{Borders.{drawn_of}, Yards.{yards_from}};
@@ -10,6 +11,7 @@ use builder::drawing::yard::draw_yard;
 use numbers::refusal::Refusal;
 
 // With no room at all the first border is refused, by 23 before 28.
+// Stays parameters: of a list in a struct the check knows no range of its words, and `5 * word` was not proved.
 fn draw_nothing(
     version: u8,
     yards: &[u32],

@@ -1,4 +1,5 @@
 // A whole file from what is lent.
+// Stays, point 6: C lends latitudes and longitudes, lengths and texts as lists of their own, and no heap holds others.
 ghost use mathlib.Core.{Path.{◌≡◌}, List.{List}};
 ghost use Rattle.std.specs.Prelude.{ℕ, ◌^◌, ◌≤◌, length, get_or};
 ghost use Rattle.builder.specs.{File.{built_of}, Yards.{plan_of}};
@@ -25,6 +26,7 @@ fn start(plan: Lent, places: &mut [u32], bytes: &mut [u8], out: &mut [u8]) -> Re
 }
 
 // The file itself, once its borders are drawn.
+// Stays parameters: behind a struct of `&mut` lists a caller's proof did not close (tried in `clear`); what is only read is a `Lent`.
 fn finish(
     plan: Lent,
     starts: &mut [u32],
@@ -68,6 +70,7 @@ fn finish(
 }
 
 // With nothing zeroed afterwards.
+// Stays parameters: as in `finish`.
 fn fill_all(
     plan: Lent,
     starts: &mut [u32],
@@ -130,6 +133,7 @@ pub fn settle(built: Result<usize, Refusal>, out: &mut [u8]) -> Result<usize, Re
 }
 
 // How long the file is; it stands at the front of the output, zeros behind it and in every other list; on a refusal zeros everywhere.
+// Stays parameters: docs/PROMISES.md names it, so it takes what it took; C lends each list by itself.
 pub fn build(
     asked: Asked,
     yards: &[u32],

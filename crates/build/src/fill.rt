@@ -1,4 +1,5 @@
 // The file of a plan whose borders are drawn, over lists that are long enough.
+// Stays, point 5: behind a struct of `&mut` lists a caller's proof did not close (tried in `clear`); what a plan lends is a `Lent`.
 ghost use mathlib.Core.{Path.{◌≡◌}, List.{List, [], map}};
 ghost use Rattle.std.specs.Prelude.{ℕ, ◌*◌, ◌/◌, ◌^◌, ◌≤◌, length, take};
 ghost use Rattle.writer.specs.inner.Stored.{Stored};

@@ -1,4 +1,5 @@
 // The sections of a file, one after another. What does not fit is counted and left out.
+// Stays, point 6: C lends lengths and texts as two lists, and no heap holds strings; writing into a list of no bytes tells a size.
 ghost use mathlib.Core.{Path.{◌≡◌}, List.{◌++◌, map}};
 ghost use Rattle.std.specs.Prelude.{◌^◌, ◌≤◌, ◌<◌, length};
 ghost use Rattle.writer.specs.inner.Stored.{Stored};
@@ -12,6 +13,7 @@ use builder::put::{put_bytes, put_varint};
 use builder::records::put_records;
 use builder::table::put_table;
 
+// Stays a clause: a type for a place below 2^60 would be made and taken apart at each sum.
 fn put_sizes(out: &mut [u8], place: usize, table: u64, metadata: u64, bytes: u64) -> usize
     requires { place < 2 ^ 60 }
     ensures { Stored out.old place (varint_of table ++ (varint_of metadata ++ varint_of bytes)) out.new result }
@@ -39,6 +41,7 @@ fn put_section(
 }
 
 // The bytes of the table.
+// Stays apart: two lines; another writer writes into no room elsewhere.
 pub fn table_size(keys: &[u64], boxes: &[i32], places: &[u32]) -> usize
     requires { length keys.now ≤ 4096 }
     ensures { result ≡ length (table_from 0 0 (map (entry_of_word boxes.now places.now) keys.now)) }

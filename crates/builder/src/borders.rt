@@ -1,4 +1,7 @@
 // The data section, border by border. A border is written to the front of the output, which is working room until the file goes in.
+// Stays, point 7: `cut` is what was found of a list of pieces, and the definitions take a Bool.
+// Stays, point 6: C lends latitudes and longitudes as two lists, and no heap holds pairs; writing into no room tells what is wrong.
+// Stays, point 5: any two lists are taken (19 is said of unequal ones), so a struct of `lats, lons` would hold no fact.
 ghost use mathlib.Core.{Path.{◌≡◌}, List.{[]}};
 ghost use Rattle.std.specs.Prelude.{◌/◌, length};
 ghost use Rattle.writer.specs.{Pieces.{pieces_of}, Writer.{checks, border_of}};

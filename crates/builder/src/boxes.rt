@@ -1,4 +1,6 @@
 // The box of a border.
+// Stays, point 2: `lowest_of` and `highest_of` are one line of std's words each.
+// Stays, point 6: C lends latitudes and longitudes as two lists, and no heap holds pairs.
 ghost use Rattle.std.specs.Prelude.{◌≡◌};
 ghost use Rattle.builder.specs.Entries.{lowest_of, highest_of, box_of};
 
@@ -24,6 +26,7 @@ fn highest_of(list: &[i32]) -> i32
     list.iter().copied().max().unwrap_or(0)
 }
 
+// Stays parameters: any two lists are taken, so a struct of `lats, lons` would hold no fact.
 pub fn box_of(lats: &[i32], lons: &[i32]) -> Bounds
     ensures { result ≡ box_of lats.now lons.now }
 {

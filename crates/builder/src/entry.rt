@@ -1,4 +1,5 @@
 // An entry of the table: its box and the steps from the entry before it.
+// Stays, point 5: a type for a place below 2^60 would be made and taken apart at each sum.
 ghost use Rattle.std.specs.Prelude.{◌≡◌, ◌^◌, ◌<◌, pos, ◌-ℤ◌};
 ghost use Rattle.writer.specs.inner.Stored.{Stored};
 ghost use Rattle.numbers.specs.Spelling.{varint_of, signed_form};

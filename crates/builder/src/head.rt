@@ -1,4 +1,5 @@
 // The header up to the sizes of the sections.
+// Stays, point 6: C lends lengths and texts as two lists, and no heap holds strings.
 ghost use Rattle.std.specs.Prelude.{◌≡◌, ◌+◌, ◌*◌, ◌^◌, ◌≤◌, ◌<◌, length};
 ghost use Rattle.writer.specs.inner.Stored.{Stored};
 ghost use Rattle.builder.specs.{Yards.{cut_by, sum_of}, File.{head_from}};
@@ -7,6 +8,7 @@ use crate::put::put_bytes;
 use crate::texts::put_texts;
 
 // What a file is like: its type, version and precision, and how many names there are.
+// Stays a number: the kind is any byte that C gives, and the definitions of the file take numbers.
 #[derive(Clone, Copy)]
 pub struct Form {
     pub kind: u8,

@@ -53,6 +53,7 @@ pub(crate) fn put_masked(out: &mut [u8], place: usize, bytes: &[u8]) -> usize
 }
 
 // A text inline: its length, and its bytes XOR 0x80.
+// Stays apart: it writes a text; `same_text` compares two and is no twin.
 pub fn put_text(out: &mut [u8], place: usize, text: &[u8]) -> usize
     requires { place + length text.now < 2 ^ 61 }
     ensures { Stored out.old place (inlined text.now) out.new result }

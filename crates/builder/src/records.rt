@@ -1,4 +1,5 @@
 // The records: each field inline, or a word that says where its text lies.
+// Stays, point 6: C lends lengths and texts as two lists, and no heap holds strings.
 ghost use Rattle.std.specs.Prelude.{◌≡◌, ◌+◌, ◌*◌, ◌^◌, ◌≤◌, ◌<◌, length};
 ghost use Rattle.writer.specs.inner.Stored.{Stored};
 ghost use Rattle.builder.specs.{Yards.{cut_by, sum_of}, Metadata.{word_bytes, field_bytes, joined_from}};

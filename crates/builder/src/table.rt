@@ -1,4 +1,5 @@
 // The table: an entry for each yard, in the order of the sorted words, whose lower halves are yards.
+// Stays, point 2: `number_at` and `word_at` are one line of std's words each, and the zero in the clause has another type.
 ghost use mathlib.Core.{Path.{◌≡◌}, List.{map}};
 ghost use Rattle.std.specs.Prelude.{◌+◌, ◌*◌, ◌^◌, ◌<◌};
 ghost use lib.{IntN.{pos}, ListN.{length, get_or}};

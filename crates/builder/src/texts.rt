@@ -1,4 +1,5 @@
 // Texts, one after another in a list, by their lengths.
+// Stays, point 6: C lends lengths and texts as two lists, and no heap holds strings; a text of 255 bytes at most has an array.
 ghost use mathlib.Core.{Path.{◌≡◌}, List.{flat_map}};
 ghost use Rattle.std.specs.Prelude.{◌+◌, ◌*◌, ◌^◌, ◌≤◌, ◌<◌, length};
 ghost use Rattle.writer.specs.inner.Stored.{Stored};

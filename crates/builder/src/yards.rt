@@ -1,4 +1,5 @@
 // The checks of all yards' borders, in turn, before anything else is asked.
+// Stays, point 6: C lends latitudes and longitudes as two lists, and no heap holds pairs.
 ghost use mathlib.Core.{Path.{◌≡◌}, List.{[]}};
 ghost use Rattle.std.specs.Prelude.{◌≤◌, length, drop};
 ghost use Rattle.writer.specs.Writer.{checks};
@@ -30,6 +31,7 @@ pub fn next_part(size: usize, at: usize, count: usize) -> usize
 }
 
 // 19 to 22 of the border of so many latitudes and longitudes from these places on.
+// Stays apart: three lines, as `box_part` of build; a closure for what is asked of the part would be no plainer.
 fn check_part(
     lats: &[i32],
     lat: usize,
@@ -47,6 +49,7 @@ fn check_part(
 }
 
 // 19 to 22, yard by yard.
+// Stays parameters: any two lists are taken (19 is said of unequal ones), so a struct of them would hold no fact.
 pub fn check_yards(yards: &[u32], lats: &[i32], lons: &[i32]) -> Result<(), Refusal>
     ensures { result ≡ borders_good (yards_from yards.now lats.now lons.now [] []) }
 {

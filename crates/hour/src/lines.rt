@@ -1,4 +1,5 @@
 // The lines that are printed, into a lent buffer.
+// Stays, point 4: bytes go into a lent buffer, each by an equation (Put), which Display has not.
 ghost use mathlib.Core.{List.{◌∷◌, map}, Path.{◌≡◌}};
 ghost use Rattle.std.specs.Prelude.{Some, take};
 ghost use Rattle.hour.specs.{Hour.{Answered}, Line.{clock_text, signed_text, hour_line, refused_line}};
@@ -27,6 +28,7 @@ fn put_offset(out: &mut [u8], at: usize, local: Local) -> usize
 }
 
 // A space and so many bytes of a text, or all.
+// Stays a length: `most` may be more than the text has, and then all of it is put.
 fn put_name(out: &mut [u8], at: usize, text: &[u8], most: usize) -> usize
     ensures { Put out.old at (32 ∷ map shown (take most text.now)) out.new result }
 {

@@ -1,4 +1,5 @@
 // Building an index: the whole table is gone through once, then each tile's list is written.
+// Stays, point 5: any header is taken with any file, so a struct of `file, head` would hold no fact.
 ghost use Rattle.std.specs.Prelude.{◌^◌, ◌<◌, ◌≡◌, [], ◌∷◌, length};
 ghost use lib.Seq.{sets};
 ghost use Rattle.index.specs.Index.{index_with, indexed, indexed_of};
@@ -19,6 +20,7 @@ use table::find::is_precision;
 // Where the records begin.
 pub const RECORDS_AT: usize = 2052;
 
+// Stays apart: three words; comparing them (own.rt) ends at the first difference.
 fn put_head(index: &mut [u32], length: u32, size: u32, n: u32)
     ensures { index.new ≡ sets index.old 0 (length ∷ size ∷ n ∷ []) }
 {

@@ -1,4 +1,5 @@
 // The table goes into the index row by row, if it can be read, does not run past its end, and is in order.
+// Stays, point 5: any header is taken with any file, so a struct of `file, head` would hold no fact.
 ghost use Rattle.std.specs.Prelude.{◌≡◌, ◌^◌, ◌<◌};
 ghost use Rattle.index.specs.{inner.Building.{Recorded, next_of}, Index.{record_of}, Table.{is_next, table_of}};
 ghost use Rattle.numbers.specs.Varint.{reading_of};
@@ -13,6 +14,7 @@ use numbers::refusal::Refusal;
 use table::rows::{Cursor, Row, after, row_at, start_at};
 
 // A row's words: where its entry stands, its sums, and its box.
+// Stays by hand: it is a word of the definitions; a row cannot be had back from its words.
 pub(crate) fn record_of(row: Row) -> [u32; 7]
     requires { row.place < 2 ^ 32 }
     ensures { result ≡ record_of row }
@@ -50,6 +52,7 @@ pub(crate) fn next_row(file: &[u8], head: Head, at: Cursor, floor: FixedLat) -> 
 }
 
 // The answer: how many rows the table has.
+// Stays apart: the words of a row are told once, in `record_of`; comparing (own.rt) goes on to the table's end and says another refusal.
 pub(crate) fn put_table(file: &[u8], head: Head, index: &mut [u32]) -> Result<usize, Refusal>
     ensures { Agrees (Recorded index.old index.new) (table_of file.now head) result }
 {

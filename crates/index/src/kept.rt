@@ -1,4 +1,6 @@
 // The file's first bytes in the index, four a word, so that an index can be held against a file.
+// Stays, point 1: behind the end the definition has 0 (slice_index), so that is a byte and no sign.
+// Stays, point 6: the file may be shorter than `size` bytes, and what it lacks is 0 (kept_of), so no slice says as much.
 ghost use Rattle.std.specs.Prelude.{◌≡◌, ◌^◌, ◌<◌, take, slice_index};
 ghost use Rattle.writer.specs.inner.Stored.{Stored};
 ghost use Rattle.index.specs.Index.{four_at, kept_of};
@@ -23,6 +25,7 @@ fn byte_of(file: &[u8], size: usize, place: usize) -> u32
     0
 }
 
+// Stays a clause: a type for a place below 2^60 would be made and taken apart at each sum.
 pub(crate) fn four_at(file: &[u8], size: usize, place: usize) -> u32
     requires { place < 2 ^ 60 }
     ensures { result ≡ four_at (take size file.now) place }

@@ -1,4 +1,6 @@
 // For each tile the numbers of the records whose box meets it.
+// Stays, point 2: writing says a place, comparing (own.rt) ends at the first difference with a refusal; what is listed is told once.
+// Stays, point 6: `n` counts records, which have seven words each of the longer list.
 ghost use Rattle.std.specs.Prelude.{◌≡◌, ◌+◌, ◌*◌, ◌^◌, ◌<◌, ◌≤◌, length};
 ghost use Rattle.writer.specs.inner.Stored.{Stored};
 ghost use Rattle.index.specs.{inner.Building.{is_met_in, list_in, lists_in, Listed}, Index.{records_at, tiles}};

@@ -1,4 +1,6 @@
 // Lookup through an index: among the rows in the list of the fix's tile.
+// Stays, point 7: `asked` is the caller's question; a const parameter would compile each loop twice (8 kB more, docs/DECISIONS.md).
+// Stays, point 5: any header is taken with any file, so a struct of `file, head` would hold no fact; C lends `hits` and `text` apart.
 ghost use Rattle.std.specs.Prelude.{◌≡◌, length};
 ghost use Rattle.index.specs.Through.{zones_through, looked_through, looked_indexed};
 ghost use Rattle.zones.specs.Lent.{replied, replied_of};

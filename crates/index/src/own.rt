@@ -1,4 +1,8 @@
 // Whether words are the index that building gives for a file, whoever wrote them: each word is worked out again and compared, without room for them.
+// Stays, point 2: the words of a row are told once (`record_of`), what is listed once; comparing has no room to write and says a refusal.
+// Stays, point 6: `n` counts records, and `size` is of the file's front: neither is the length of the words.
+// Stays, point 5: any header is taken with any file, so a struct of `file, head` would hold no fact.
+// Stays, point 4: words are held against what a file says, so no derive and no `==` of slices serves.
 ghost use Rattle.std.specs.Prelude.{◌+◌, ◌*◌, ◌^◌, ◌<◌, ◌≤◌, length, ◌&&◌, [], ◌∷◌, ◌≡◌};
 ghost use Rattle.index.specs.{inner.Building.{list_in, lists_in}, Index.{records_at, tiles}};
 ghost use Rattle.index.specs.{inner.Own.{is_word, is_at, stands_from, lists_stand, is_empty_from, compared_of, Counted, rest_of, own_with}, Own.{is_index_of}};
@@ -152,6 +156,7 @@ fn own_with(file: &[u8], head: Head, index: &[u32]) -> Result<(), Refusal>
 }
 
 // Whether the words are those that `build_index`, lent as many, leaves for this file. Refused: opening's numbers, 16, 34, and 36 last.
+// Stays apart: two lines, over another definition than `index_tied`.
 pub fn is_index(file: &[u8], index: &[u32]) -> Result<(), Refusal>
     ensures { result ≡ is_index_of file.now index.now }
 {

@@ -1,4 +1,6 @@
 // Whether an index goes with a file: by length, and by a comparison of every byte of header and table.
+// Stays, point 6: the file may be shorter than `size` bytes, and what it lacks is 0 (kept_of), so no slice says as much.
+// Stays, point 5: any header is taken with any file, so a struct of `file, head` would hold no fact.
 ghost use Rattle.std.specs.Prelude.{◌≡◌, ◌+◌, ◌*◌, ◌/◌, ◌^◌, ◌<◌, ◌≤◌, length, take};
 ghost use Rattle.numbers.specs.Spoken.{said_of, no_values};
 ghost use Rattle.index.specs.{Index.{words_for}, Tied.{is_headed, keeps_from, is_tied, tied_with, tied_of}};
@@ -52,6 +54,7 @@ pub(crate) fn is_headed(index: &[u32], size: u32, length: usize) -> bool
     wide(index[2051]) <= index.len()
 }
 
+// Stays by hand: four bytes are held against each word, so no `==` of slices serves.
 pub(crate) fn keeps(file: &[u8], size: usize, index: &[u32], from: usize) -> bool
     requires { (size < 2 ^ 32) × («from» + words_for size ≤ length index.now) × («from» < 2 ^ 50) }
     ensures { result ≡ keeps_from index.now «from» (take size file.now) (words_for size) 0 }
@@ -95,6 +98,7 @@ pub(crate) fn tied_with(file: &[u8], head: Head, index: &[u32]) -> Result<(), Re
 }
 
 // Whether words have the length of this file and its bytes up to the metadata; their records, starts and lists are not looked at. Refused: opening's numbers, 16, 36.
+// Stays apart: two lines, over another definition than `is_index`.
 pub fn index_tied(file: &[u8], index: &[u32]) -> Result<(), Refusal>
     ensures { result ≡ tied_of file.now index.now }
 {

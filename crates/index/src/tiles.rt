@@ -1,4 +1,5 @@
 // The tiles of the fixed grid: 32 by latitude, 64 by longitude, the outermost taking everything beyond.
+// Stays, point 1: the 0 of `more_than` is the definitions' difference of two numbers, and no sign.
 ghost use Rattle.std.specs.Prelude.{◌≡◌, ◌+◌, ◌-◌, ◌^◌, ◌<◌, ◌≤◌};
 ghost use Rattle.index.specs.Tiles.{lift, begins_at, span_of, tile_along, tile_of, tile_at, meets, is_met};
 
@@ -36,6 +37,7 @@ fn more_than(a: u64, b: u64) -> u64
 }
 
 // A side of a tile, at least one unit.
+// Stays apart: one line; what has the same form elsewhere reads a coordinate.
 fn side_of(power: u64, precision: u64) -> u64
     requires { precision ≤ 32 }
     ensures { result ≡ 2 ^ (precision - power) }
@@ -91,6 +93,7 @@ pub(crate) fn tile_at(precision: u8, t: u64) -> Tile
 }
 
 // A coordinate's word, counted from the lowest coordinate up.
+// Stays by hand: it is a word of the definitions, and no `From`: a coordinate is moved too.
 pub fn lift(word: u32) -> u64
     ensures { result ≡ lift word }
 {

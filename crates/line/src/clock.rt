@@ -1,4 +1,5 @@
 // What a clock shows, and texts, into a lent buffer.
+// Stays, point 4: bytes go into a lent buffer, each by an equation (Put), which Display has not; `shown` is a word of the definitions.
 ghost use mathlib.Core.{List.{map}, Path.{◌≡◌}};
 ghost use Rattle.std.specs.Int.Bits.{bit_xor};
 ghost use Rattle.line.specs.{Clock.{weekday_text, date_text, time_text, hours_text, seconds_text, span_text, shown}, Put.{Put}};

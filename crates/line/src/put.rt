@@ -1,4 +1,5 @@
 // Bytes into a lent buffer, one after another. Each function puts something at a place, as much of it as fits, and answers the place behind all of it.
+// Stays, point 4: bytes go into a lent buffer, each by an equation (Put), which Display has not.
 ghost use mathlib.Core.{List.{[], ◌∷◌}, Path.{◌≡◌}};
 ghost use Rattle.std.specs.Prelude.{◌<◌, ◌+◌, ◌%◌};
 ghost use Rattle.line.specs.Put.{Put, decimal, two_digits};
@@ -16,6 +17,7 @@ pub fn put(out: &mut [u8], at: usize, byte: u8) -> usize
     at
 }
 
+// Stays apart: `Put` counts on past the buffer up to 2^64 - 1, and asks nothing of a caller; the writer's `Stored` does.
 pub fn put_all(out: &mut [u8], at: usize, bytes: &[u8]) -> usize
     ensures { Put out.old at bytes.now out.new result }
 {
@@ -27,6 +29,7 @@ pub fn put_all(out: &mut [u8], at: usize, bytes: &[u8]) -> usize
 }
 
 // The number's decimal digits.
+// Stays an array: a number has at most twenty digits, and there is no heap.
 pub fn put_decimal(out: &mut [u8], at: usize, n: u64) -> usize
     ensures { Put out.old at (decimal n) out.new result }
 {
@@ -50,6 +53,7 @@ fn digit(n: u64) -> u8
 }
 
 // The number's last two digits.
+// Stays apart: decimal digits; where the form is the same, another program prints hexadecimal ones.
 pub fn put_two(out: &mut [u8], at: usize, n: u64) -> usize
     ensures { Put out.old at (two_digits n) out.new result }
 {

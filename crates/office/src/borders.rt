@@ -1,4 +1,5 @@
 // A border, for C.
+// Stays, points 5 and 6: C calls this by its name, with these parameters.
 ghost use Rattle.std.specs.Prelude.{length, ◌≡◌, [], ◌∷◌};
 ghost use Rattle.writer.specs.{Pieces.{pieces_of}, Writer.{border_of, fitted}};
 ghost use Rattle.numbers.specs.Spoken.{spoken};

@@ -1,4 +1,5 @@
 // A builder and its calls, for C.
+// Stays, points 5 and 6: C calls the functions `uskelzar_..` by their names, with these parameters.
 ghost use Rattle.std.specs.Prelude.{◌≡◌, length};
 ghost use mir.{Syntax.{w32}, Val.{SFits, of_z}};
 ghost use Rattle.add.specs.Adding.Adds.{Adds, note_rooms, used_out};
@@ -56,6 +57,8 @@ fn noted_of(words: [u64; 14]) -> usize
 }
 
 // The 32 bits of the greatest lower latitude.
+// Stays apart: one line; tzif's `offset_bits` is another number's, and keeps another clause.
+// Stays by hand: it is no order: the greatest latitude is one of the builder's numbers.
 fn greatest_bits(held: Held) -> u64
     ensures { (result ≡ of_z w32 held.greatest) × SFits w32 held.greatest }
 {

@@ -27,6 +27,7 @@ fn say_rescued(rescued: Result<Counts, Refusal>) -> Said
 }
 
 // Salvages a file. Values: the new file's length, the list's lines, the entries kept.
+// Stays apart: C calls it by its name, with these parameters.
 pub fn uskelzar_salvage(
     file: &[u8],
     dropped: &mut [u32],

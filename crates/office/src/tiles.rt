@@ -1,4 +1,5 @@
 // What builds a tile index and an atlas, and works them out again, for C.
+// Stays, points 2 and 5: C calls each of these by its name, with these parameters.
 ghost use Rattle.std.specs.Prelude.{length, ◌≡◌, [], ◌∷◌};
 ghost use Rattle.atlas.specs.Atlas.{atlas_made, is_atlas_of};
 ghost use Rattle.index.specs.{Index.{indexed_of}, Own.{is_index_of}};

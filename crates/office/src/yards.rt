@@ -1,4 +1,5 @@
 // A whole file from yards, for C.
+// Stays, points 5 and 6: C calls this by its name, with these parameters.
 ghost use Rattle.std.specs.Prelude.{length, ◌≡◌, [], ◌∷◌};
 ghost use Rattle.build.specs.{Checked.{lent_as}, Room.{work_of}, Whole.{Cleared}};
 ghost use Rattle.numbers.specs.Spoken.{spoken};

@@ -1,4 +1,5 @@
 // A builder's state, lists and notes, and its calls, with lists to work in that are filled, and longer than any record needs.
+// Stays, point 6: the output is an array of the most that a record lends; a Vec could fail.
 use office::calls::{
     uskelzar_add, uskelzar_begin, uskelzar_clear, uskelzar_drop_last, uskelzar_finish,
     uskelzar_replace,

@@ -48,6 +48,7 @@ pub(crate) fn is_recorded(to: Stdout, got: Reply, record: &[u8], at: usize) -> b
 }
 
 // Where the steps end; none where one came out otherwise.
+// Stays a length: `count` is of steps, not of bytes.
 pub(crate) fn run_steps(
     to: Stdout,
     record: &[u8],

@@ -1,4 +1,5 @@
 // A whole record: begin, the steps, the end.
+// Stays, point 6: the output is an array of the most that a record lends; a Vec could fail.
 use crate::desk::Desk;
 use crate::steps::{is_recorded, run_steps};
 use recorded::lists::lengths_at;

@@ -1,4 +1,5 @@
 // Records on an input: four bytes of a length, and so many bytes behind them.
+// Stays, point 6: `size` is how much is to come, whatever room there is; a length takes four bytes.
 ghost use Rattle.std.specs.Prelude.{◌≤◌};
 ghost use Rattle.std.specs.Counts.{IsPrefixLen};
 
@@ -30,6 +31,7 @@ fn read_some<R: Read>(reader: &mut R, space: &mut [u8], size: usize) -> usize
 }
 
 // Passes over so many bytes.
+// Stays a loop: it ends where the input does, and each step is as long as the read was.
 fn pass_over<R: Read>(reader: &mut R, space: &mut [u8], size: usize) {
     let mut left = size;
     while 0 < left {

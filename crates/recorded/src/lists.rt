@@ -1,4 +1,5 @@
 // Lists in a record, as arrays that are longer than any record needs.
+// Stays, point 6: an array of the most that a record holds; a Vec could fail, and a record that is cut has zeros here.
 ghost use Rattle.std.specs.Prelude.{◌≡◌, ◌≤◌, length};
 
 use crate::record::word_at;
@@ -38,6 +39,7 @@ fn words_at<const N: usize>(record: &[u8], at: usize, count: usize) -> [u32; N]
 }
 
 // So many words of pieces, or of yards.
+// Stays apart: one line, and the name says of what and how many at most.
 pub fn piece_words(record: &[u8], at: usize, count: usize) -> [u32; 160]
     requires { count ≤ 160 }
     ensures { length result ≡ 160 }
@@ -46,6 +48,7 @@ pub fn piece_words(record: &[u8], at: usize, count: usize) -> [u32; 160]
 }
 
 // So many lengths from a place of the record on.
+// Stays apart: one line, and the name says of what and how many at most.
 pub fn lengths_at(record: &[u8], at: usize, count: usize) -> [u32; 1024]
     requires { count ≤ 1024 }
     ensures { length result ≡ 1024 }

@@ -1,4 +1,5 @@
 // Numbers in a record, low byte first.
+// Stays, point 4: a list is held against a record, which may be cut (0 past its end), so no `==` of slices serves.
 ghost use Rattle.std.specs.Prelude.{◌≡◌, ◌↔◌, IsTrue};
 
 // The byte at a place; 0 past the end.
@@ -36,6 +37,7 @@ pub fn instant_at(record: &[u8], at: usize) -> i64 {
 }
 
 // Whether a record has these words from a place on. It and the next stay two: past the end both a word and a byte are 0, each by its own reader.
+// Stays apart: another reader and another step than of bytes.
 pub fn same_words_at(words: &[u32], record: &[u8], from: usize) -> bool {
     let mut at = from;
     for word in words {
@@ -48,6 +50,7 @@ pub fn same_words_at(words: &[u32], record: &[u8], from: usize) -> bool {
 }
 
 // The same of bytes.
+// Stays apart: another reader and another step than of words.
 pub fn same_bytes_at(bytes: &[u8], record: &[u8], from: usize) -> bool {
     let mut at = from;
     for byte in bytes {

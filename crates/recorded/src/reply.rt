@@ -3,6 +3,7 @@ use crate::record::{byte_at, long_at};
 use line::output::{say, say_number};
 use std::io::Stdout;
 
+// Stays numbers: they are words of a record, which may be any.
 #[derive(Clone, Copy, PartialEq, Eq)]
 pub struct Reply {
     // 0 answered, 1 refused, 2 failed or none.
@@ -13,6 +14,7 @@ pub struct Reply {
     pub words: [u64; 5],
 }
 
+// Stays apart: one value for each outcome, which the name says.
 pub fn answered(words: [u64; 5]) -> Reply {
     Reply {
         outcome: 0,
@@ -35,6 +37,7 @@ pub fn refused(number: u8, words: [u64; 5]) -> Reply {
 }
 
 // A string that can't be read, or a simple lookup with no description.
+// Stays apart: one value for each outcome, which the name says.
 pub fn answered_none(words: [u64; 5]) -> Reply {
     Reply {
         outcome: 2,

@@ -15,6 +15,7 @@ fn count(tally: &mut [u64], which: usize) {
     }
 }
 
+// Stays apart: one line of std's words.
 fn counted(tally: &[u64], which: usize) -> u64 {
     tally.get(which).copied().unwrap_or(0)
 }

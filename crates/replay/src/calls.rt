@@ -26,6 +26,7 @@ fn said<F: FnOnce(&mut [u64; 5]) -> u8>(call: F) -> Reply
 }
 
 // A coordinate of a record.
+// Stays apart: one line; what has the same form elsewhere is a side of a tile.
 fn coordinate(record: &[u8], at: usize) -> f32 {
     of_bits(word_at(record, at))
 }
@@ -50,6 +51,7 @@ fn run_either(record: &[u8], file: &[u8], slots: &mut [u32], text: &mut [u8]) ->
 }
 
 // How many words as many hits take with four words each as they take with three; none of so long a list that no record has it.
+// Stays by hand: it is no conversion: so many words, counted in another width.
 pub fn in_four(size: usize) -> usize
     ensures { result ≤ 5464 }
 {
@@ -63,6 +65,7 @@ pub fn filled_words() -> [u32; 5464]
 }
 
 // A word of a list; 0 past the end.
+// Stays apart: one line of std's words.
 fn word_in(words: &[u32], at: usize) -> u32 {
     words.get(at).copied().unwrap_or(0)
 }
@@ -123,6 +126,7 @@ fn run_utf8(file: &[u8]) -> Reply {
     }
 }
 
+// Stays by hand: neither type is this crate's, so there is no `From`.
 fn local_of(local: Local) -> Reply {
     let offset = offset_bits(local);
     let daylight = local.daylight as u64;
@@ -130,6 +134,7 @@ fn local_of(local: Local) -> Reply {
     answered([offset, daylight, length, 0, 0])
 }
 
+// Stays by hand: neither type is this crate's, so there is no `From`.
 fn told_local(time: Result<Option<Local>, Refusal>) -> Reply {
     match time {
         Ok(Some(local)) => local_of(local),

@@ -38,6 +38,7 @@ fn mixed_word(sum: u64, word: u64) -> u64 {
 }
 
 // A word that is counted goes into the sum; another must be zero, and adds something where it is not.
+// Stays a flag: it is asked anew of each word, and two functions would want the same test where they are called.
 fn added(sum: u64, word: u32, counts: bool) -> u64 {
     if counts {
         return mixed_word(sum, u64::from(word));

@@ -1,4 +1,5 @@
 // Runs the recorded cases of standard input and prints each that does not come out as recorded.
+// Stays, point 6: one room and one tally, each once, of a known size; a Vec could fail.
 #![tactic(auto)]
 
 mod calls;

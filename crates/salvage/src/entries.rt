@@ -1,4 +1,5 @@
 // Entries of the new table.
+// Stays, point 5: any header is taken with any file, so a struct of `file, head` would hold no fact.
 ghost use Rattle.std.specs.Prelude.{◌≡◌};
 ghost use Rattle.salvage.specs.inner.Moves.Laid.{Capped};
 ghost use Rattle.numbers.specs.Spelling.{signed_form};
@@ -45,6 +46,7 @@ fn put_entry(out: &mut [u8], at: usize, id: u32, size: u64, row: Row) -> usize
 }
 
 // How many bytes a kept row's border has: it is written into no room.
+// Stays an array: of no bytes; what is written into it is counted, without a heap.
 fn border_size(file: &[u8], head: Head, row: Row) -> usize
     ensures { Measured (entry_good file.now head row) (border_bytes file.now head row) result }
 {
@@ -54,6 +56,7 @@ fn border_size(file: &[u8], head: Head, row: Row) -> usize
 }
 
 // An entry for each kept row, and the place behind the last.
+// Stays a loop: no index is counted; where the next entry is searched, the one before it says.
 pub(crate) fn put_table(file: &[u8], head: Head, out: &mut [u8], at: usize) -> usize
     ensures { Tabled (all_short file.now head (kept_of file.now head (rows_in file.now head)))
         out.old at (table_from file.now head 0 0 (kept_of file.now head (rows_in file.now head))) out.new result }

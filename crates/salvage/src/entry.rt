@@ -1,4 +1,5 @@
 // An entry whose six numbers were read: its border, then its strings.
+// Stays, point 5: any header is taken with any file, so a struct of `file, head` would hold no fact.
 ghost use Rattle.std.specs.Prelude.{◌≡◌, ◌+◌, ◌%◌, ◌^◌};
 ghost use Rattle.border.specs.Encoding.{version_of, encoded_by};
 ghost use Rattle.salvage.specs.Kept.{encoding_in, border_place, record_place, border_good, entry_good};

@@ -1,4 +1,5 @@
 // The strings of an entry: read, and wholly in the metadata section.
+// Stays, point 5: any header is taken with any file, so a struct of `file, head` would hold no fact.
 ghost use Rattle.std.specs.Prelude.{◌≡◌};
 ghost use Rattle.salvage.specs.Kept.{in_section, span_inside, string_inside, field_good, fields_good};
 
@@ -62,6 +63,7 @@ pub(crate) fn field_good(file: &[u8], head: Head, place: usize) -> Result<usize,
 }
 
 // So many of them, one after the other.
+// Stays a length: it counts texts, not bytes.
 pub(crate) fn fields_good(
     file: &[u8],
     head: Head,

@@ -1,4 +1,5 @@
 // The rows that are kept, one after the other.
+// Stays, point 5: any header is taken with any file, so a struct of `file, head` would hold no fact.
 ghost use Rattle.std.specs.Prelude.{◌≡◌};
 ghost use Rattle.salvage.specs.Kept.{entry_good, goodness, FirstKept};
 

@@ -10,6 +10,7 @@ use numbers::refusal::Refusal;
 use slip::slip::slip;
 
 // How many bytes to write, and 1 where the request is not stamped: a number, since `status_of` and its theorems take the greatest.
+// Stays a number: Answers and status_of speak of it as the exit status, which is a number.
 #[derive(Clone, Copy)]
 pub struct Answered {
     pub size: usize,
@@ -41,6 +42,7 @@ fn refuse(hits: &[u32], text: &[u8], out: &mut [u8], why: Refusal) -> Answered
 }
 
 // The request's line, with its end.
+// Stays parameters: docs/PROMISES.md names it, so it takes what it took.
 pub(crate) fn answer(
     request: &[u8],
     map: &[u8],

@@ -1,5 +1,6 @@
 // The shell of `stamp MAP ZONES`: two files by path, requests line by line from standard input, a line for each.
 // What a request's line is, is `answer`'s alone.
+// Stays, point 2: the two mains call these, one with rooms of its own and one that has a heap.
 #![tactic(auto)]
 
 pub mod answer;

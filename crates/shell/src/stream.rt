@@ -11,6 +11,7 @@ use std::io;
 use std::io::{Read, Write};
 
 // How many bytes the line so far has, and the exit status so far.
+// Stays a number: Served, Finished and status_of speak of the exit status as a number.
 #[derive(Clone, Copy)]
 pub struct State {
     pub used: usize,
@@ -36,6 +37,8 @@ fn put_lines<W: Write>(writer: &mut W, lines: &[u8]) -> Result<(), Broken>
 }
 
 // Answers each request that ends in a piece.
+// Stays a loop: each turn begins where the one before it ended.
+// Stays, points 5 and 6: docs/CHECKS.md names it, so it takes what it took.
 fn piece<W: Write>(
     writer: &mut W,
     chunk: &[u8],
@@ -103,6 +106,7 @@ fn finish<W: Write>(
 }
 
 // A proved loop has to end, and nothing says that an input does: so the pieces are counted up to a number that no run comes to.
+// Stays an array: room on the heap is for the two files alone.
 fn all<R: Read, W: Write>(
     reader: &mut R,
     writer: &mut W,

@@ -6,6 +6,7 @@ use crate::answer::answer;
 use crate::gather::gather;
 
 // The place behind what was taken, how many bytes the line so far has, how many to write, and 1 where a request was not stamped.
+// Stays a number: Turned and status_of speak of it as the exit status, which is a number.
 #[derive(Clone, Copy)]
 pub struct Turn {
     pub next: usize,
@@ -14,6 +15,7 @@ pub struct Turn {
     pub fault: u64,
 }
 
+// Stays, points 5 and 6: docs/PROMISES.md names it, so it takes what it took.
 pub(crate) fn take_turn(
     chunk: &[u8],
     from: usize,

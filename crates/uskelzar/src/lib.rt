@@ -1,5 +1,7 @@
 // The form in which firmware takes the library: functions of plain names over numbers and slices; include/uskelzar.h has them for C.
 // Each returns 0 where it answers, with the answer's values in `reply`, or a refusal's number, with its cause and detail there.
+// Stays, points 2, 5 and 7: C calls the functions `uskelzar_..` by their names, with these parameters.
+// Stays, point 4: `say` is the generic form; `say_local` has an answer without values, and the scale beside it.
 #![tactic(auto)]
 
 pub mod civil;

@@ -1,4 +1,6 @@
 // Many fixes in one call, for C.
+// Stays, points 2, 5, 6 and 7: C calls the functions `uskelzar_..` by their names, with these parameters.
+// Stays, point 4: `say_many` has a word that `say` has not, the index of the refused fix.
 ghost use Rattle.std.specs.Prelude.{length, ◌≡◌, [], ◌∷◌};
 ghost use Rattle.batch.specs.Many.{told_many, many_beside, looked_up_many};
 ghost use Rattle.numbers.specs.Spoken.{spoken};

@@ -1,4 +1,5 @@
 // The slip, for C: what a request means, where a zone's file lies in a bundle, and the printed line (document 03).
+// Stays, points 2 and 5: C calls each of these by its name, with these parameters.
 ghost use Rattle.std.specs.Prelude.{length, ◌≡◌, [], ◌∷◌};
 ghost use Rattle.bundle.specs.{Bundle.{find_of}};
 ghost use Rattle.request.specs.{Request.{request_of}};

@@ -1,4 +1,5 @@
 // The tile index at a fix, for C: held against the file, and lookups through it.
+// Stays, points 2, 5 and 7: C calls each of these by its name, with these parameters.
 ghost use Rattle.std.specs.Prelude.{length, ◌≡◌, [], ◌∷◌};
 ghost use Rattle.index.specs.{Through.{looked_through, looked_indexed}, Tied.{tied_of}};
 ghost use Rattle.numbers.specs.Spoken.{said_of, no_values, spoken};

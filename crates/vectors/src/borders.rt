@@ -1,6 +1,7 @@
 // The recorded answers of the point reader and of the verdict, a line each:
 // `border VERSION DATAOFFSET PLACE LAT LON ASK LEAST FILE > points ok|failed LAT,LON .. > verdict V LEAST`.
 // In place of either part may stand `refused N 0`; the points up to a refusal are not listed.
+// Stays, point 5: a word's place is a small number or the end of a list; a type for it would be made at each call.
 ghost use Rattle.std.specs.Prelude.{◌<◌, IfSome};
 
 use crate::leaf::{is_integer, number_of, small_integer};
@@ -90,6 +91,7 @@ fn points_end(line: &[u8], file: &[u8], place: usize) -> Option<usize>
     None
 }
 
+// Stays by hand: the numbers are the recorded ones, and the enum is another crate's.
 fn kind_of(verdict: Verdict) -> u64 {
     match verdict {
         Verdict::NotInZone => 1,
@@ -119,6 +121,7 @@ fn verdict_right(line: &[u8], k: usize, file: &[u8], place: usize) -> bool
     }
 }
 
+// Stays an array: of the longest line's bytes; a Vec could fail.
 pub fn border(line: &[u8]) -> bool {
     let mut space = [0u8; 128];
     let size = bytes(word(line, 8), &mut space);

@@ -1,4 +1,6 @@
 // The recorded answers of numbers' functions: one check for each kind of line.
+// Stays, point 2: each check is a line or two, and calls another function of numbers.
+// Stays, point 6: an array of the longest line's bytes; a Vec could fail.
 use crate::text::{bytes, decimal, hex, is_bits, is_decimal, is_negative, is_signed, word};
 use numbers::float::bits::{bits_of, of_bits};
 use numbers::float::nearest::{of_i32, of_u64};
@@ -6,7 +8,7 @@ use numbers::refusal::plain;
 use numbers::varint::{Number, Stop, is_complete, read_backward, read_forward};
 
 // The number that a reading is refused with, 0 for a failure.
-pub fn number_of(stop: Stop) -> u64 {
+pub(crate) fn number_of(stop: Stop) -> u64 {
     u64::from(stop.or(plain(0)).number)
 }
 

@@ -1,5 +1,6 @@
 // Compares what the library answers with recorded cases, a line each, from standard input. Prints a line that comes out
 // wrong, and for each kind of case how many were compared and how many were wrong.
+// Stays, point 6: one room, and a count for each kind of line, of a known size; a Vec could fail.
 #![tactic(auto)]
 
 mod borders;
@@ -25,6 +26,7 @@ fn kind_of(names: &[u8], line: &[u8]) -> usize {
     KINDS
 }
 
+// Stays a switch: a match from a number to a check is the plain form.
 fn is_right(kind: usize, line: &[u8]) -> bool {
     match kind {
         0 => leaf::forward(line),
@@ -79,6 +81,7 @@ fn line_end(text: &[u8], start: usize) -> usize
     text.len()
 }
 
+// Stays a loop: each line begins behind the end of the one before it.
 fn run_all(out: Stdout, names: &[u8], text: &[u8], compared: &mut [u64], wrong: &mut [u64]) {
     let mut at = 0;
     while at < text.len() {

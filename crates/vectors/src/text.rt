@@ -2,6 +2,7 @@
 ghost use Rattle.std.specs.Prelude.{◌<◌, ◌≤◌, length};
 ghost use Rattle.std.specs.Counts.{IsPrefixLen};
 
+// Stays apart: a space or a comma; another test of two bytes means something else.
 fn is_gap(byte: u8) -> bool {
     byte == b' ' || byte == b','
 }
@@ -63,6 +64,7 @@ fn with_digit(value: u64, byte: u8) -> u64 {
 }
 
 // The digits of a word; a sign is passed over.
+// Stays by hand: other bytes are passed over and a number too large stops growing; no `parse` reads a word so.
 pub fn decimal(word: &[u8]) -> u64 {
     word.iter().fold(0, |value, byte| with_digit(value, *byte))
 }
@@ -99,6 +101,7 @@ fn integer(word: &[u8]) -> i64 {
 
 // ---- a recorded number is the spelling of what came out; a word that spells no number is none, and not 0
 
+// Stays an array: a number has at most twenty digits.
 pub fn is_decimal(word: &[u8], value: u64) -> bool {
     let mut digits = [0u8; 20];
     let size = io::decimal(value, &mut digits);

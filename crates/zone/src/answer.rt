@@ -12,6 +12,7 @@ use table::location::Location;
 use zones::lookup::{Zones, lookup};
 
 // Latitude and longitude (f32 bits, low byte first), then the file.
+// Stays parameters: a file and the two lists that a lookup fills, as the lookup itself takes them.
 pub fn answer(input: &[u8], hits: &mut [u32], text: &mut [u8]) -> Result<Zones, Refusal>
     ensures { replied result hits.new text.new
         ≡ answer_of input.now (length hits.old) (length text.old) }

@@ -1,4 +1,6 @@
 // The lines that are printed. Each function puts something at a place of a lent buffer, as far as it fits, and answers the place after it.
+// Stays, point 5: `hits` and `text` are the two lists that a lookup fills, and it takes them apart.
+// Stays, point 4: bytes go into a lent buffer, each by an equation (Put), which Display has not.
 ghost use Rattle.std.specs.Prelude.{◌≡◌, ◌+◌, ◌%◌, min, length, take};
 ghost use Rattle.line.specs.Put.{Put};
 ghost use Rattle.numbers.specs.Reply.{given};
@@ -29,6 +31,7 @@ fn hex_digit(n: u8) -> u8
     }
 }
 
+// Stays apart: hexadecimal digits; line's `put_two` has decimal ones.
 fn put_hex(out: &mut [u8], at: usize, byte: u8) -> usize
     ensures { Put out.old at (hex_byte byte) out.new result }
 {
@@ -60,6 +63,7 @@ fn put_bits(out: &mut [u8], at: usize, bits: u32) -> usize
 }
 
 // The digits of each byte.
+// Stays apart: two digits for each byte, so it is no `put_all`.
 fn put_digits(out: &mut [u8], at: usize, bytes: &[u8]) -> usize
     ensures { Put out.old at (digits_text bytes.now) out.new result }
 {
@@ -132,6 +136,7 @@ fn put_match(out: &mut [u8], at: usize, hit: Hit) -> usize
 }
 
 // Each match and its fields, as many matches as there are words for.
+// Stays a length: there may be more matches than there are words for.
 fn put_matches(
     out: &mut [u8],
     at: usize,

@@ -1,4 +1,5 @@
 // Document 01's program: a location and a file on standard input, the matches and their fields on standard output.
+// Stays, point 5: `hits` and `text` are the two lists that a lookup fills, and it takes them apart.
 #![tactic(auto)]
 
 mod answer;
@@ -57,6 +58,7 @@ fn zone(input: &[u8], hits: &mut [u32], text: &mut [u8], out: &mut [u8]) -> usiz
 }
 
 // So many bytes, or as many as there are.
+// Stays by hand: it writes the bytes that there are, and prints nothing of its own.
 fn print_front(to: Stdout, out: &[u8], used: usize) {
     let size = used.min(out.len());
     say(to, &out[..size]);

@@ -1,4 +1,5 @@
 // A yard more in a builder.
+// Stays, point 6: C lends these lists, longer than what stands in them, and keeps its builder's and its notes' between the calls.
 ghost use mathlib.Core.{List.{◌++◌}, Path.{◌≡◌}};
 ghost use Rattle.std.specs.Prelude.{◌+◌, ◌≤◌, min, length, drop};
 ghost use Rattle.builder.specs.inner.Drawing.Section.{LentFor};

@@ -1,4 +1,5 @@
 // A yard more by a fresh sum.
+// Stays, point 6: C lends these lists, longer than what stands in them, and keeps the builder's and the notes' between the calls.
 ghost use Rattle.std.specs.Prelude.{◌+◌, length};
 ghost use Rattle.build.specs.Room.{work_of};
 ghost use Rattle.add.specs.{inner.Growing.Joins.{Grew}, Growing.Notes.{notes_as, NotesRoom}};

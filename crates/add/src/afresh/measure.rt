@@ -1,4 +1,5 @@
 // The lists summed up, which have the yard now.
+// Stays, point 6: C lends these lists, longer than what stands in them, and keeps the builder's between the calls.
 ghost use Rattle.std.specs.Prelude.{◌+◌, length};
 ghost use Rattle.build.specs.Room.{work_of};
 ghost use Rattle.add.specs.inner.Afresh.Afresh.{Measuring, Measures, Lying};

@@ -1,4 +1,5 @@
 // A builder's yards noted afresh.
+// Stays, point 6: C lends these lists, longer than what stands in them, and keeps the builder's and the notes' between the calls.
 ghost use Rattle.std.specs.Prelude.{List, length};
 ghost use Rattle.builder.specs.Yards.{Yard};
 ghost use Rattle.add.specs.Growing.Notes.{notes_as, NotedLists};

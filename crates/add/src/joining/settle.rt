@@ -1,4 +1,5 @@
 // What a yard that lies in the lists makes of a builder: by a sure step, else by a fresh sum.
+// Stays, point 6: C lends these lists, longer than what stands in them, and keeps the builder's and the notes' between the calls.
 ghost use Rattle.std.specs.Prelude.{length};
 ghost use Rattle.build.specs.Room.{work_of};
 ghost use Rattle.add.specs.Growing.Notes.{notes_as};

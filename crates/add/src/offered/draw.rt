@@ -1,4 +1,5 @@
 // The border of an offered yard, behind the data that is held.
+// Stays, point 6: C lends these lists, longer than what stands in them, and keeps the builder's bytes between the calls.
 ghost use mathlib.Core.{Path.{◌≡◌}, List.{List}};
 ghost use Rattle.std.specs.Prelude.{ℕ, ◌≤◌, min, length, take};
 ghost use Rattle.builder.specs.{Borders.{Draws}, File.{up_to}};

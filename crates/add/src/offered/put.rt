@@ -1,4 +1,5 @@
 // A yard into the lists of a builder, behind what it holds, and out of them again.
+// Stays, point 6: C lends these lists, longer than what stands in them, and keeps the builder's between the calls.
 ghost use Rattle.std.specs.Prelude.{length};
 ghost use Rattle.draft.specs.Held.State.{lists_as};
 ghost use Rattle.add.specs.inner.Offered.Puts.{Placed, Puts, Ended};

@@ -1,4 +1,5 @@
 // A yard more by a sure step, which sums nothing afresh: beside its own yard it looks at the box of each held one. The notes may be forged: then what is said may be wrong, and no more.
+// Stays, point 6: C lends these lists, longer than what stands in them, and keeps the builder's and the notes' between the calls.
 ghost use Rattle.std.specs.Prelude.{◌≡◌, ◌+◌, ◌-◌, ◌*◌, ◌^◌, ◌≤◌, ◌<◌};
 ghost use lib.{ListN.{length, take, drop, set}, Seq.{sets}};
 ghost use Rattle.builder.specs.Yards.{sum_of};

@@ -1,4 +1,5 @@
 // The boxes of the yards, four numbers each.
+// Stays, point 6: C lends latitudes and longitudes as two lists, and no heap holds pairs.
 ghost use mathlib.Core.{Path.{◌≡◌}, List.{[], ◌∷◌}};
 ghost use Rattle.std.specs.Prelude.{◌+◌, ◌≤◌};
 ghost use lib.{ListN.{length, drop}, Seq.{sets}};
@@ -23,6 +24,7 @@ pub fn put_corners(boxes: &mut [i32], at: usize, bounds: Bounds)
 }
 
 // The box of the border of so many latitudes and longitudes from these places on.
+// Stays apart: three lines, as `check_part` of builder; a closure for what is asked of the part would be no plainer.
 fn box_part(lats: &[i32], lat: usize, tall: usize, lons: &[i32], lon: usize, wide: usize) -> Bounds
     requires { (lat ≤ length lats.now) × (lon ≤ length lons.now) }
     ensures { result ≡ box_of (part_of tall (drop lat lats.now)) (part_of wide (drop lon lons.now)) }
@@ -32,6 +34,7 @@ fn box_part(lats: &[i32], lat: usize, tall: usize, lons: &[i32], lon: usize, wid
     box_of(&lats[lat..lat_end], &lons[lon..lon_end])
 }
 
+// Stays parameters: any two lists are taken, so a struct of `lats, lons` would hold no fact.
 pub(crate) fn box_yards(yards: &[u32], lats: &[i32], lons: &[i32], boxes: &mut [i32])
     requires { length yards.now ≤ length boxes.old }
     ensures { boxes.new ≡ sets boxes.old 0 (corners_of (yards_from yards.now lats.now lons.now [] [])) }

@@ -1,4 +1,5 @@
 // The table's order: the boxes of the yards, and their words by lower latitude.
+// Stays, point 6: C lends latitudes and longitudes as two lists, and no heap holds pairs.
 ghost use mathlib.Core.{Path.{◌≡◌}, List.{[]}};
 ghost use Rattle.std.specs.Prelude.{◌*◌, ◌/◌, ◌≤◌, length};
 ghost use Rattle.builder.specs.Yards.{yards_from};

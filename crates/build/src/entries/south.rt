@@ -5,6 +5,7 @@ ghost use Rattle.builder.specs.Entries.{from_south, word_of_yard};
 ghost use Rattle.builder.specs.Grouping.Keys.{numbers_from};
 
 // A latitude counted from the south, never below zero.
+// Stays by hand: it is a word of the definitions, and no `From`: a latitude is moved too.
 fn from_south(latitude: i32) -> u64
     ensures { result ≡ from_south latitude }
 {

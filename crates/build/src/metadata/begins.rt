@@ -1,4 +1,5 @@
 // Where the records begin in the section.
+// Stays, point 6: C lends lengths and texts as two lists, and no heap holds strings; writing into a list of no bytes tells a size.
 ghost use mathlib.Core.{Path.{◌≡◌}, List.{map}};
 ghost use Rattle.std.specs.Prelude.{◌+◌, ◌*◌, ◌^◌, ◌≤◌, ◌<◌, length};
 ghost use Rattle.builder.specs.{Metadata.{field_bytes, joined_from}, Yards.{cut_by, sum_of}};

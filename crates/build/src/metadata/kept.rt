@@ -1,4 +1,5 @@
 // The records: yards with equal values share one. Their lengths and texts are closed up, in order of arrival.
+// Stays, point 6: C lends lengths and texts as two lists, and no heap holds strings.
 ghost use mathlib.Core.{Path.{◌≡◌}, List.{[], ◌∷◌}};
 ghost use Rattle.std.specs.Prelude.{◌+◌, ◌*◌, ◌^◌, ◌≤◌, ◌<◌, length, set};
 ghost use Rattle.writer.specs.inner.Stored.{Stored};

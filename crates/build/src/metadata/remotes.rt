@@ -1,4 +1,5 @@
 // The texts behind the records, by first use.
+// Stays, point 6: C lends lengths and texts as two lists, and no heap holds strings.
 ghost use mathlib.Core.{Path.{◌≡◌}, List.{map, flat_map}};
 ghost use Rattle.std.specs.Prelude.{◌+◌, ◌*◌, ◌^◌, ◌≤◌, ◌<◌, length, take};
 ghost use Rattle.writer.specs.inner.Stored.{Stored};

@@ -1,4 +1,5 @@
 // The words of the records' fields: 0 for one that is inline, else 1 + how far behind the records its text lies.
+// Stays, point 6: C lends lengths and texts as two lists, and no heap holds strings.
 ghost use mathlib.Core.{Path.{◌≡◌}, List.{[]}};
 ghost use Rattle.std.specs.Prelude.{◌+◌, ◌^◌, ◌≤◌, ◌<◌, length, take, get_or};
 ghost use Rattle.builder.specs.Yards.{cut_by};
@@ -16,6 +17,7 @@ pub struct Sums {
 }
 
 // The bytes of a text inline.
+// Stays by hand: it is no conversion; it measures a text.
 fn inlined_size(size: u32) -> u32
     requires { size + 10 < 2 ^ 32 }
     ensures { result ≡ length (varint_of size) + size }

@@ -1,4 +1,5 @@
 // From the values of all yards to the layout of the metadata section.
+// Stays, point 6: C lends lengths and texts as two lists, and no heap holds strings.
 ghost use Rattle.std.specs.Prelude.{length};
 ghost use Rattle.builder.specs.Yards.{cut_by};
 ghost use Rattle.layout.specs.inner.Layout.{Least};
@@ -29,6 +30,7 @@ pub struct Section {
 }
 
 // The least length that fits, which is below 2^32.
+// Stays by hand: it is no order; it takes the layout's answer.
 fn least_length(inline: u32, words: &[u32]) -> u32
     requires { Short inline words.now }
     ensures { Least inline words.now result }

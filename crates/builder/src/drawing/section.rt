@@ -1,4 +1,5 @@
 // The data section: its zero byte, and each yard's border behind those before it.
+// Stays, point 6: C lends latitudes and longitudes as two lists, and no heap holds pairs.
 ghost use mathlib.Core.{Path.{◌≡◌}, List.{[]}};
 ghost use Rattle.std.specs.Prelude.{◌+◌, ◌≤◌, ◌<◌, length, set, get_or};
 ghost use Rattle.builder.specs.{Borders.{drawn_of}, Yards.{yards_from}};

@@ -1,4 +1,5 @@
 // A yard's border, from where its parts begin in the lent lists.
+// Stays, point 6: C lends latitudes and longitudes as two lists, and no heap holds pairs.
 ghost use Rattle.std.specs.Prelude.{◌*◌, ◌≤◌, ◌<◌, ◌^◌, length, drop};
 ghost use Rattle.builder.specs.Borders.{Draws};
 ghost use Rattle.builder.specs.inner.Drawing.Section.{yard_appended, LentFor};

@@ -1,4 +1,5 @@
 // The first of equal items, and whether there are two, among those that have one hash.
+// Stays, point 6: texts stay where C lends them and are found by their starts: no heap holds strings or a map.
 ghost use mathlib.Core.{Path.{◌≡◌}, List.{map}};
 ghost use Rattle.std.specs.Prelude.{◌*◌, ◌^◌, ◌<◌, ◌≤◌};
 ghost use lib.{Dec.{leb}, ListN.{length, drop}};
@@ -9,6 +10,7 @@ ghost use Rattle.builder.specs.Grouping.{Items.{Inside}, Keys.{item_of, hash_of,
 use crate::grouping::items::{hash_item, same_item};
 use layout::order::key_of;
 
+// Stays by hand: it is a word of the definitions: the lower half of a word is an item.
 fn item_of(word: u64) -> usize
     ensures { result ≡ item_of word }
 {

@@ -1,4 +1,6 @@
 // Items: so many texts in a row, as they lie in a list. A text alone is an item of one, a record one of as many as there are names.
+// Stays, point 6: texts stay where C lends them and are found by their starts: no heap holds strings or a map.
+// Stays, point 4: an item is so many texts, found by their starts, so no derive and no `==` of slices serves.
 ghost use Rattle.std.specs.Prelude.{◌≡◌, ◌+◌, ◌^◌, ◌<◌, ◌≤◌, length};
 ghost use Rattle.builder.specs.{Sharing.{same_text, same_texts}, Yards.{sum_of}};
 ghost use Rattle.builder.specs.Grouping.Items.{Inside, starts_from, text_at, item_at, hash_text, hash_texts};

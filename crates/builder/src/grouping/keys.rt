@@ -1,4 +1,5 @@
 // Words in order, of an item's hash and its number: equal items stand close together.
+// Stays, point 6: texts stay where C lends them and are found by their starts: no heap holds strings or a map.
 ghost use mathlib.Core.{Path.{◌≡◌}, List.{map}};
 ghost use Rattle.std.specs.Prelude.{◌*◌, ◌^◌, ◌≤◌, length};
 ghost use Rattle.builder.specs.Grouping.{Items.{Inside}, Keys.{key_word, numbers_from, Sorting}};

@@ -16,6 +16,8 @@ pub fn hash_text(seed: u32, text: &[u8]) -> u32
     text.iter().fold(seed, |hash, byte| hash_byte(hash, *byte))
 }
 
+// Stays apart: one line; `put_text` writes a text and is no twin.
+// Stays by hand: it is std's `==`, under the name of the definitions.
 pub fn same_text(a: &[u8], b: &[u8]) -> bool
     ensures { result ≡ same_text a.now b.now }
 {

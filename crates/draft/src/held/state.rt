@@ -1,4 +1,5 @@
 // A builder's numbers. What it holds lies in the lists that are lent with it.
+// Stays a number: C keeps the builder's numbers between calls, and may forge the kind.
 #[derive(Clone, Copy)]
 pub struct Held {
     // What the file to come is like.

@@ -1,4 +1,5 @@
 // The held yards laid out anew: their records, and the order of the table.
+// Stays, point 6: C lends these lists, longer than what stands in them, and keeps the builder's between the calls.
 ghost use mathlib.Core.{Path.{◌≡◌}, List.{map}};
 ghost use Rattle.std.specs.Prelude.{◌*◌, ◌≤◌, length};
 ghost use Rattle.builder.specs.Entries.{word_of_yard};

@@ -31,6 +31,7 @@ pub(crate) fn are_whole(builder: Held, lengths: &[u32]) -> bool
     is_sum(&lengths[front..all], builder.strings - builder.front)
 }
 
+// Stays parameters: behind a struct of `&mut` lists a caller's proof did not close (tried in build's `clear`).
 pub(crate) fn put_file(
     builder: Held,
     own: Own,

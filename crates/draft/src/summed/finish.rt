@@ -1,4 +1,5 @@
 // The end of a builder: its file, at the front of an output lent then.
+// Stays, point 6: C lends these lists, longer than what stands in them, and keeps the builder's between the calls.
 ghost use mathlib.Core.{Bool.{false}, Path.{◌≡◌}};
 ghost use Rattle.std.specs.Prelude.{length};
 ghost use Rattle.build.specs.inner.Whole.{Fills};
@@ -17,6 +18,7 @@ use numbers::fault::Fault;
 use numbers::refusal::Refusal;
 
 // With nothing zeroed afterwards.
+// Stays parameters: behind a struct of `&mut` lists a caller's proof did not close (tried in build's `clear`).
 fn fill(
     builder: Held,
     own: Own,

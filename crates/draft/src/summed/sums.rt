@@ -1,4 +1,5 @@
 // The sums over the held yards, taken afresh.
+// Stays, point 6: C lends these lists, longer than what stands in them, and keeps the builder's between the calls.
 ghost use mathlib.Core.{Path.{◌≡◌}, List.{List}};
 ghost use Rattle.std.specs.Prelude.{◌*◌, ◌≤◌};
 ghost use lib.{Dec.{eqb, leb}, ListN.{length}};

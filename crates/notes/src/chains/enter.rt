@@ -1,4 +1,5 @@
 // An item is entered: it stands at the head of its chain, before those that stood there.
+// Stays, point 6: a chain is a list that C lends and keeps between the calls.
 ghost use mathlib.Core.{Bool.{Bool, true}, Path.{◌≡◌}};
 ghost use Rattle.std.specs.Prelude.{ℕ, ◌+◌, ◌*◌, ◌^◌, ◌<◌, length};
 ghost use Rattle.notes.specs.Chains.{Chains.{Chained, ItemsInside}, Entered.{bucket_of}};

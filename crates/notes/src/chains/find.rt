@@ -1,4 +1,5 @@
 // The last entered item that is the same as one, and the one before it. A link that does not go back ends a walk: a chain may be forged.
+// Stays, point 6: a chain is a list that C lends and keeps between the calls.
 ghost use mathlib.Core.{Bool.{Bool}, Path.{◌≡◌}};
 ghost use Rattle.std.specs.Prelude.{ℕ, ◌+◌, ◌*◌, ◌≤◌, ◌<◌, length};
 ghost use Rattle.notes.specs.Chains.{Chains.{last_with, Chained, meets, word_of, ItemsInside}, Entered.{bucket_of, Walked}};
@@ -6,6 +7,7 @@ ghost use Rattle.notes.specs.Chains.{Chains.{last_with, Chained, meets, word_of,
 use crate::chains::texts::{Texts, bucket_of, same_items};
 
 // The first along a chain, from this place on, that is the same. A place is a word of the chain, which C keeps: one more than the item it means, 0 for none.
+// Stays a number in the chain alone: C keeps it between calls; what is found is an Option.
 fn find_from(texts: Texts, width: usize, chain: &[u32], item: usize, from: usize) -> Option<usize>
     requires { ((item + 1) * width < length texts.starts.now) × (4096 + item ≤ length chain.now) }
     ensures { Walked texts.entry.starts.now texts.entry.bytes.now width chain.now item from (word_of result) }

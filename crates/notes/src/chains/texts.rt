@@ -1,4 +1,5 @@
 // Items by where their texts begin, in lists that may be wrong: a text that does not lie inside the bytes is the same as none.
+// Stays, point 4: the starts may be forged, so each is looked at before two texts are held against one another.
 ghost use Rattle.std.specs.Prelude.{◌≡◌, ◌+◌, ◌*◌, ◌<◌, length};
 ghost use Rattle.builder.specs.Sharing.{same_text, same_texts};
 ghost use Rattle.builder.specs.Grouping.Items.{Inside, text_at, item_at, hash_text, hash_texts};

@@ -1,4 +1,6 @@
 // A table with one entry more: the neighbours of the new entry, and what it adds to the table's bytes.
+// Stays, point 1: the first entry's places are counted from 0 (places_of), which is a place and no sign.
+// Stays, point 6: C lends and keeps these lists, longer than what stands in them; a list of no bytes, written into, tells a size.
 ghost use mathlib.Core.{Path.{◌≡◌}, List.{[], ◌∷◌, ◌++◌}};
 ghost use Rattle.std.specs.Prelude.{◌+◌, ◌*◌, ◌^◌, ◌≤◌, ◌<◌, length};
 ghost use Rattle.builder.specs.Entries.{bounds_at, entry_at, entry_bytes, highest_of, table_of};
@@ -82,6 +84,7 @@ fn places_of(begins: &[u32], borders: &[u32], near: Option<usize>) -> Places
 }
 
 // The bytes of an entry behind one with the places `from`.
+// Stays apart: two lines; another writer writes into no room elsewhere.
 fn entry_size(bounds: Bounds, from: Places, to: Places) -> usize
     ensures { result ≡ length (entry_bytes from.record from.border (entry_at bounds to)) }
 {

@@ -1,4 +1,5 @@
 // The notes of a builder's yards. A caller may lend any notes: what is promised of new ones holds where the old ones were right.
+// Stays, point 6: C lends these lists, longer than what stands in them, and keeps chains and groups between the calls.
 ghost use mathlib.Core.{List.{map, ◌++◌}, Path.{◌≡◌}};
 ghost use Rattle.std.specs.Prelude.{◌+◌, ◌-◌, ◌*◌, ◌^◌, ◌≤◌, ◌<◌};
 ghost use lib.{ListN.{length, get_or, drop}, Seq.{sets}};

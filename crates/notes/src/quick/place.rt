@@ -1,4 +1,5 @@
 // Where the record of a yard more begins. The notes may be forged: where they make no sense, nothing is sure.
+// Stays, point 6: C lends these lists, longer than what stands in them, and keeps chains and groups between the calls.
 ghost use mathlib.Core.{Bool.{false}, List.{List, map}, Path.{◌≡◌}};
 ghost use Rattle.std.specs.Prelude.{ℕ, ◌+◌, ◌*◌, ◌^◌, ◌≤◌, ◌<◌, length};
 ghost use Rattle.builder.specs.{Sharing.{same_texts, is_in}, Yards.{Yard}};

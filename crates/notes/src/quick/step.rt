@@ -1,4 +1,5 @@
 // A yard more in a builder, where its step is sure: it shares a record, or has one of its own that changes no other.
+// Stays, point 6: C lends these lists, longer than what stands in them, and keeps the builder's and the notes' between the calls.
 ghost use Rattle.std.specs.Prelude.{List, ℕ, ◌^◌, ◌≤◌, length};
 ghost use Rattle.builder.specs.{Borders.{Drawn}, Yards.{Yard}};
 ghost use Rattle.notes.specs.inner.Nearby.Nearby.{Reaching};

@@ -1,4 +1,5 @@
 // The bytes of a new record, value by value. The lists may be forged: where they make no sense, nothing is sure.
+// Stays, point 6: a chain is a list that C lends and keeps between the calls, longer than what stands in it.
 ghost use mathlib.Core.{List.{List}, Path.{◌≡◌}};
 ghost use Rattle.std.specs.Prelude.{ℕ, ◌+◌, ◌-◌, ◌*◌, ◌^◌, ◌≤◌, ◌<◌, length};
 ghost use Rattle.builder.specs.Sharing.{same_text, is_in};

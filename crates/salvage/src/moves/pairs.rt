@@ -1,4 +1,6 @@
 // Version 0: the moves and the closing pair, as they are read, and written in the shortest form.
+// Stays, point 7: `strict` is how the file is read, which its header keeps, and the definitions take a Bool.
+// Stays, point 5: of the place nothing is known, so a struct of `file, strict, place` would hold no fact.
 ghost use mathlib.Core.List.{flat_map};
 ghost use Rattle.std.specs.Prelude.{suc, ◌≡◌};
 ghost use Rattle.writer.specs.Moves.{plain_move_bytes};

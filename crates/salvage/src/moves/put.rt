@@ -7,6 +7,7 @@ ghost use Rattle.salvage.specs.inner.Moves.Laid.{Capped};
 use numbers::write::write_varint;
 
 // The shortest varint, and the place behind it.
+// Stays by hand: it writes a number of the format, and prints none.
 pub(crate) fn put_number(out: &mut [u8], place: usize, value: u64) -> usize
     ensures { Capped out.old place (varint_of value) out.new result }
 {

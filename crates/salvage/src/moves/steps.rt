@@ -22,6 +22,9 @@ pub(crate) fn step_number(from: Point, to: Point) -> u64
 }
 
 // The moves of a border, and its end; `data` is where references count from.
+// Stays a loop: no index is counted; the next point comes from the reader, which stands behind the last.
+// Stays a flag: `strict` is how the file is read, which its header keeps, and the definitions take a Bool.
+// Stays parameters: they are an `Encoding` and a place; of the place nothing is known.
 pub(crate) fn put_steps(
     file: &[u8],
     data: u32,

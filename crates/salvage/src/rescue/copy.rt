@@ -17,6 +17,8 @@ fn put_byte(out: &mut [u8], at: usize, byte: u8) -> usize
 }
 
 // So many bytes from a place of the file on, or those that it has.
+// Stays a length: so many bytes are asked for, whatever the file has.
+// Stays by hand: it copies bytes, and prints none.
 pub(crate) fn put_span(file: &[u8], from: usize, size: usize, out: &mut [u8], at: usize) -> usize
     ensures { Capped out.old at (take size (drop from file.now)) out.new result }
 {

@@ -1,4 +1,5 @@
 // The list of dropped entries: the number of each, and the first reason met.
+// Stays, point 5: any header is taken with any file, so a struct of `file, head` would hold no fact.
 ghost use Rattle.std.specs.Prelude.{◌^◌, ◌<◌, set, ◌≡◌, [], ◌∷◌};
 ghost use Rattle.writer.specs.inner.Stored.{Stored};
 ghost use Rattle.numbers.specs.Varint.{reading_of};

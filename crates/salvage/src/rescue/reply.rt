@@ -1,4 +1,5 @@
 // Salvage of a damaged file into a lent list and a lent output.
+// Stays, point 5: any header is taken with any file, so a struct of `file, head` would hold no fact.
 ghost use Rattle.std.specs.Prelude.{◌^◌, min, true, ◌&&◌, ◌≡◌, leb, length};
 ghost use Rattle.header.specs.Header.{head_by};
 ghost use Rattle.numbers.specs.{Lists.{zeros}, Reply.{given}};

@@ -1,4 +1,5 @@
 // Names and notice, inline.
+// Stays, point 5: any header is taken with any file, and of a place nothing is known, so a struct would hold no fact.
 ghost use Rattle.std.specs.Prelude.{◌≡◌, take};
 ghost use Rattle.salvage.specs.inner.Moves.Laid.{Capped};
 ghost use Rattle.salvage.specs.File.{head_texts};
@@ -13,6 +14,7 @@ use numbers::limits::LONGEST_TEXT;
 use numbers::refusal::{Refusal, or_refuse};
 
 // The text at a place of the header, unless it is too long to stand inline.
+// Stays a flag: `strict` is how the file is read, which its header keeps, and the definitions take a Bool.
 fn short_text(file: &[u8], strict: bool, place: usize) -> Result<Text, Refusal>
     ensures { result ≡ short_text strict file.now place }
 {

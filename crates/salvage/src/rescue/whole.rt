@@ -1,4 +1,6 @@
 // The new file: its header, the sizes of its three sections, and the sections.
+// Stays, points 2 and 6: the sizes are two lines each over other definitions; a list of no bytes, written into, counts without a heap.
+// Stays, point 5: any header is taken with any file, so a struct of `file, head` would hold no fact.
 ghost use Rattle.std.specs.Prelude.{◌++◌};
 ghost use Rattle.salvage.specs.inner.Moves.Laid.{Capped};
 ghost use Rattle.salvage.specs.File.{metadata_of, Sized};

@@ -3,14 +3,6 @@ use Rattle.numbers.proofs.Prelude.{length, ◌∙◌}
 use Rattle.build.proofs.{Moving.{builds_as, cleared_as}, Needed.{zero_first}}
 use Rattle.build.proofs.file.build.Goals as goal
 
-pub fill_all-built-requires : goal.fill_all-built-requires
-fill_all-built-requires c =
-    zero_first (length c.args.bytes.now) _ (c.fill.ensures.after (λ y h. h))
-
-pub shape_of-bytes : goal.shape_of-bytes
-shape_of-bytes c =
-    c.bytes-3-1.given ∙ (c.bytes-2-1.given ∙ c.bytes-1.given)
-
 pub returns : goal.returns
 returns c = (
   builds_as _ _ _ _ _ c.bytes-1.given _ _ _ _ c.out-1.given c.fill_all-built.ensures c.settle.ensures,

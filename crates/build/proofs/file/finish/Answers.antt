@@ -15,10 +15,6 @@ pub returns-then-not-has_room : goal.returns-then-not-has_room
 returns-then-not-has_room c =
     λ drawn d. short_fills _ _ _ _ (lacks _ _ _ _ _ c.need_of-need.ensures _ c.has_room.ensures c.if-not-has_room.true) _ (ap refused c.alone.ensures)
 
-pub fill-end-requires : goal.fill-end-requires
-fill-end-requires c =
-    (record { good = c.requires.0; is = c.need_of-need.ensures; room = holds _ _ _ c.has_room.ensures c.if-not-has_room.false }, c.requires.1)
-
 pub returns-then-up_to-end : goal.returns-then-up_to-end
 returns-then-up_to-end c =
     λ drawn d. long_fills _ _ _ _ (enough_is _ _ _ _ _ c.need_of-need.ensures _ c.has_room.ensures c.if-not-has_room.false) _ (c.fill-end.ensures drawn d) (over_top _ _ _ _ c.up_to.ensures c.out-1.given c.if-up_to-end.true) _ (ap refused c.alone-then-up_to-end.ensures)

@@ -39,18 +39,10 @@ returns-then-work-fields-5 c =
     no_words c.args.work c.args.count c.args.fields c.args.bytes c.if-work-fields.false c.if-work-fields-2.false c.if-work-count.false c.if-work-fields-3.false
     c.if-work-count-2.false c.if-work-fields-4.false c.if-work-bytes.false c.if-work-fields-5.true
 
-pub overflow_mul-count : goal.overflow_mul-count
-overflow_mul-count c =
-    omega (arith, c.requires)
-
 pub returns-then-work-count-3 : goal.returns-then-work-count-3
 returns-then-work-count-3 c =
     no_places c.args.work c.args.count c.args.fields c.args.bytes c.if-work-fields.false c.if-work-fields-2.false c.if-work-count.false c.if-work-fields-3.false
     c.if-work-count-2.false c.if-work-fields-4.false c.if-work-bytes.false c.if-work-fields-5.false c.if-work-count-3.true
-
-pub overflow_mul-result : goal.overflow_mul-result
-overflow_mul-result c =
-    omega (arith, c.requires)
 
 pub returns : goal.returns
 returns c =

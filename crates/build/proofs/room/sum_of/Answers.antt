@@ -3,18 +3,6 @@ use Rattle.numbers.proofs.Prelude.{arith}
 use Rattle.build.proofs.{Rooms.{sum_starts, sum_room, sum_goes, sum_ends}}
 use Rattle.build.proofs.room.sum_of.Goals as goal
 
-pub loop-length-init : goal.loop-length-init
-loop-length-init c =
-    sum_starts _
-
-pub overflow_cast-sum : goal.overflow_cast-sum
-overflow_cast-sum c =
-    omega (arith, c.type_inv.lengths c.loop-length.length-index)
-
-pub overflow_add-sum : goal.overflow_add-sum
-overflow_add-sum c =
-    omega (arith, sum_room _ _ _ c.loop-length.invariant c.loop-length-test.true, c.requires)
-
 pub loop-length-preserved : goal.loop-length-preserved
 loop-length-preserved c =
     sum_goes _ _ _ c.loop-length.invariant c.loop-length-test.true

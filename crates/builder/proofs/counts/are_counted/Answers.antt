@@ -20,10 +20,6 @@ returns-then-not-are_numbered c =
     counts_other c.args.names c.args.yards.now c.args.lengths c.if-count-eq0.false c.if-count-gt4096.false c.if-names-gt255.false (sym c.are_numbered.ensures
     ∙ c.if-not-are_numbered.true)
 
-pub are_lengths-requires : goal.are_lengths-requires
-are_lengths-requires c =
-    (c.if-names-gt255.false, c.if-count-gt4096.false)
-
 pub returns : goal.returns
 returns c =
     counts_all c.args.names c.args.yards.now c.args.lengths c.if-count-eq0.false c.if-count-gt4096.false c.if-names-gt255.false (sym c.are_numbered.ensures

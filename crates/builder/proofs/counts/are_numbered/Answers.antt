@@ -2,10 +2,6 @@
 use Rattle.builder.proofs.{Counting.{numbers_start, number_bad, number_good, numbers_end}}
 use Rattle.builder.proofs.counts.are_numbered.Goals as goal
 
-pub loop-yard-init : goal.loop-yard-init
-loop-yard-init c =
-    rw (c.into_iter-yard-iterator.ensures.into_iter_gives) (numbers_start _ _ _ _ c.chunks_exact-yard-items.ensures.rest c.chunks_exact-yard-items.ensures.size)
-
 pub returns-then-names-yard : goal.returns-then-names-yard
 returns-then-names-yard c =
     number_bad c.args.names c.args.yards.now _ _ c.loop-yard.invariant _ _ c.in-Some.ensures.steps.1.0 c.in-Some.ensures.steps.1.1 c.if-names-yard.true

@@ -6,7 +6,3 @@ use Rattle.builder.proofs.put.put_varint.Goals as goal
 pub overflow_add-result : goal.overflow_add-result
 overflow_add-result c =
     omega (arith, c.write_varint.ensures.counted, varint_few c.args.value)
-
-pub returns : goal.returns
-returns c =
-    stored_put c.write_varint.ensures

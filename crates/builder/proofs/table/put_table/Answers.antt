@@ -2,23 +2,10 @@
 use Rattle.builder.proofs.{Tables.{table_starts, row_room, table_goes, table_ends}}
 use Rattle.builder.proofs.table.put_table.Goals as goal
 
-pub loop-word-init : goal.loop-word-init
-loop-word-init c =
-    table_starts _ _ _ _ _ c.requires
-
-pub put_entry-next-requires : goal.put_entry-next-requires
-put_entry-next-requires c =
-    row_room c.args.out.now c.args.place c.args.words.now c.args.boxes.now c.args.places.now c.loop-word.out c.loop-word.next c.loop-word.last c.loop-word.word-index c.loop-word.invariant
-    c.loop-word-test.true
-
 pub loop-word-preserved : goal.loop-word-preserved
 loop-word-preserved c =
     table_goes c.args.out.now c.args.place c.args.words.now c.args.boxes.now c.args.places.now c.loop-word.out c.loop-word.next c.loop-word.last c.loop-word.word-index
     c.loop-word.invariant c.loop-word-test.true _ _ c.bounds_at-bounds.ensures c.places_at-here.ensures _ _ c.put_entry-next.ensures
-
-pub shape_of-out : goal.shape_of-out
-shape_of-out c =
-    c.loop-word.invariant.left.size
 
 pub returns : goal.returns
 returns c =

@@ -7,25 +7,9 @@ pub loop-length-init : goal.loop-length-init
 loop-length-init c =
     test_starts _ _
 
-pub overflow_cast-size : goal.overflow_cast-size
-overflow_cast-size c =
-    omega (arith, c.type_inv.lengths c.loop-length.length-index)
-
-pub overflow_sub-texts : goal.overflow_sub-texts
-overflow_sub-texts c =
-    c.loop-length.invariant.inside
-
 pub returns-then-texts-at : goal.returns-then-texts-at
 returns-then-texts-at c =
     test_missing c.args.lengths.now c.args.texts.now c.loop-length.at c.loop-length.length-index c.loop-length.invariant c.loop-length-test.true c.if-texts-at.true
-
-pub overflow_add-end : goal.overflow_add-end
-overflow_add-end c =
-    omega (arith, c.loop-length.invariant.inside, c.if-texts-at.false)
-
-pub slice_bounds-is_text-end : goal.slice_bounds-is_text-end
-slice_bounds-is_text-end c =
-    omega (arith, c.loop-length.invariant.inside, c.if-texts-at.false)
 
 pub returns-then-not-is_text : goal.returns-then-not-is_text
 returns-then-not-is_text c =

@@ -7,10 +7,6 @@ pub returns-then-size-gt255 : goal.returns-then-size-gt255
 returns-then-size-gt255 c =
     too_long _ c.if-size-gt255.true
 
-pub slice_bounds-is_utf8-end : goal.slice_bounds-is_utf8-end
-slice_bounds-is_utf8-end c =
-    masked_size c.args.text.now _ _ _ c.put_masked.ensures refl c.if-size-gt255.false
-
 pub returns : goal.returns
 returns c =
     text_tested _ _ _ _ c.put_masked.ensures refl c.if-size-gt255.false _ c.is_utf8.ensures

@@ -4,18 +4,6 @@ use Rattle.builder.proofs.{Inlines.{inlines_start, text_in, text_fits, inlined_f
 use Rattle.builder.specs.Metadata.{inlined}
 use Rattle.builder.proofs.texts.put_texts.Goals as goal
 
-pub loop-length-init : goal.loop-length-init
-loop-length-init c =
-    inlines_start (λ k. inlined) _ _ _ _ c.requires.0 c.requires.1
-
-pub overflow_add-end : goal.overflow_add-end
-overflow_add-end c =
-    omega (
-      arith,
-      text_in (λ k. inlined) c.args.out.now c.args.place c.args.lengths.now c.args.texts.now c.loop-length.out c.loop-length.next c.loop-length.at c.loop-length.length-index
-          c.loop-length.invariant c.loop-length-test.true,
-    )
-
 pub slice_bounds-put_text-end : goal.slice_bounds-put_text-end
 slice_bounds-put_text-end c =
     omega (
@@ -24,18 +12,9 @@ slice_bounds-put_text-end c =
           c.loop-length.invariant c.loop-length-test.true,
     )
 
-pub put_text-next-requires : goal.put_text-next-requires
-put_text-next-requires c =
-    text_fits (λ k. inlined) c.args.out.now c.args.place c.args.lengths.now c.args.texts.now c.loop-length.out c.loop-length.next c.loop-length.at c.loop-length.length-index
-    c.loop-length.invariant c.loop-length-test.true
-
 pub loop-length-preserved : goal.loop-length-preserved
 loop-length-preserved c =
     inlines_go (λ k. inlined) _ _ _ _ _ _ _ _ c.loop-length.invariant c.loop-length-test.true (λ k. inlined_few) _ _ c.put_text-next.ensures
-
-pub shape_of-out : goal.shape_of-out
-shape_of-out c =
-    c.loop-length.invariant.left.size
 
 pub returns : goal.returns
 returns c =

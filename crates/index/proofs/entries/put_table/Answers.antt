@@ -19,10 +19,6 @@ record_of-requires c =
     let row = next_found _ _ _ (sym c.in_ok-row.was ∙ c.next_row.ensures) in
     omega (arith, row_place _ _ _ row.0, c.loop-at-test.true, c.struct_known-1.given)
 
-pub put_all-place-requires : goal.put_all-place-requires
-put_all-place-requires c =
-    let g = c.loop-at.invariant.0 in (omega (arith, g.here, g.few, c.struct_known-1.given), search rules)
-
 pub loop-at-smaller : goal.loop-at-smaller
 loop-at-smaller c =
     let row = next_found _ _ _ (sym c.in_ok-row.was ∙ c.next_row.ensures) in

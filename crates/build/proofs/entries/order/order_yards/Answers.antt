@@ -2,14 +2,6 @@
 use Rattle.build.proofs.entries.{Ordering.{words_there, words_room, in_order}}
 use Rattle.build.proofs.entries.order.order_yards.Goals as goal
 
-pub slice_bounds-box_yards-end : goal.slice_bounds-box_yards-end
-slice_bounds-box_yards-end c =
-    words_there _ _ c.requires.0
-
-pub box_yards-requires : goal.box_yards-requires
-box_yards-requires c =
-    words_room _ _ _ c.requires.2
-
 pub returns : goal.returns
 returns c =
     in_order _ _ _ _ _ _ c.requires.0 _ c.box_yards.ensures c.requires.1 c.requires.2 c.requires.3 _ c.put_yard_words.ensures _ _ _ c.sort.ensures

@@ -5,22 +5,6 @@ use Rattle.builder.{proofs.grouping.Listed.{list_starts, list_goes, list_ends}, 
 use mir.Facts.{to_z-of_z}
 use Rattle.build.proofs.entries.south.put_yard_words.Goals as goal
 
-pub loop-yard-init : goal.loop-yard-init
-loop-yard-init c =
-    list_starts _ _
-
-pub overflow_mul-yard : goal.overflow_mul-yard
-overflow_mul-yard c =
-    omega (arith, c.loop-yard-test.true, c.loop-yard.invariant.left.size, c.requires.1)
-
-pub offset_bounds-boxes-yard : goal.offset_bounds-boxes-yard
-offset_bounds-boxes-yard c =
-    omega (arith, c.loop-yard-test.true, c.loop-yard.invariant.left.size, c.requires.1)
-
-pub bounds-boxes-yard : goal.bounds-boxes-yard
-bounds-boxes-yard c =
-    omega (arith, c.loop-yard-test.true, c.loop-yard.invariant.left.size, c.requires.0)
-
 pub overflow_mul-keys : goal.overflow_mul-keys
 overflow_mul-keys c =
     let z = get_or c.args.boxes.now (4 * c.loop-yard.yard) (pos 0) in
@@ -50,10 +34,6 @@ loop-yard-preserved c =
       c.loop-yard.invariant.left.size,
       c.requires.1,
     )) (c.from_south-up.ensures ∙ ap from_south (to_z-of_z h)))
-
-pub shape_of-keys : goal.shape_of-keys
-shape_of-keys c =
-    c.loop-yard.invariant.left.size
 
 pub returns : goal.returns
 returns c =

@@ -7,25 +7,6 @@ pub loop-i-init : goal.loop-i-init
 loop-i-init c =
     words_start _ _ c.requires.0.whole _ c.requires.0.bound
 
-pub word_of-word-requires : goal.word_of-word-requires
-word_of-word-requires c = (
-  c.requires.0,
-  c.loop-i-test.true,
-  c.loop-i.invariant.to,
-  c.loop-i.invariant.remote_is,
-  remote_room _ _ c.requires.0.whole _ _ _ _ _ c.loop-i.invariant
-      c.requires.1 c.loop-i-test.true,
-)
-
-pub offset_bounds-words-i : goal.offset_bounds-words-i
-offset_bounds-words-i c =
-    let told = words_inside _ _ c.requires.0.whole _ _ _ _ _ c.loop-i.invariant c.requires.1 c.loop-i-test.true in
-    omega (arith, told)
-
-pub bounds-words-i : goal.bounds-words-i
-bounds-words-i c =
-    words_inside _ _ c.requires.0.whole _ _ _ _ _ c.loop-i.invariant c.requires.1 c.loop-i-test.true
-
 pub inlined_size-requires : goal.inlined_size-requires
 inlined_size-requires c =
     size_room _ _ c.requires.0.whole _ _ _ _ _ c.loop-i.invariant c.requires.1 c.loop-i-test.true
@@ -41,10 +22,6 @@ pub loop-i-preserved : goal.loop-i-preserved
 loop-i-preserved c =
     words_go _ _ c.requires.0.whole _ _ _ _ _ c.loop-i.invariant c.requires.1 c.loop-i-test.true _ _ _ _ c.word_of-word.ensures c.inlined_size.ensures
     c.with_field-sums.ensures
-
-pub shape_of-words : goal.shape_of-words
-shape_of-words c =
-    c.loop-i.invariant.size_is
 
 pub returns : goal.returns
 returns c =

@@ -14,14 +14,6 @@ sort_keys-requires c = (
   ),
 )
 
-pub mark_words-sums-requires : goal.mark_words-sums-requires
-mark_words-sums-requires c =
-    (fields_marked _ _ _ _ _ _ c.requires _ _ c.mark_starts.ensures c.sort_keys.auto.keys c.sort_keys.ensures.order, c.requires.words_room)
-
-pub slice_bounds-least_length-end-2 : goal.slice_bounds-least_length-end-2
-slice_bounds-least_length-end-2 c =
-    sym (length-take-le _ _ (omega (arith, c.requires.words_room, c.mark_words-sums.auto.words)))
-
 pub least_length-records-requires : goal.least_length-records-requires
 least_length-records-requires c =
     fields_short_layout _ _ _ _ _ _ c.requires _ _ _ c.mark_words-sums.ensures

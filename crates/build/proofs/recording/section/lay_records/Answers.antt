@@ -3,18 +3,6 @@ use Rattle.numbers.proofs.Prelude.{◌+◌, length, drop, length-take-le, take_a
 use Rattle.build.proofs.recording.Recording.{laying_shares, sizes_few, bytes_few, kept_size, held_size, laying_fields, laying_ready, laying_ends, keeps_as, front_same, front_reach}
 use Rattle.build.proofs.recording.section.lay_records.Goals as goal
 
-pub slice_bounds-share_records-end-2 : goal.slice_bounds-share_records-end-2
-slice_bounds-share_records-end-2 c =
-    sym (length-take-le _ _ (omega (arith, c.requires.starts_room)))
-
-pub slice_bounds-share_records-end-4 : goal.slice_bounds-share_records-end-4
-slice_bounds-share_records-end-4 c =
-    sym (length-take-le _ _ c.requires.keys_count)
-
-pub share_records-sizes-requires : goal.share_records-sizes-requires
-share_records-sizes-requires c =
-    laying_shares _ _ _ _ _ _ _ _ _ _ _ c.requires _ _ (length-take-le _ _ c.requires.keys_count) (length-take-le _ _ (omega (arith, c.requires.starts_room)))
-
 pub overflow_add-end : goal.overflow_add-end
 overflow_add-end c =
     omega (
@@ -124,42 +112,6 @@ lay_fields-laid-requires c =
     )))))
     c.share_records-sizes.auto.spare
 
-pub slice_bounds-mark_starts-end : goal.slice_bounds-mark_starts-end
-slice_bounds-mark_starts-end c =
-    front_reach (c.share_records-sizes.new.starts ++ drop (length c.args.lengths.now + 1) c.args.starts.now) c.lay_fields-laid.new.starts
-    (c.share_records-sizes.result.lengths + 1) _ c.lay_fields-laid.auto.starts (front_reach c.args.starts.now c.share_records-sizes.new.starts (length
-    c.args.lengths.now + 1) _ c.share_records-sizes.auto.starts (omega (arith, c.requires.starts_room)))
-
-pub slice_bounds-mark_starts-end-2 : goal.slice_bounds-mark_starts-end-2
-slice_bounds-mark_starts-end-2 c =
-    sym (length-take-le _ _ ((front_reach (c.share_records-sizes.new.starts ++ drop (length c.args.lengths.now + 1) c.args.starts.now)
-    c.lay_fields-laid.new.starts (c.share_records-sizes.result.lengths + 1) _ c.lay_fields-laid.auto.starts (front_reach c.args.starts.now
-    c.share_records-sizes.new.starts (length c.args.lengths.now + 1) _ c.share_records-sizes.auto.starts (omega (arith, c.requires.starts_room))))))
-
-pub mark_starts-requires : goal.mark_starts-requires
-mark_starts-requires c = (
-  length-take-le _ _ ((front_reach (c.share_records-sizes.new.starts ++ drop (length c.args.lengths.now + 1) c.args.starts.now) c.lay_fields-laid.new.starts
-      (c.share_records-sizes.result.lengths + 1) _ c.lay_fields-laid.auto.starts (front_reach c.args.starts.now c.share_records-sizes.new.starts (length
-      c.args.lengths.now + 1) _ c.share_records-sizes.auto.starts (omega (arith, c.requires.starts_room))))),
-  omega (arith, c.requires.bound),
-)
-
-pub slice_bounds-place_records-end : goal.slice_bounds-place_records-end
-slice_bounds-place_records-end c =
-    front_reach (c.lay_fields-laid.new.starts ++ drop (c.share_records-sizes.result.lengths + 1) (c.share_records-sizes.new.starts ++ drop (length
-    c.args.lengths.now + 1) c.args.starts.now)) c.mark_starts.new.starts (length c.args.lengths.now + 1) _ c.mark_starts.auto.starts (front_reach
-    (c.share_records-sizes.new.starts ++ drop (length c.args.lengths.now + 1) c.args.starts.now) c.lay_fields-laid.new.starts
-    (c.share_records-sizes.result.lengths + 1) _ c.lay_fields-laid.auto.starts (front_reach c.args.starts.now c.share_records-sizes.new.starts (length
-    c.args.lengths.now + 1) _ c.share_records-sizes.auto.starts (omega (arith, c.requires.starts_room))))
-
-pub slice_bounds-place_records-end-2 : goal.slice_bounds-place_records-end-2
-slice_bounds-place_records-end-2 c =
-    sym (length-take-le _ _ ((front_reach (c.lay_fields-laid.new.starts ++ drop (c.share_records-sizes.result.lengths + 1) (c.share_records-sizes.new.starts ++
-    drop (length c.args.lengths.now + 1) c.args.starts.now)) c.mark_starts.new.starts (length c.args.lengths.now + 1) _ c.mark_starts.auto.starts (front_reach
-    (c.share_records-sizes.new.starts ++ drop (length c.args.lengths.now + 1) c.args.starts.now) c.lay_fields-laid.new.starts
-    (c.share_records-sizes.result.lengths + 1) _ c.lay_fields-laid.auto.starts (front_reach c.args.starts.now c.share_records-sizes.new.starts (length
-    c.args.lengths.now + 1) _ c.share_records-sizes.auto.starts (omega (arith, c.requires.starts_room)))))))
-
 pub place_records-requires : goal.place_records-requires
 place_records-requires c =
     laying_ready _ _ _ _ _ _ _ _ _ _ _ c.requires _ _ _ _ _ _ _ _ refl refl (keeps_as _ _ _ _ _ _ _ _ _ _ _ _ _ (length-take-le _ _ c.requires.keys_count)
@@ -167,19 +119,6 @@ place_records-requires c =
     ∙ length-take-le _ _ ((front_reach (c.share_records-sizes.new.starts ++ drop (length c.args.lengths.now + 1) c.args.starts.now) c.lay_fields-laid.new.starts
     (c.share_records-sizes.result.lengths + 1) _ c.lay_fields-laid.auto.starts (front_reach c.args.starts.now c.share_records-sizes.new.starts (length
     c.args.lengths.now + 1) _ c.share_records-sizes.auto.starts (omega (arith, c.requires.starts_room)))))) ∙ c.mark_starts.ensures)
-
-pub shape_of-starts : goal.shape_of-starts
-shape_of-starts c =
-    front_same (c.lay_fields-laid.new.starts ++ drop (c.share_records-sizes.result.lengths + 1) (c.share_records-sizes.new.starts ++ drop (length
-    c.args.lengths.now + 1) c.args.starts.now)) c.mark_starts.new.starts (length c.args.lengths.now + 1) _ c.mark_starts.auto.starts (front_same
-    (c.share_records-sizes.new.starts ++ drop (length c.args.lengths.now + 1) c.args.starts.now) c.lay_fields-laid.new.starts
-    (c.share_records-sizes.result.lengths + 1) _ c.lay_fields-laid.auto.starts (front_same c.args.starts.now c.share_records-sizes.new.starts (length
-    c.args.lengths.now + 1) _ c.share_records-sizes.auto.starts refl))
-
-pub shape_of-keys : goal.shape_of-keys
-shape_of-keys c =
-    front_same (c.share_records-sizes.new.keys ++ drop c.args.count c.args.keys.now) c.lay_fields-laid.new.keys c.share_records-sizes.result.lengths _
-    c.lay_fields-laid.auto.keys (front_same c.args.keys.now c.share_records-sizes.new.keys c.args.count _ c.share_records-sizes.auto.keys refl)
 
 pub returns : goal.returns
 returns c =

@@ -4,14 +4,6 @@ use Rattle.builder.specs.Grouping.Keys.{item_of}
 use Rattle.builder.proofs.grouping.{Finding.{scan_starts, among_item, found_in, goes_in, ends_in, tail_more, tail_none, tail_at}}
 use Rattle.builder.proofs.grouping.first.first_from.Goals as goal
 
-pub loop-word-init : goal.loop-word-init
-loop-word-init c =
-    scan_starts _ _ _ _ _ (omega (arith, c.requires.2, length-map c.args.keys.now item_of)) (omega arith)
-
-pub is_alike-requires : goal.is_alike-requires
-is_alike-requires c =
-    (c.requires.0.inside, c.requires.1, among_item _ _ _ _ c.requires.0 _ (tail_more _ _ _ c.loop-word-test.true) _ (c.item_of-other.ensures ∙ tail_at c.args.keys.now c.args.run c.loop-word.word-index))
-
 pub returns-then-is_alike : goal.returns-then-is_alike
 returns-then-is_alike c =
     found_in _ _ c.args.keys.now _ _ c.loop-word.invariant (tail_more _ _ _ c.loop-word-test.true) _ (c.item_of-other.ensures ∙ tail_at c.args.keys.now c.args.run c.loop-word.word-index) _ c.is_alike.ensures c.if-is_alike.true

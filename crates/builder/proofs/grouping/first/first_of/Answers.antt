@@ -3,14 +3,6 @@ use Rattle.numbers.proofs.Prelude.{arith}
 use Rattle.builder.proofs.grouping.{Finding.{first_is}, Keyed.{keys_rise, members}, Walks.{fewer_inside, item_among}}
 use Rattle.builder.proofs.grouping.first.first_of.Goals as goal
 
-pub overflow_mul-item : goal.overflow_mul-item
-overflow_mul-item c =
-    omega (arith, c.requires.0.many, item_among c.args.item _ c.args.width c.requires.3)
-
-pub hash_item-key-requires : goal.hash_item-key-requires
-hash_item-key-requires c =
-    fewer_inside _ _ _ _ (item_among _ _ _ c.requires.3) c.requires.0
-
 pub run_of-run-requires : goal.run_of-run-requires
 run_of-run-requires c =
     keys_rise _ _ _ _ c.requires.1 c.requires.2

@@ -3,10 +3,6 @@ use Rattle.numbers.proofs.Prelude.{arith}
 use Rattle.builder.proofs.grouping.{Keyed.{keys_rise, members, one_hash}, Twice.{twice_is}, Walks.{fewer_inside}}
 use Rattle.builder.proofs.grouping.first.is_twice.Goals as goal
 
-pub hash_item-key-requires : goal.hash_item-key-requires
-hash_item-key-requires c =
-    fewer_inside _ _ _ _ (omega (arith, c.requires.3)) c.requires.0
-
 pub run_of-run-requires : goal.run_of-run-requires
 run_of-run-requires c =
     keys_rise _ _ _ _ c.requires.1 c.requires.2

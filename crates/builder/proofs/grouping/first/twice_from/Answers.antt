@@ -5,22 +5,10 @@ use Rattle.builder.proofs.grouping.{Finding.{among_item, tail_more, tail_none, t
 use Rattle.builder.proofs.grouping.first.twice_from.Goals as goal
 use Rattle.builder.proofs.grouping.first.twice_from.Goals.{then-is_alike+else-found-eq2, else-is_alike}
 
-pub loop-word-init : goal.loop-word-init
-loop-word-init c =
-    count_starts _ _ _ _ _ (omega (arith, c.requires.3.inside, length-map c.args.keys.now item_of)) (omega arith)
-
 pub returns-then-key_of-key : goal.returns-then-key_of-key
 returns-then-key_of-key c =
     count_past _ _ _ c.requires.0 _ _ _ c.requires.4 c.requires.3 c.requires.1 _ _ c.loop-word.invariant (tail_more _ _ _ c.loop-word-test.true) _
     (c.key_of.ensures ∙ tail_key c.args.keys.now c.args.run c.loop-word.word-index) c.if-key_of-key.true
-
-pub is_alike-requires : goal.is_alike-requires
-is_alike-requires c =
-    (c.requires.0.inside, c.requires.2, among_item _ _ _ _ c.requires.0 _ (tail_more _ _ _ c.loop-word-test.true) _ (c.item_of.ensures ∙ tail_at c.args.keys.now c.args.run c.loop-word.word-index))
-
-pub overflow_add-found : goal.overflow_add-found
-overflow_add-found c =
-    omega (arith, c.loop-word.invariant.few)
 
 pub returns-then-found-eq2 : goal.returns-then-found-eq2
 returns-then-found-eq2 c =

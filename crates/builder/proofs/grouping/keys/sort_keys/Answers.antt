@@ -2,10 +2,6 @@
 use Rattle.builder.proofs.grouping.{Keyed.{sorting_is}}
 use Rattle.builder.proofs.grouping.keys.sort_keys.Goals as goal
 
-pub put_keys-requires : goal.put_keys-requires
-put_keys-requires c =
-    (c.requires.0, c.requires.1)
-
 pub returns : goal.returns
 returns c =
     sorting_is _ _ _ _ _ _ _ _ _ c.put_keys.ensures c.requires.2 c.sort.ensures

@@ -8,14 +8,6 @@ pub returns-then-rooms-yards : goal.returns-then-rooms-yards
 returns-then-rooms-yards c =
     no_borders c.args.rooms c.args.names c.args.yards c.args.strings c.if-rooms-yards.true
 
-pub overflow_mul-names : goal.overflow_mul-names
-overflow_mul-names c =
-    omega (arith, lengths_room c.args.names c.args.yards c.requires.0 c.requires.1)
-
-pub overflow_add-names-2 : goal.overflow_add-names-2
-overflow_add-names-2 c =
-    omega (arith, c.requires.0, lengths_room c.args.names c.args.yards c.requires.0 c.requires.1)
-
 pub returns-then-rooms-names : goal.returns-then-rooms-names
 returns-then-rooms-names c =
     no_lengths c.args.rooms c.args.names c.args.yards c.args.strings c.if-rooms-yards.false c.if-rooms-names.true

@@ -8,10 +8,6 @@ pub returns-then-not-has_own : goal.returns-then-not-has_own
 returns-then-not-has_own c =
     no_own c.args.rooms c.args.names c.args.yards c.args.strings c.args.front (sym c.if-not-has_own.true ∙ c.has_own.ensures)
 
-pub overflow_mul-names : goal.overflow_mul-names
-overflow_mul-names c =
-    omega (arith, lengths_room c.args.names c.args.yards c.requires.0 c.requires.1)
-
 pub returns : goal.returns
 returns c =
     own_and_work c.args.rooms c.args.names c.args.yards c.args.strings c.args.front (sym c.if-not-has_own.false ∙ c.has_own.ensures) _ c.has_lists.ensures

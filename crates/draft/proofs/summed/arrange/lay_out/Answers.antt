@@ -4,10 +4,6 @@ use Rattle.build.proofs.Needed.{under}
 use Rattle.draft.proofs.summed.{Reached.{reached, arranging_laying, front_room, order_room, arranged}}
 use Rattle.draft.proofs.summed.arrange.lay_out.Goals as goal
 
-pub slice_bounds-spread_borders-end : goal.slice_bounds-spread_borders-end
-slice_bounds-spread_borders-end c =
-    sym (length-take-le _ _ c.requires.summing.bordered)
-
 pub spread_borders-requires : goal.spread_borders-requires
 spread_borders-requires c =
     front_room _ _ _ (reached _ _ _ _ _ _ c.requires.summing).places

@@ -2,21 +2,9 @@
 use Rattle.draft.proofs.summed.{Spreads.{spread_starts, spread_inside, spread_goes, spread_ends}}
 use Rattle.draft.proofs.summed.arrange.spread_borders.Goals as goal
 
-pub loop-i-init : goal.loop-i-init
-loop-i-init c =
-    spread_starts _ _
-
-pub bounds-places-i : goal.bounds-places-i
-bounds-places-i c =
-    spread_inside _ _ _ _ c.loop-i.invariant c.loop-i-test.true c.requires
-
 pub loop-i-preserved : goal.loop-i-preserved
 loop-i-preserved c =
     spread_goes _ _ _ _ c.loop-i.invariant c.loop-i-test.true
-
-pub shape_of-places : goal.shape_of-places
-shape_of-places c =
-    c.loop-i.invariant.size
 
 pub returns : goal.returns
 returns c =

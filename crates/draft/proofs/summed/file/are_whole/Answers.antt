@@ -7,10 +7,6 @@ pub returns-then-builder-gt536870912 : goal.returns-then-builder-gt536870912
 returns-then-builder-gt536870912 c =
     long_strings _ _ c.if-builder-gt536870912.true
 
-pub slice_bounds-is_sum-end : goal.slice_bounds-is_sum-end
-slice_bounds-is_sum-end c =
-    sym (length-take-le _ _ (slice_inside c.args.builder c.args.lengths.now c.requires))
-
 pub returns-then-not-is_sum : goal.returns-then-not-is_sum
 returns-then-not-is_sum c =
     other_front _ _ c.if-builder-gt536870912.false _ c.is_sum.ensures c.if-not-is_sum.true

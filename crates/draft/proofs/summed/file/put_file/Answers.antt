@@ -8,18 +8,6 @@ pub lay_out-section-requires : goal.lay_out-section-requires
 lay_out-section-requires c =
     putting_arranging _ _ _ _ _ _ c.requires
 
-pub overflow_cast-form : goal.overflow_cast-form
-overflow_cast-form c =
-    omega (arith, c.requires.fits.named)
-
-pub slice_bounds-write_file-end : goal.slice_bounds-write_file-end
-slice_bounds-write_file-end c =
-    sym (length-take-le _ _ (inside_lengths c.args.builder c.args.own.lengths.now c.args.own.texts.now _ _ _ c.requires))
-
-pub slice_bounds-write_file-end-2 : goal.slice_bounds-write_file-end-2
-slice_bounds-write_file-end-2 c =
-    sym (length-take-le _ _ (inside_texts c.args.builder c.args.own.lengths.now c.args.own.texts.now _ _ _ c.requires))
-
 pub slice_bounds-write_file-end-3 : goal.slice_bounds-write_file-end-3
 slice_bounds-write_file-end-3 c =
     under _ _ _ (putting_reach c.args.builder c.args.own.lengths.now c.args.own.texts.now _ _ _ c.requires).keys_count c.keys-1.given
@@ -27,22 +15,6 @@ slice_bounds-write_file-end-3 c =
 pub slice_bounds-write_file-end-4 : goal.slice_bounds-write_file-end-4
 slice_bounds-write_file-end-4 c =
     sym (length-take-le _ _ (under _ _ _ (putting_reach c.args.builder c.args.own.lengths.now c.args.own.texts.now _ _ _ c.requires).keys_count c.keys-1.given))
-
-pub slice_bounds-write_file-end-6 : goal.slice_bounds-write_file-end-6
-slice_bounds-write_file-end-6 c =
-    sym (length-take-le _ _ c.lay_out-section.ensures.recorded.words_in)
-
-pub slice_bounds-write_file-end-8 : goal.slice_bounds-write_file-end-8
-slice_bounds-write_file-end-8 c =
-    sym (length-take-le _ _ c.lay_out-section.ensures.recorded.kept_in)
-
-pub slice_bounds-write_file-end-10 : goal.slice_bounds-write_file-end-10
-slice_bounds-write_file-end-10 c =
-    sym (length-take-le _ _ c.lay_out-section.ensures.recorded.held_in)
-
-pub slice_bounds-write_file-end-11 : goal.slice_bounds-write_file-end-11
-slice_bounds-write_file-end-11 c =
-    sym (length-take-le _ _ c.requires.data_in)
 
 pub write_file-requires : goal.write_file-requires
 write_file-requires c = (

@@ -8,10 +8,6 @@ pub returns-then-count-eq0 : goal.returns-then-count-eq0
 returns-then-count-eq0 c =
     none_greatest _ _ c.if-count-eq0.true
 
-pub bounds-boxes-0 : goal.bounds-boxes-0
-bounds-boxes-0 c =
-    omega (arith, c.if-count-eq0.false, c.requires.0)
-
 pub loop-yard-init : goal.loop-yard-init
 loop-yard-init c =
     seek_starts _ _ c.if-count-eq0.false (record { sfits = c.greatest-1.given })

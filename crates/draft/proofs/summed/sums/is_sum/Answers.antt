@@ -3,14 +3,6 @@ use Rattle.numbers.proofs.Prelude.{arith}
 use Rattle.draft.proofs.summed.{Taken.{take_starts, take_goes, take_stops, take_ends}}
 use Rattle.draft.proofs.summed.sums.is_sum.Goals as goal
 
-pub loop-length-init : goal.loop-length-init
-loop-length-init c =
-    take_starts _ _
-
-pub overflow_cast-length : goal.overflow_cast-length
-overflow_cast-length c =
-    omega (arith, c.type_inv.lengths c.loop-length.length-index)
-
 pub returns-then-left-length : goal.returns-then-left-length
 returns-then-left-length c =
     take_stops _ _ _ _ c.loop-length.invariant c.loop-length-test.true c.if-left-length.true

@@ -13,10 +13,6 @@ pub returns-then-not-is_sum : goal.returns-then-not-is_sum
 returns-then-not-is_sum c =
     λ yards drawn s. never_other _ _ _ _ _ _ _ _ s _ c.is_sum.ensures c.if-not-is_sum.true _
 
-pub lay_out-section-requires : goal.lay_out-section-requires
-lay_out-section-requires c =
-    arranging _ _ _ _ _ _ c.requires c.if-texts-gt536870912.false _ c.is_sum.ensures c.if-not-is_sum.false
-
 pub slice_bounds-table_size-end : goal.slice_bounds-table_size-end
 slice_bounds-table_size-end c =
     under _ _ _ (reached _ _ _ _ _ _ c.requires).keys_count c.keys-1.given
@@ -24,10 +20,6 @@ slice_bounds-table_size-end c =
 pub slice_bounds-table_size-end-2 : goal.slice_bounds-table_size-end-2
 slice_bounds-table_size-end-2 c =
     sym (length-take-le _ _ (under _ _ _ (reached _ _ _ _ _ _ c.requires).keys_count c.keys-1.given))
-
-pub table_size-requires : goal.table_size-requires
-table_size-requires c =
-    front_most _ _ _ c.requires.few
 
 pub greatest_of-requires : goal.greatest_of-requires
 greatest_of-requires c =

@@ -4,11 +4,6 @@ use Rattle.salvage.specs.File.{head_texts}
 use Rattle.salvage.proofs.rescue.whole.{Assembling.{whole_refused, whole_given}}
 use Rattle.salvage.proofs.rescue.whole.put_whole.Goals as goal
 
-pub returns-in_err-sizes : goal.returns-in_err-sizes
-returns-in_err-sizes c =
-    whole_refused c.args.file.now c.args.head (head_texts c.args.file.now c.args.head) refl c.args.out.now c.put_head.new.out _ (passed_on _
-    c.from_residual.ensures.1) (rw c.in_err-sizes.was at c.put_head.ensures)
-
 pub returns : goal.returns
 returns c =
     whole_given c.args.file.now c.args.head (head_texts c.args.file.now c.args.head) refl c.args.out.now (rw c.in_ok-sizes.was at c.put_head.ensures)
