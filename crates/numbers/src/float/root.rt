@@ -46,8 +46,8 @@ fn first_guess(top: u32) -> u32
     top / 111000 + 27400
 }
 
-// A guess at the whole number nearest to √n, which is nearly always right for an n of 47 or 48 digits: two steps of Newton's, of which the first
-// is worked out with few digits. Whatever it gives is tried.
+// A guess at the whole number nearest to √n, which for an n of 47 or 48 digits is nearly always right, else one too large: two steps of Newton's,
+// of which the first is worked out with few digits. Whatever it gives is tried.
 fn guessed_root(n: u64) -> u64
     requires { n < 281474976710656 }
     ensures { result < 2147483648 }
@@ -77,6 +77,10 @@ fn nearest_root(n: u64) -> u64
     let guess = guessed_root(n);
     if is_nearest(n, guess) {
         return guess;
+    }
+    let below = guess.saturating_sub(1);
+    if is_nearest(n, below) {
+        return below;
     }
     let low = n.isqrt();
     if low * low + low < n { low + 1 } else { low }

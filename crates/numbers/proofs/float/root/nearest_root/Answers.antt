@@ -12,6 +12,10 @@ pub returns-then-is_nearest : goal.returns-then-is_nearest
 returns-then-is_nearest c =
     let near = c.is_nearest.ensures c.if-is_nearest.true in one_nearest (record { low = near.0; high = near.1 }) (nearest_root_is c.args.n c.requires.0 c.requires.1)
 
+pub returns-then-is_nearest-2 : goal.returns-then-is_nearest-2
+returns-then-is_nearest-2 c =
+    let near = c.is_nearest-2.ensures c.if-is_nearest-2.true in one_nearest (record { low = near.0; high = near.1 }) (nearest_root_is c.args.n c.requires.0 c.requires.1)
+
 pub returns-then-low-n : goal.returns-then-low-n
 returns-then-low-n c =
     let halved : nearest_root c.args.n ≡ cond (ltb (c.isqrt-low.result * c.isqrt-low.result + c.isqrt-low.result) c.args.n) (suc c.isqrt-low.result) c.isqrt-low.result = by_root c.args.n c.isqrt-low.result c.requires.1 (c.isqrt-low.ensures.square_le, c.isqrt-low.ensures.next_square_gt) in
