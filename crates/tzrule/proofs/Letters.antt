@@ -6,12 +6,13 @@ use Rattle.numbers.specs.Answer.{if◌then◌else◌}
 use Rattle.tzrule.specs.{Answer.{read, fault}, Names.{is_letter, in_name, name_end, end_of, bare_of, quoted_of}, Text.{byte_at, is_digit}}
 
 module _ (byte : ℕ) where
-  pub up_to_capitals : byte < 91 → leb 65 byte ≡ is_letter byte
+  pub below_capitals : byte < 65 → false ≡ is_letter byte
   unfolding is_letter
-  up_to_capitals h = go (ltb byte 65) refl where
-    go : (t : Bool) → ltb byte 65 ≡ t → leb 65 byte ≡ (if t then false else if ltb byte 91 then true else if ltb byte 97 then false else ltb byte 123)
-    go true e = lt-leb 65 byte (ltb-true byte 65 e)
-    go false e = simp (lt-ltb byte 91 h) (le-leb 65 byte (ltb-false byte 65 e))
+  below_capitals h = simp (lt-ltb byte 65 h)
+
+  pub capital : 65 ≤ byte → byte < 91 → true ≡ is_letter byte
+  unfolding is_letter
+  capital h k = simp (le-ltb byte 65 h, lt-ltb byte 91 k)
 
   pub below_smalls : 91 ≤ byte → byte < 97 → false ≡ is_letter byte
   unfolding is_letter

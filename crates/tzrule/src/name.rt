@@ -13,13 +13,20 @@ pub struct Span {
     pub end: usize,
 }
 
+// Written as steps: by a chain of tests a name takes twice the instructions.
 fn is_letter(byte: u64) -> bool
     ensures { result ≡ is_letter byte }
 {
-    if byte < 91 {
-        return 65 <= byte;
+    if byte < 65 {
+        return false;
     }
-    97 <= byte && byte < 123
+    if byte < 91 {
+        return true;
+    }
+    if byte < 97 {
+        return false;
+    }
+    byte < 123
 }
 
 // A byte of a name; in brackets digits and signs too.
