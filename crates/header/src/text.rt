@@ -5,6 +5,7 @@ ghost use Rattle.std.specs.Prelude.{◌≡◌};
 ghost use Rattle.numbers.specs.{Reply.{refusal, encoding, not_utf8}, Varint.{told}};
 ghost use Rattle.header.specs.Text.{within, remote_at, string_at, text_at};
 
+use crate::codes::{ENCODING, NOT_UTF8};
 use crate::utf8::is_utf8;
 use numbers::refusal::{Refusal, or_refuse, refuse};
 use numbers::varint::{Stop, read_number};
@@ -17,12 +18,6 @@ pub struct Text {
     pub size: usize,
     pub next: usize,
 }
-
-// The causes, as C gets them: bytes that can't be decoded, and bytes that are not UTF-8.
-// Stays numbers: `Refusal.cause` is one in the definitions (`encoding`, `not_utf8`) and in C.
-const ENCODING: u8 = 1;
-
-const NOT_UTF8: u8 = 2;
 
 // The refusal that a bad string is to be given: its number and detail.
 // Stays a number: `read_text` takes any, and the definitions blame by number.
