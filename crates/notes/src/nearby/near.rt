@@ -33,23 +33,27 @@ fn neighbours(boxes: &[i32], count: usize) -> Near
     ensures { Nears boxes.now count (word_of result.low) (word_of result.high) }
 {
     let south = south_at(boxes, count);
-    let mut low = None;
+    // Stays numbers, a yard and one more or 0 for none, until the end: with an Option each yard costs a jump that can't be foretold, and twice the time.
+    let mut low: usize = 0;
     let mut below = 0;
-    let mut high = None;
+    let mut high: usize = 0;
     let mut above = 0x1_0000_0000;
     for yard in 0..count {
         let here = south_at(boxes, yard);
         if here <= south {
             if below <= here {
                 below = here;
-                low = Some(yard);
+                low = yard + 1;
             }
         } else if here < above {
             above = here;
-            high = Some(yard);
+            high = yard + 1;
         }
     }
-    Near { low, high }
+    Near {
+        low: low.checked_sub(1),
+        high: high.checked_sub(1),
+    }
 }
 
 // Four numbers a yard.

@@ -1,7 +1,16 @@
 -- `notes::nearby::near::neighbours` meets its contract.
+use Rattle.numbers.proofs.Prelude.{ℕ, zero, suc, ◌-◌, ◌≤◌, ◌≡◌, refl, arith}
+use Rattle.std.specs.Prelude.{Option, Some, None, SomeIff}
+use Rattle.notes.specs.Chains.Chains.{word_of}
 use Rattle.notes.proofs.nearby.{Seeks.{seek_starts, seek_low, seek_lesser, seek_high, seek_greater, seek_ends}}
 use Rattle.notes.proofs.nearby.near.neighbours.Goals as goal
 use Rattle.notes.proofs.nearby.near.neighbours.Goals.{then-here-south+then-below-here, then-here-south+else-below-here, else-here-south+then-here-above, else-here-south+else-here-above}
+
+-- a yard and one more, as an Option
+one_more : (number : ℕ) (yard : Option ℕ) → SomeIff yard (1 ≤ number) (number - 1) → word_of yard ≡ number
+one_more zero None h = refl
+one_more (suc number) None h = absurd (h (omega arith))
+one_more number (Some yard) h = omega (arith, h.0, h.1)
 
 pub loop-yard-init : goal.loop-yard-init
 loop-yard-init c =
@@ -9,7 +18,8 @@ loop-yard-init c =
 
 pub returns : goal.returns
 returns c =
-    seek_ends _ _ _ _ _ _ _ _ c.loop-yard.invariant c.loop-yard-test.false c.south_at-south.ensures.0
+    rw (one_more _ _ c.checked_sub.ensures, one_more _ _ c.checked_sub-2.ensures)
+    (seek_ends _ _ _ _ _ _ _ _ c.loop-yard.invariant c.loop-yard-test.false c.south_at-south.ensures.0)
 
 pub loop-yard-preserved : goal.loop-yard-preserved
 loop-yard-preserved c =

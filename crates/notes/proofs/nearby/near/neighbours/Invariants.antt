@@ -1,7 +1,6 @@
 -- `notes::nearby::near::neighbours` meets its contract.
-use Rattle.notes.specs.Chains.Chains.{word_of}
 use Rattle.notes.proofs.nearby.{Seeks.{Seeking}}
 use Rattle.notes.proofs.nearby.near.neighbours.Given as goal
 
 abbrev pub invariant-loop-yard : goal.invariant-loop-yard
-invariant-loop-yard l = Seeking l.boxes l.south l.count (word_of l.low) l.below (word_of l.high) l.above l.yard
+invariant-loop-yard l = Seeking l.boxes l.south l.count l.low l.below l.high l.above l.yard
