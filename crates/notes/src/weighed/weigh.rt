@@ -51,8 +51,10 @@ fn weigh_value(
         let bytes = size_of_varint(size as u64) + size;
         return Some(bytes);
     };
-    // Found once, it stands in another record, which would change.
-    find_before(texts, 1, chains, value, found)?;
+    // Found once, it stands in another record, which would change. Stays a test: the edit found_once_as_word turns it.
+    if find_before(texts, 1, chains, value, found).is_none() {
+        return None;
+    }
     Some(word)
 }
 
