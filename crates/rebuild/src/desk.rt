@@ -10,16 +10,21 @@ use recorded::reply::{Reply, spoken, unspoken};
 // What is kept between two calls. All of it is filled before the first.
 #[derive(Drop)]
 pub(crate) struct Desk {
-    state: [u64; 14],
-    boxes: [i32; 160],
-    borders: [u32; 40],
-    lengths: [u32; 1024],
-    texts: [u8; 32768],
-    bytes: [u8; 32768],
-    marks: [u32; 1025],
-    chains: [u32; 5120],
-    groups: [u32; 4136],
-    begins: [u32; 40],
+    pub state: [u64; 14],
+    pub boxes: [i32; 160],
+    pub borders: [u32; 40],
+    pub lengths: [u32; 1024],
+    pub texts: [u8; 32768],
+    pub bytes: [u8; 32768],
+}
+
+// What is noted beside it, for quick adds; at the first step it holds anything.
+#[derive(Drop)]
+pub(crate) struct Notes {
+    pub marks: [u32; 1025],
+    pub chains: [u32; 5120],
+    pub groups: [u32; 4136],
+    pub begins: [u32; 40],
 }
 
 // What a call works in.
@@ -57,21 +62,6 @@ fn filled() -> Work {
 }
 
 impl Desk {
-    pub(crate) fn filled() -> Desk {
-        Desk {
-            state: [0xAAAA_AAAA_AAAA_AAAA; 14],
-            boxes: [-1; 160],
-            borders: [0xAAAA_AAAA; 40],
-            lengths: [0xAAAA_AAAA; 1024],
-            texts: [0xAA; 32768],
-            bytes: [0xAA; 32768],
-            marks: [0xAAAA_AAAA; 1025],
-            chains: [0xAAAA_AAAA; 5120],
-            groups: [0xAAAA_AAAA; 4136],
-            begins: [0xAAAA_AAAA; 40],
-        }
-    }
-
     // What a call said. The totals stand in a record behind a refusal too, where they are those of the state.
     fn told(&self, number: u8, words: [u64; 5]) -> Reply {
         let reply = spoken(number, words);
@@ -110,7 +100,7 @@ impl Desk {
         self.told(number, said)
     }
 
-    pub(crate) fn add(&mut self, yard: Yard) -> Reply {
+    pub(crate) fn add(&mut self, notes: &mut Notes, yard: Yard) -> Reply {
         let mut work = filled();
         let mut out = [0xAA; 32768];
         let mut said = unspoken();
@@ -126,10 +116,10 @@ impl Desk {
             &mut self.lengths,
             &mut self.texts,
             &mut self.bytes,
-            &mut self.marks,
-            &mut self.chains,
-            &mut self.groups,
-            &mut self.begins,
+            &mut notes.marks,
+            &mut notes.chains,
+            &mut notes.groups,
+            &mut notes.begins,
             &mut work.starts,
             &mut work.keys,
             &mut work.spare,

@@ -1,7 +1,7 @@
 // The steps that take something: a yard that is added, and a text.
 ghost use Rattle.std.specs.Prelude.{◌≤◌};
 
-use crate::desk::{Desk, Yard};
+use crate::desk::{Desk, Notes, Yard};
 use recorded::lists::{coordinates, lengths_at, piece_words};
 use recorded::record::{size_at, word_at};
 use recorded::reply::{Reply, refused};
@@ -49,7 +49,14 @@ pub(crate) fn values_at(offer: Offer, at: usize) -> usize {
 }
 
 // Its lists, which stand one behind the other, cut to what is the yard's.
-fn add_lists(record: &[u8], at: usize, offer: Offer, values: &[u8], desk: &mut Desk) -> Reply
+fn add_lists(
+    record: &[u8],
+    at: usize,
+    offer: Offer,
+    values: &[u8],
+    desk: &mut Desk,
+    notes: &mut Notes,
+) -> Reply
     requires { (offer.lats ≤ 1024) × (offer.lons ≤ 1024) × (offer.pieces ≤ 160) × (offer.values ≤ 1024) }
 {
     let x = at.wrapping_add(21);
@@ -60,17 +67,18 @@ fn add_lists(record: &[u8], at: usize, offer: Offer, values: &[u8], desk: &mut D
     let lons = coordinates(record, y, offer.lons);
     let pieces = piece_words(record, z, offer.pieces);
     let sizes = lengths_at(record, w, offer.values);
-    desk.add(Yard {
+    let yard = Yard {
         lats: &lats[..offer.lats],
         lons: &lons[..offer.lons],
         pieces: &pieces[..offer.pieces],
         sizes: &sizes[..offer.values],
         values,
-    })
+    };
+    desk.add(notes, yard)
 }
 
 // The yard of the step at a place.
-pub(crate) fn add_at(record: &[u8], at: usize, desk: &mut Desk) -> Reply {
+pub(crate) fn add_at(record: &[u8], at: usize, desk: &mut Desk, notes: &mut Notes) -> Reply {
     let offer = offered_at(record, at);
     if 1024 < offer.lats {
         return unread();
@@ -87,7 +95,7 @@ pub(crate) fn add_at(record: &[u8], at: usize, desk: &mut Desk) -> Reply {
     let from = values_at(offer, at);
     let to = from.wrapping_add(offer.bytes);
     match record.get(from..to) {
-        Some(values) => add_lists(record, at, offer, values, desk),
+        Some(values) => add_lists(record, at, offer, values, desk, notes),
         None => unread(),
     }
 }

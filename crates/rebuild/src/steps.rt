@@ -1,5 +1,5 @@
 // The steps of a record, one after the other.
-use crate::desk::Desk;
+use crate::desk::{Desk, Notes};
 use crate::offer::{add_at, offered_at, replace_at, unread, values_at};
 use recorded::record::{byte_at, size_at};
 use recorded::reply::{Reply, print_reply, recorded_at, same_reply};
@@ -28,9 +28,9 @@ fn reply_at(record: &[u8], at: usize) -> usize {
     }
 }
 
-fn run_step(record: &[u8], at: usize, desk: &mut Desk) -> Reply {
+fn run_step(record: &[u8], at: usize, desk: &mut Desk, notes: &mut Notes) -> Reply {
     match byte_at(record, at) {
-        ADD => add_at(record, at, desk),
+        ADD => add_at(record, at, desk, notes),
         DROP => desk.drop_last(),
         REPLACE => replace_at(record, at, desk),
         CLEAR => desk.clear(),
@@ -47,19 +47,18 @@ pub(crate) fn is_recorded(to: Stdout, got: Reply, record: &[u8], at: usize) -> b
     false
 }
 
-// Where the steps end; none where one came out otherwise.
-// Stays a length: `count` is of steps, not of bytes.
-pub(crate) fn run_steps(
-    to: Stdout,
-    record: &[u8],
-    from: usize,
-    count: usize,
-    desk: &mut Desk,
-) -> Option<usize> {
+// Where the steps end, with notes that hold anything; none where one came out otherwise.
+pub(crate) fn run_steps(to: Stdout, record: &[u8], from: usize, desk: &mut Desk) -> Option<usize> {
+    let mut notes = Notes {
+        marks: [0xAAAA_AAAA; 1025],
+        chains: [0xAAAA_AAAA; 5120],
+        groups: [0xAAAA_AAAA; 4136],
+        begins: [0xAAAA_AAAA; 40],
+    };
     let mut at = from;
-    for _ in 0..count {
+    for _ in 0..size_at(record, 24) {
         let reply = reply_at(record, at);
-        let got = run_step(record, at, desk);
+        let got = run_step(record, at, desk, &mut notes);
         if !is_recorded(to, got, record, reply) {
             return None;
         }

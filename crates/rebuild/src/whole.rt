@@ -38,7 +38,7 @@ fn run_from(to: Stdout, record: &[u8], got: Reply, at: usize, desk: &mut Desk) -
     if got.outcome != 0 {
         return is_recorded(to, got, record, first);
     }
-    match run_steps(to, record, first, size_at(record, 24), desk) {
+    match run_steps(to, record, first, desk) {
         Some(last) => end_cut(to, record, last, desk),
         None => false,
     }
@@ -61,7 +61,14 @@ pub fn draft_right(to: Stdout, record: &[u8]) -> bool {
         return false;
     }
     let sizes = lengths_at(record, 28, count);
-    let mut desk = Desk::filled();
+    let mut desk = Desk {
+        state: [0xAAAA_AAAA_AAAA_AAAA; 14],
+        boxes: [-1; 160],
+        borders: [0xAAAA_AAAA; 40],
+        lengths: [0xAAAA_AAAA; 1024],
+        texts: [0xAA; 32768],
+        bytes: [0xAA; 32768],
+    };
     let got = desk.begin(record, &sizes[..count], &record[from..reply]);
     run_from(to, record, got, reply, &mut desk)
 }
