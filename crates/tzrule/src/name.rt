@@ -13,7 +13,7 @@ pub struct Span {
     pub end: usize,
 }
 
-// Written as steps: by a chain of tests a name takes twice the instructions.
+// Written as steps: with `&&` in the place of the jumps, a digit of a name in brackets takes twice the instructions.
 fn is_letter(byte: u64) -> bool
     ensures { result ≡ is_letter byte }
 {

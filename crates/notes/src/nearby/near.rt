@@ -33,7 +33,7 @@ fn neighbours(boxes: &[i32], count: usize) -> Near
     ensures { Nears boxes.now count (word_of result.low) (word_of result.high) }
 {
     let south = south_at(boxes, count);
-    // Stays numbers, a yard and one more or 0 for none, until the end: with an Option each yard costs a jump that can't be foretold, and twice the time.
+    // Stays numbers, a yard and one more or 0 for none, until the end: with an Option a jump decides each update, which costs twice the time where latitudes come in no order.
     let mut low: usize = 0;
     let mut below = 0;
     let mut high: usize = 0;
